@@ -1,0 +1,8 @@
+use Rattle.pol_cursor.proofs.NameLaws.{name_spelled, name_again}
+use Rattle.pol_cursor.proofs.record_laws.names_have_laws.Goals as goal
+
+pub returns-clause-again : goal.returns-clause-again
+returns-clause-again c = λ row part. name_again row part
+
+pub returns-clause-spelled : goal.returns-clause-spelled
+returns-clause-spelled c = λ row part. name_spelled row part

@@ -1,0 +1,48 @@
+-- Names of files, file systems, interfaces and devices: a length, and so many bytes, none of which is 0 (libsepol's str_read).
+use Rattle.std.specs.Prelude.{ℕ, ◌+◌, ◌<◌, ◌^◌, List, ◌++◌, Option, Bool, length, take, drop, nat_le}
+use Rattle.std.specs.List.{list_all}
+use Rattle.pol_cursor.specs.declared.fault.Cause.{Cause}
+use Rattle.pol_cursor.specs.declared.fault.Cause.TheVariants.{BadName}
+use Rattle.pol_cursor.specs.Outcome.{Reader, field, ◌>>=◌, done}
+use Rattle.pol_cursor.specs.Parts.{num, number_if, string_if, unless}
+use Rattle.pol_cursor.specs.Spelling.{bytes_of}
+
+abbrev pub name_length_test : ℕ → Option Cause
+name_length_test len = unless (nat_le 1 len) BadName
+
+abbrev pub is_name_byte : ℕ → Bool
+is_name_byte byte = nat_le 1 byte
+
+abbrev pub name_test : List ℕ → Option Cause
+name_test name = unless (list_all is_name_byte name) BadName
+
+-- the length of a name, which is the part of that number
+unfoldable pub name_length_at : ℕ → ℕ → Reader ℕ
+name_length_at row part = number_if (field row part) 4 name_length_test
+
+-- its bytes
+unfoldable pub name_bytes_at : ℕ → ℕ → ℕ → Reader (List ℕ)
+name_bytes_at row part len = string_if (field row part) len name_test
+
+-- a name behind its length, which is the part of that number
+unfoldable pub name_at : ℕ → ℕ → Reader (List ℕ)
+name_at row part = do
+  len ← name_length_at row part
+  name ← name_bytes_at row (part + 1) len
+  done name
+
+abbrev pub spell_name : List ℕ → List ℕ
+spell_name name = bytes_of 4 (length name) ++ name
+
+-- the length of a name fits its field
+abbrev pub NameFits : List ℕ → Type 0
+NameFits name = length name < 2 ^ 32
+
+-- ---- the name that stands at a place
+
+abbrev pub name_in : List ℕ → ℕ → List ℕ
+name_in bytes place = take (num bytes place 4) (drop (place + 4) bytes)
+
+-- the place behind it
+abbrev pub name_end : List ℕ → ℕ → ℕ
+name_end bytes place = place + 4 + num bytes place 4

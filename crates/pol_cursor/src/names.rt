@@ -1,0 +1,37 @@
+ghost use Rattle.std.specs.Prelude.{◌≡◌, ℕ, List, [], ◌∷◌, option_map};
+ghost use Rattle.std.specs.declared.option.Option.{Option};
+ghost use Rattle.pol_cursor.specs.References.{dangling_of};
+
+use crate::{Cause, Fault, Field, TableKind};
+
+/// The names of the records that declare values.
+pub trait Names {
+    ghost use Rattle.pol_cursor.specs.declared.table_kind.TableKind.{TableKind};
+
+    /// The name of the primary record of that value in that table, where one declares it.
+    ghost named: { Self → TableKind → ℕ → Option (List ℕ) };
+
+    /// The name of the primary record of that value. It is `None` exactly where no primary record declares the value.
+    fn name(&self, table: TableKind, value: u32) -> Option<&[u8]>
+        ensures { option_map (λ name. name.now) result ≡ named self.now table value };
+}
+
+/// The fault of a reference, where no primary record of its table declares the value that it names.
+pub fn dangling<N: Names>(
+    names: &N,
+    place: u32,
+    field: Field,
+    table: TableKind,
+    value: u32,
+) -> Option<Fault>
+    ensures { result ≡ dangling_of (N.named names.now) (record { place = place; field = field; table = table; value = value } ∷ []) }
+{
+    match names.name(table, value) {
+        Some(_) => None,
+        None => Some(Fault {
+            place,
+            field,
+            cause: Cause::Dangling { table, value },
+        }),
+    }
+}

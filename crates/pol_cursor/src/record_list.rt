@@ -1,0 +1,139 @@
+// Lists of records in the buffer, generic in the record.
+ghost use Rattle.std.specs.Prelude.{◌≡◌, ◌<◌, [], ℕ, List, Some, OnOk, slice_get, length};
+ghost use Rattle.pol_cursor.specs.Outcome.{Outcome, Answers, Yields};
+ghost use Rattle.pol_cursor.specs.Parts.{counted, records_at};
+ghost use Rattle.pol_cursor.specs.References.{placed};
+
+use crate::{Cursor, Fault, Field, ReadError};
+use std::alloc::Global;
+use std::marker::{Model, PhantomData};
+
+/// A kind of record, which is read without regard to the records before it.
+pub trait Record {
+    /// The record, owned.
+    type Owned;
+
+    /// How it is read.
+    ghost reads: { List ℕ → ℕ → Outcome Self.Owned };
+
+    /// The record that stands at a place.
+    ghost standing: { List ℕ → ℕ → Self.Owned };
+
+    /// Its bytes stand there.
+    ghost has: { List ℕ → ℕ → Type 0 };
+
+    /// Passes over the record at the cursor, which then stands behind it. Takes no memory.
+    fn pass(c: &mut Cursor<'_>) -> Result<(), Fault>
+        ensures exact { Answers (λ _. standing c.old.bytes c.old.place) result reads c.old c.new }
+        ensures stands { OnOk result (has c.old.bytes c.old.place) };
+}
+
+/// A kind of record that has a view.
+pub trait RecordView<'a>: Record {
+    ghost use Rattle.pol_cursor.specs.References.{Placed};
+
+    /// The view of such a record in the buffer.
+    type View;
+
+    /// The record that a view shows, and its place.
+    ghost shown: { Self.View → Placed Self.Owned };
+
+    /// The record at a place that has one.
+    fn at(bytes: &'a [u8], place: u32) -> Self::View
+        requires { Self.has bytes.now place }
+        ensures { shown result ≡ record { place = place; value = Self.standing bytes.now place } };
+}
+
+/// Records in the buffer, by their places. Contracts see the list of them, each with its place.
+#[derive(Drop)]
+pub struct Records<'a, K: Record + Drop> {
+    bytes: &'a [u8],
+    places: Vec<u32>,
+    kind: PhantomData<K>,
+}
+
+impl<'a, K: Record + Drop> Model for Records<'a, K> {
+    ghost use Rattle.std.specs.Prelude.{List, map, length, ◌<◌, ◌^◌};
+    ghost use Rattle.std.specs.List.{AllByRecursion};
+    ghost use Rattle.pol_cursor.specs.References.{Placed};
+
+    ghost Value = { List (Placed K.Owned) };
+
+    ghost view = { λ l. map (λ place. record { place = place; value = K.standing l.bytes.now place }) l.places.items };
+
+    ghost invariant = { λ l. AllByRecursion (K.has l.bytes.now) l.places.items × (length l.places.items < 2 ^ 32) };
+}
+
+impl<'a, K: Record + Drop> Records<'a, K> {
+    /// No records.
+    pub fn empty(alloc: Global, bytes: &'a [u8]) -> Records<'a, K>
+        ensures { result ≡ [] }
+    {
+        Records {
+            bytes,
+            places: Vec::new(alloc),
+            kind: PhantomData,
+        }
+    }
+
+    /// How many records there are.
+    pub fn len(&self) -> u32
+        ensures { result ≡ length self.now }
+    {
+        self.places.len() as u32
+    }
+
+    /// The buffer, and the place in it of the record of that number, from 0 on.
+    pub fn place(&self, i: u32) -> (&'a [u8], u32)
+        requires { i < length self.now }
+        ensures stands { K.has result.0.now result.1 }
+        ensures same { slice_get self.now i ≡ Some (record { place = result.1; value = K.standing result.0.now result.1 }) }
+    {
+        (self.bytes, self.places[i as usize])
+    }
+}
+
+impl<'a, V: RecordView<'a> + Drop> Records<'a, V> {
+    /// The record of that number, from 0 on.
+    pub fn view(&self, i: u32) -> V::View
+        requires { i < length self.now }
+        ensures { slice_get self.now i ≡ Some (V.shown result) }
+    {
+        let (bytes, place) = self.place(i);
+        V::at(bytes, place)
+    }
+}
+
+/// Reads n records. Nothing is reserved by the number that the policy claims.
+pub fn read_records<'a, K: Record + Drop>(
+    alloc: Global,
+    c: &mut Cursor<'a>,
+    n: u32,
+) -> Result<Records<'a, K>, ReadError>
+    ensures { Yields (λ records. records) result (records_at (placed K.reads) n) c.old c.new }
+{
+    let bytes = c.bytes();
+    let mut places = Vec::new(alloc);
+    for _ in 0..n {
+        let place = c.place();
+        K::pass(c)?;
+        places.push(place)?;
+    }
+    Ok(Records {
+        bytes,
+        places,
+        kind: PhantomData,
+    })
+}
+
+/// Reads a count, which is a field of its own, and so many records.
+pub fn read_counted<'a, K: Record + Drop>(
+    alloc: Global,
+    c: &mut Cursor<'a>,
+    count: Field,
+) -> Result<Records<'a, K>, ReadError>
+    ensures { Yields (λ records. records) result (counted count (records_at (placed K.reads))) c.old c.new }
+{
+    let n = c.u32(count)?;
+    read_records(alloc, c, n)
+}
