@@ -1,0 +1,13 @@
+pub mod Laws
+pub mod NodePlaces
+pub mod NodeBits
+pub mod BitLists
+pub mod Shifts
+pub mod LowestBits
+pub mod Merging
+pub mod SetBits
+pub mod SetPlaces
+pub mod SetMaking
+pub mod Numbering
+pub mod SetLaws
+pub mod SetSpelling

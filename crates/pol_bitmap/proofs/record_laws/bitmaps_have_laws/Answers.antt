@@ -1,0 +1,8 @@
+use Rattle.pol_bitmap.proofs.Laws.{bitmap_again, bitmap_spelled}
+use Rattle.pol_bitmap.proofs.record_laws.bitmaps_have_laws.Goals as goal
+
+pub returns-clause-again : goal.returns-clause-again
+returns-clause-again c = bitmap_again
+
+pub returns-clause-spelled : goal.returns-clause-spelled
+returns-clause-spelled c = bitmap_spelled

@@ -1,0 +1,4 @@
+pub mod Bitmap
+pub mod Nodes
+pub mod Sets
+pub mod Kept

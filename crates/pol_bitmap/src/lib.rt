@@ -1,0 +1,29 @@
+//! Bitmaps of the policy format: as they stand in the buffer, and as sets of bits.
+#![tactic(auto)]
+
+mod bits;
+mod causes;
+mod node;
+mod pool;
+mod reading;
+mod record_laws;
+mod set;
+mod set_build;
+mod set_error;
+mod set_laws;
+mod set_list;
+mod set_ops;
+mod set_search;
+mod set_write;
+mod view;
+
+pub use bits::Bits;
+pub use node::Node;
+pub use pool::Pool;
+pub use record_laws::bitmaps_have_laws;
+pub use set::Set;
+pub use set_error::SetError;
+pub use set_laws::sets_are_their_bits;
+pub use set_list::SetList;
+pub use set_write::write_bitmap;
+pub use view::BitmapView;
