@@ -1,0 +1,12 @@
+pub mod PostfixReading
+pub mod ItemPlaces
+pub mod Dropped
+pub mod References
+pub mod ConditionLaws
+pub mod Stacks
+pub mod ConditionTrees
+pub mod ConstraintPlaces
+pub mod ConstraintLaws
+pub mod ItemReading
+pub mod BooleanSets
+pub mod ConstraintTexts

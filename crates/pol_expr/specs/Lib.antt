@@ -1,0 +1,7 @@
+pub mod Postfix
+pub mod ConditionRecord
+pub mod Trees
+pub mod Infix
+pub mod ConditionMeaning
+pub mod ConstraintRecord
+pub mod ConstraintMeaning

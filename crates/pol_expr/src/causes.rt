@@ -1,0 +1,60 @@
+//! The conditions on the fields of expressions: each gives the cause that refuses a value.
+
+ghost use Rattle.std.specs.Prelude.{◌≡◌, ◌≤◌, ◌<◌, ◌+◌, IfNone};
+ghost use Rattle.pol_expr.specs.Postfix.{operands_test, item_count_test, values_after};
+ghost use Rattle.pol_expr.specs.ConditionRecord.{kind_operands, kind_test};
+
+use pol_cursor::Cause;
+
+/// libsepol's COND_EXPR_MAXDEPTH.
+const CONDITION_LIMIT: u32 = 10;
+
+pub fn item_count_cause(count: u32) -> Option<Cause>
+    ensures { result ≡ item_count_test count }
+{
+    if count == 0 {
+        Some(Cause::NotOneValue)
+    } else {
+        None
+    }
+}
+
+pub fn kind_operands(kind: u32) -> u32
+    ensures exact { result ≡ kind_operands kind }
+    ensures few { result ≤ 2 }
+{
+    match kind {
+        1 => 0,
+        2 => 1,
+        _ => 2,
+    }
+}
+
+pub fn kind_cause(left: u32, values: u32, kind: u32) -> Option<Cause>
+    requires { values ≤ 10 }
+    ensures exact { result ≡ kind_test left values kind }
+    ensures fits { IfNone result ((kind_operands kind ≤ values) × (values_after values (kind_operands kind) ≤ 10)) }
+{
+    if kind >= 1 && kind <= 7 {
+        operands_cause(CONDITION_LIMIT, left, values, kind_operands(kind))
+    } else {
+        Some(Cause::BadKind)
+    }
+}
+
+/// Whether the item of an expression has its operands, by the values before it and the items left after it.
+pub fn operands_cause(limit: u32, left: u32, values: u32, operands: u32) -> Option<Cause>
+    requires { values ≤ limit }
+    ensures exact { result ≡ operands_test limit left values operands }
+    ensures fits { IfNone result ((operands ≤ values) × (values_after values operands ≤ limit)) }
+{
+    if values < operands {
+        Some(Cause::NotOneValue)
+    } else if operands == 0 && values >= limit {
+        Some(Cause::TooDeep)
+    } else if left == 0 && values != operands {
+        Some(Cause::NotOneValue)
+    } else {
+        None
+    }
+}

@@ -1,0 +1,46 @@
+//! The booleans of a condition.
+
+ghost use Rattle.std.specs.Prelude.{◌≡◌, ◌↔◌, ◌++◌, ℕ, IfOk, OnOk, Contains};
+ghost use Rattle.pol_bitmap.specs.Nodes.{bits_of};
+ghost use Rattle.pol_expr.specs.ConditionMeaning.{item_booleans, booleans_in};
+
+use crate::condition_rec::ConditionItem;
+use crate::condition_view::ConditionView;
+use pol_bitmap::Set;
+use std::alloc::{AllocError, Global};
+
+impl<'a> ConditionView<'a> {
+    /// The values of the booleans of the expression.
+    pub fn booleans_of(&self, alloc: Global) -> Result<Set, AllocError>
+        ensures { IfOk result (λ set. (boolean : ℕ) → Contains (bits_of set) boolean ↔ Contains (booleans_in self.now.value.items) boolean) }
+    {
+        let mut booleans = Vec::new(alloc);
+        for i in 0..self.len() {
+            push_boolean(&mut booleans, self.item(i))?;
+        }
+        set_of(alloc, booleans)
+    }
+}
+
+// Appends the boolean that an item is, where it is one.
+fn push_boolean(booleans: &mut Vec<u32>, item: ConditionItem) -> Result<(), AllocError>
+    ensures { OnOk result (booleans.new.items ≡ booleans.old.items ++ item_booleans item) }
+{
+    if item.kind == 1 {
+        booleans.push(item.boolean)?;
+    }
+    Ok(())
+}
+
+// The set of some numbers, in any order.
+fn set_of(alloc: Global, mut bits: Vec<u32>) -> Result<Set, AllocError>
+    ensures { IfOk result (λ set. (bit : ℕ) → Contains (bits_of set) bit ↔ Contains bits.items bit) }
+{
+    bits.sort_unstable();
+    bits.dedup();
+    match Set::from_bits(alloc, &bits) {
+        Ok(set) => Ok(set),
+        // The numbers rise now, so only memory can be wanting.
+        Err(_) => Err(AllocError),
+    }
+}

@@ -1,0 +1,47 @@
+ghost use Rattle.std.specs.Prelude.{◌≡◌, ◌≤◌, ◌+◌, ◌*◌, IfOk, OnOk, length};
+ghost use Rattle.pol_cursor.specs.Outcome.{Answers};
+ghost use Rattle.pol_expr.specs.ConditionRecord.{item_at, items_at, items_in, item_operands, values_after_item, IsExpression};
+
+use crate::causes::{kind_cause, kind_operands};
+use crate::condition_rec::ConditionItem;
+use pol_cursor::{Cursor, Fault, Field, refuse};
+
+// The code of a conditional node's record.
+pub const CONDITION: u8 = 19;
+
+/// Reads an item before which so many values stand, and after which so many items are left.
+#[tactic(auto, unfolding(crate::specs::ConditionRecord::item_at))]
+pub fn read_item(c: &mut Cursor<'_>, left: u32, values: u32) -> Result<ConditionItem, Fault>
+    requires { values ≤ 10 }
+    ensures exact { Answers (λ item. item) result (item_at left values) c.old c.new }
+    ensures fits { IfOk result (λ item. (item_operands item ≤ values) × (values_after_item values item ≤ 10)) }
+{
+    let place = c.place();
+    let field = Field {
+        row: CONDITION,
+        part: 3,
+    };
+    let kind = c.u32(field)?;
+    refuse(kind_cause(left, values, kind), place, field)?;
+    let field = Field {
+        row: CONDITION,
+        part: 4,
+    };
+    let boolean = c.u32(field)?;
+    Ok(ConditionItem { kind, boolean })
+}
+
+/// Reads the items and keeps none of them.
+pub fn pass_items(c: &mut Cursor<'_>, count: u32) -> Result<(), Fault>
+    ensures exact { Answers (λ _. items_in c.old.bytes c.old.place count) result (items_at count) c.old c.new }
+    ensures expression { OnOk result (1 ≤ count → IsExpression (items_in c.old.bytes c.old.place count)) }
+    ensures next { OnOk result (c.new.place ≡ c.old.place + 8 * count) }
+    ensures long { OnOk result (c.old.place ≤ length c.old.bytes → c.old.place + 8 * count ≤ length c.old.bytes) }
+{
+    let mut values = 0;
+    for i in 0..count {
+        let item = read_item(c, count - i - 1, values)?;
+        values = values + 1 - kind_operands(item.kind);
+    }
+    Ok(())
+}

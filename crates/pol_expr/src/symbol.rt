@@ -1,0 +1,85 @@
+ghost use Rattle.std.specs.Prelude.{◌≡◌, ◌≤◌};
+ghost use Rattle.pol_expr.specs.ConditionMeaning.{condition_symbol, operator_text, truth_of};
+ghost use Rattle.pol_expr.specs.ConstraintMeaning.{junction_text};
+
+use crate::condition_rec::ConditionItem;
+
+/// What an item of an expression is: a leaf, a negation, or an operator that stands between two operands.
+#[derive(Clone, Copy, Debug, PartialEq, Eq)]
+pub enum Symbol<V, O> {
+    Leaf(V),
+    Not,
+    Binary(O),
+}
+
+/// The operators of conditions that stand between two operands.
+#[derive(Clone, Copy, Debug, PartialEq, Eq)]
+pub enum Operator {
+    Or,
+    And,
+    Xor,
+    Equal,
+    NotEqual,
+}
+
+impl Operator {
+    /// The truth value of the two operands joined.
+    pub fn truth(self, left: bool, right: bool) -> bool
+        ensures { result ≡ truth_of self left right }
+    {
+        match self {
+            Operator::Or => left || right,
+            Operator::And => left && right,
+            Operator::Xor => left ^ right,
+            Operator::Equal => left == right,
+            Operator::NotEqual => left != right,
+        }
+    }
+
+    /// Its text between two operands, with a space on each side.
+    pub fn text(self) -> &'static [u8]
+        ensures { result.now ≡ operator_text self }
+    {
+        match self {
+            Operator::Or => b" || ",
+            Operator::And => b" && ",
+            Operator::Xor => b" ^ ",
+            Operator::Equal => b" == ",
+            Operator::NotEqual => b" != ",
+        }
+    }
+}
+
+/// The operators of constraints that stand between two operands.
+#[derive(Clone, Copy, Debug, PartialEq, Eq)]
+pub enum Junction {
+    And,
+    Or,
+}
+
+impl Junction {
+    /// Its text between two operands, with a space on each side.
+    pub fn text(self) -> &'static [u8]
+        ensures { result.now ≡ junction_text self }
+    {
+        match self {
+            Junction::And => b" and ",
+            Junction::Or => b" or ",
+        }
+    }
+}
+
+/// What an item of a condition is.
+pub fn condition_symbol(item: ConditionItem) -> Symbol<u32, Operator>
+    ensures { result ≡ condition_symbol item }
+{
+    match item.kind {
+        1 => Symbol::Leaf(item.boolean),
+        2 => Symbol::Not,
+        3 => Symbol::Binary(Operator::Or),
+        4 => Symbol::Binary(Operator::And),
+        5 => Symbol::Binary(Operator::Xor),
+        6 => Symbol::Binary(Operator::Equal),
+        _ => Symbol::Binary(Operator::NotEqual),
+    }
+}
