@@ -1,0 +1,2 @@
+pub mod MlsLaws
+pub mod RunTexts

@@ -1,0 +1,4 @@
+pub mod LevelRecord
+pub mod RangeRecord
+pub mod MlsTexts
+pub mod Runs

@@ -1,0 +1,10 @@
+use pol_bitmap::Set;
+
+/// A level, owned.
+#[derive(Drop)]
+pub struct LevelRec {
+    /// The value of a sensitivity.
+    pub sens: u32,
+    /// The categories: bit v - 1 stands for the value v.
+    pub categories: Set,
+}

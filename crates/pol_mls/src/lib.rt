@@ -1,0 +1,26 @@
+//! The levels and ranges of MLS: records of the policy format, and their texts.
+#![tactic(auto)]
+
+mod causes;
+mod level_rec;
+mod level_view;
+mod level_write;
+mod range_rec;
+mod range_view;
+mod range_write;
+mod record_laws;
+mod run;
+mod run_text;
+#[cfg(test)]
+mod tests;
+mod texts;
+
+pub use level_rec::LevelRec;
+pub use level_view::{LevelView, read_level};
+pub use level_write::write_level;
+pub use range_rec::RangeRec;
+pub use range_view::{RangeView, read_range};
+pub use range_write::write_range;
+pub use record_laws::{levels_have_laws, ranges_have_laws};
+pub use run_text::push_name;
+pub use texts::{level_text, range_text};

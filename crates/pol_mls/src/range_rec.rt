@@ -1,0 +1,15 @@
+use crate::level_rec::LevelRec;
+use pol_bitmap::Set;
+
+/// A range of levels, owned.
+#[derive(Drop)]
+pub struct RangeRec {
+    /// How many levels it has: 1 or 2. Two levels may be equal.
+    pub n: u32,
+    /// The value of the low level's sensitivity.
+    pub low: u32,
+    /// The low level's categories.
+    pub low_categories: Set,
+    /// The high level, where n is 2.
+    pub high: Option<LevelRec>,
+}
