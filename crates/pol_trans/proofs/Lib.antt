@@ -1,0 +1,3 @@
+pub mod Dangling
+pub mod TransLaws
+pub mod NameData

@@ -1,0 +1,7 @@
+pub mod Mentions
+pub mod RoleAllowRecord
+pub mod RoleTransRecord
+pub mod NameTransRecord
+pub mod RangeTransRecord
+pub mod NameGroupRecord
+pub mod NameTransitions

@@ -1,0 +1,41 @@
+-- Record 21: a role allow, by which a process may change from one role to another (libsepol's role_allow_read).
+use Rattle.std.specs.Prelude.{ℕ, ◌+◌, ◌^◌, ◌<◌, ◌≤◌, List, [], ◌∷◌, ◌++◌, length}
+use Rattle.pol_cursor.specs.declared.table_kind.TableKind.TheVariants.{Roles}
+use Rattle.pol_cursor.specs.Outcome.{Reader, field, ◌>>=◌, done}
+use Rattle.pol_cursor.specs.Parts.{num, number}
+use Rattle.pol_cursor.specs.References.{Placed, Reference}
+use Rattle.pol_cursor.specs.Spelling.{bytes_of}
+use Rattle.pol_trans.specs.declared.role_allow_rec.RoleAllowRec.{RoleAllowRec}
+
+-- ---- reading and spelling
+
+unfoldable pub role_allow_at : Reader RoleAllowRec
+role_allow_at = do
+  role ← number (field 21 2) 4
+  newrole ← number (field 21 3) 4
+  done (record { role = role; newrole = newrole })
+
+abbrev pub spell_role_allow : RoleAllowRec → List ℕ
+spell_role_allow allow = bytes_of 4 allow.role ++ bytes_of 4 allow.newrole
+
+-- the numbers of a role allow fit their fields
+pub record RoleAllowFits (allow : RoleAllowRec) : Type 0 where
+  pub role : allow.role < 2 ^ 32
+  pub newrole : allow.newrole < 2 ^ 32
+
+-- ---- the role allow that stands at a place
+
+abbrev pub role_allow_in : List ℕ → ℕ → RoleAllowRec
+role_allow_in bytes place = record { role = num bytes place 4; newrole = num bytes (place + 4) 4 }
+
+-- a role allow stands there, in a buffer of a policy's size
+abbrev pub HasRoleAllow : List ℕ → ℕ → Type 0
+HasRoleAllow bytes place = (place + 8 ≤ length bytes) × (length bytes ≤ 67108864)
+
+-- ---- what it names
+
+abbrev pub role_allow_references : Placed RoleAllowRec → List Reference
+role_allow_references allow =
+    record { place = allow.place; field = field 21 2; table = Roles; value = allow.value.role } ∷
+    record { place = allow.place + 4; field = field 21 3; table = Roles; value = allow.value.newrole } ∷
+    []

@@ -1,0 +1,119 @@
+ghost use Rattle.std.specs.Prelude.{◌≡◌, IfOk};
+ghost use Rattle.pol_cursor.specs.Outcome.{Answers};
+ghost use Rattle.pol_cursor.specs.References.{dangling_of};
+ghost use Rattle.pol_trans.specs.RoleAllowRecord.{role_allow_at, role_allow_in, HasRoleAllow, role_allow_references};
+
+use crate::mentions::{Mention, first_dangling};
+use crate::role_allow_rec::RoleAllowRec;
+use crate::rows::ROLE_ALLOW;
+use pol_cursor::{Cursor, Fault, Field, Names, Record, TableKind, u32_in};
+use std::alloc::{AllocError, Global};
+use std::marker::Model;
+
+/// A role allow in the buffer.
+#[derive(Drop)]
+pub struct RoleAllowView<'a> {
+    bytes: &'a [u8],
+    place: u32,
+}
+
+impl<'a> Model for RoleAllowView<'a> {
+    ghost use Rattle.pol_cursor.specs.References.{Placed};
+    ghost use Rattle.pol_trans.specs.declared.role_allow_rec.RoleAllowRec.{RoleAllowRec};
+    ghost use Rattle.pol_trans.specs.RoleAllowRecord.{role_allow_in, HasRoleAllow};
+
+    ghost Value = { Placed RoleAllowRec };
+
+    ghost view = { λ v. record { place = v.place; value = role_allow_in v.bytes.now v.place } };
+
+    ghost invariant = { λ v. HasRoleAllow v.bytes.now v.place };
+}
+
+impl<'a> RoleAllowView<'a> {
+    /// The role allow at a place that has one.
+    pub fn at(bytes: &'a [u8], place: u32) -> RoleAllowView<'a>
+        requires { HasRoleAllow bytes.now place }
+        ensures { result ≡ record { place = place; value = role_allow_in bytes.now place } }
+    {
+        RoleAllowView { bytes, place }
+    }
+
+    /// The value of the role that may change.
+    pub fn role(&self) -> u32
+        ensures { result ≡ self.now.value.role }
+    {
+        u32_in(self.bytes, self.place as usize)
+    }
+
+    /// The value of the role that it may change to.
+    pub fn newrole(&self) -> u32
+        ensures { result ≡ self.now.value.newrole }
+    {
+        u32_in(self.bytes, self.place as usize + 4)
+    }
+
+    /// The first reference, in file order, whose value no primary record declares, as a fault at its field.
+    pub fn dangling<N: Names>(&self, names: &N) -> Option<Fault>
+        ensures { result ≡ dangling_of (N.named names.now) (role_allow_references self.now) }
+    {
+        first_dangling(
+            names,
+            &[
+                Mention::new(ROLE_ALLOW, 2, self.place, TableKind::Roles, self.role()),
+                Mention::new(
+                    ROLE_ALLOW,
+                    3,
+                    self.place + 4,
+                    TableKind::Roles,
+                    self.newrole(),
+                ),
+            ],
+        )
+    }
+
+    /// The same role allow, owned.
+    pub fn rec(&self, _alloc: Global) -> Result<RoleAllowRec, AllocError>
+        ensures { IfOk result (λ allow. allow ≡ self.now.value) }
+    {
+        Ok(RoleAllowRec {
+            role: self.role(),
+            newrole: self.newrole(),
+        })
+    }
+}
+
+/// The role allow at the cursor, which then stands behind it. Takes no memory.
+#[tactic(auto, unfolding(crate::specs::RoleAllowRecord::role_allow_at), using(pol_cursor::proofs::Facts::number_is))]
+pub fn read_role_allow_entry<'a>(c: &mut Cursor<'a>) -> Result<RoleAllowView<'a>, Fault>
+    ensures exact { Answers (λ allow. allow.value) result role_allow_at c.old c.new }
+    ensures stands { IfOk result (λ allow. HasRoleAllow c.old.bytes c.old.place × (allow ≡ record { place = c.old.place; value = role_allow_in c.old.bytes c.old.place })) }
+{
+    let bytes = c.bytes();
+    let place = c.place();
+    c.u32(Field {
+        row: ROLE_ALLOW,
+        part: 2,
+    })?;
+    c.u32(Field {
+        row: ROLE_ALLOW,
+        part: 3,
+    })?;
+    Ok(RoleAllowView { bytes, place })
+}
+
+impl Record for RoleAllowRec {
+    ghost use Rattle.pol_trans.specs.RoleAllowRecord.{role_allow_at, role_allow_in, HasRoleAllow};
+
+    type Owned = RoleAllowRec;
+
+    ghost reads = { role_allow_at };
+
+    ghost standing = { role_allow_in };
+
+    ghost has = { HasRoleAllow };
+
+    fn pass(c: &mut Cursor<'_>) -> Result<(), Fault> {
+        read_role_allow_entry(c)?;
+        Ok(())
+    }
+}
