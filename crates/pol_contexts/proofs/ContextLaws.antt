@@ -1,0 +1,217 @@
+-- The two laws of contexts and of the records that hold them.
+use Rattle.std.proofs.Common.{ℕ, List, length, append_assoc}
+use Rattle.std.proofs.lemmas.List.{append-nil}
+use Rattle.pol_cursor.specs.Outcome.{Reader, field}
+use Rattle.pol_cursor.specs.Parts.{spell_counted, CountedFits, records_at}
+use Rattle.pol_cursor.specs.Laws.{IsReadAgain, IsReadFromSpelling}
+use Rattle.pol_cursor.specs.FileNames.{name_length_at, name_bytes_at}
+use Rattle.pol_cursor.proofs.Laws.{Reads-done, Reads-part, Reads-number, Reads-number_if, Reads-string, Reads-string_if, Again-done, Again-part, Again-as, Again-number, Again-number_if, Again-string-of, Again-string_if, records_spelled, records_again, counted_spelled, counted_again}
+use Rattle.pol_cursor.proofs.NameLaws.{name_spelled, name_again}
+use Rattle.pol_mls.proofs.MlsLaws.{range_spelled, range_again}
+use Rattle.pol_contexts.specs.EntryLists.{entries_at}
+use Rattle.pol_contexts.specs.ContextRecord.{context_at, spell_context, ContextFits}
+use Rattle.pol_contexts.specs.SidRecord.{sid_at, spell_sid, SidFits}
+use Rattle.pol_contexts.specs.NamedRecord.{named_at, spell_named, NamedFits}
+use Rattle.pol_contexts.specs.PortRecord.{port_at, spell_port, PortFits}
+use Rattle.pol_contexts.specs.AddressRecord.{address_at, spell_address, AddressFits}
+use Rattle.pol_contexts.specs.FsUseRecord.{behaviour_at, fsuse_at, spell_fsuse, FsUseFits}
+use Rattle.pol_contexts.specs.IbPkeyRecord.{ibpkey_at, spell_ibpkey, IbPkeyFits}
+use Rattle.pol_contexts.specs.IbEndPortRecord.{ibendport_at, spell_ibendport, IbEndPortFits}
+
+-- ---- contexts
+
+pub context_spelled : IsReadFromSpelling context_at spell_context ContextFits
+unfolding context_at
+context_spelled =
+    Reads-part (Reads-number (field 24 1) 4) λ user user-fits.
+    Reads-part (Reads-number (field 24 2) 4) λ role role-fits.
+    Reads-part (Reads-number (field 24 3) 4) λ type_value type_value-fits.
+    Reads-part range_spelled λ range range-fits.
+    Reads-done _ (record { user = user; role = role; type_value = type_value; range = range }) (record {
+      same = simp (append_assoc, append-nil);
+      fitting = record { user = user-fits; role = role-fits; type_value = type_value-fits; range = range-fits };
+    })
+
+pub context_again : IsReadAgain context_at spell_context ContextFits
+unfolding context_at
+context_again context fits =
+    Again-as
+    (Again-part _ (Again-number (field 24 1) 4 context.user fits.user)
+    (Again-part _ (Again-number (field 24 2) 4 context.role fits.role)
+    (Again-part _ (Again-number (field 24 3) 4 context.type_value fits.type_value)
+    (Again-part _ (range_again context.range fits.range)
+    (Again-done context)))))
+    (simp (append_assoc, append-nil))
+
+-- ---- sid
+
+pub sid_spelled : IsReadFromSpelling (sid_at) spell_sid SidFits
+unfolding sid_at
+sid_spelled =
+    Reads-part (Reads-number (field 25 2) 4) λ sid sid-fits.
+    Reads-part (context_spelled) λ context context-fits.
+    Reads-done _ (record { sid = sid; context = context }) (record {
+      same = simp (append_assoc, append-nil);
+      fitting = record { sid = sid-fits; context = context-fits };
+    })
+
+pub sid_again : IsReadAgain (sid_at) spell_sid SidFits
+unfolding sid_at
+sid_again entry fits =
+    Again-as
+    (Again-part _ (Again-number (field 25 2) 4 entry.sid fits.sid)
+    (Again-part _ (context_again entry.context fits.context)
+    (Again-done entry)))
+    (simp (append_assoc, append-nil))
+
+-- ---- named
+
+pub named_spelled : (row : ℕ) → IsReadFromSpelling (named_at row) spell_named NamedFits
+unfolding named_at
+named_spelled row =
+    Reads-part (name_spelled row 2) λ name name-fits.
+    Reads-part (context_spelled) λ context context-fits.
+    Reads-part (context_spelled) λ second_context second_context-fits.
+    Reads-done _ (record { name = name; context = context; second_context = second_context }) (record {
+      same = simp (append_assoc, append-nil);
+      fitting = record { name = name-fits; context = context-fits; second_context = second_context-fits };
+    })
+
+pub named_again : (row : ℕ) → IsReadAgain (named_at row) spell_named NamedFits
+unfolding named_at
+named_again row entry fits =
+    Again-as
+    (Again-part _ (name_again row 2 entry.name fits.name)
+    (Again-part _ (context_again entry.context fits.context)
+    (Again-part _ (context_again entry.second_context fits.second_context)
+    (Again-done entry))))
+    (simp (append_assoc, append-nil))
+
+-- ---- port
+
+pub port_spelled : IsReadFromSpelling (port_at) spell_port PortFits
+unfolding port_at
+port_spelled =
+    Reads-part (Reads-number (field 27 2) 4) λ protocol protocol-fits.
+    Reads-part (Reads-number (field 27 3) 4) λ low low-fits.
+    Reads-part (Reads-number (field 27 4) 4) λ high high-fits.
+    Reads-part (context_spelled) λ context context-fits.
+    Reads-done _ (record { protocol = protocol; low = low; high = high; context = context }) (record {
+      same = simp (append_assoc, append-nil);
+      fitting = record { protocol = protocol-fits; low = low-fits; high = high-fits; context = context-fits };
+    })
+
+pub port_again : IsReadAgain (port_at) spell_port PortFits
+unfolding port_at
+port_again entry fits =
+    Again-as
+    (Again-part _ (Again-number (field 27 2) 4 entry.protocol fits.protocol)
+    (Again-part _ (Again-number (field 27 3) 4 entry.low fits.low)
+    (Again-part _ (Again-number (field 27 4) 4 entry.high fits.high)
+    (Again-part _ (context_again entry.context fits.context)
+    (Again-done entry)))))
+    (simp (append_assoc, append-nil))
+
+-- ---- address
+
+pub address_spelled : (row width : ℕ) → IsReadFromSpelling (address_at row width) spell_address (AddressFits width)
+unfolding address_at
+address_spelled row width =
+    Reads-part (Reads-string (field row 2) width) λ address address-fits.
+    Reads-part (Reads-string (field row 3) width) λ mask mask-fits.
+    Reads-part (context_spelled) λ context context-fits.
+    Reads-done _ (record { address = address; mask = mask; context = context }) (record {
+      same = simp (append_assoc, append-nil);
+      fitting = record { address = address-fits; mask = mask-fits; context = context-fits };
+    })
+
+pub address_again : (row width : ℕ) → IsReadAgain (address_at row width) spell_address (AddressFits width)
+unfolding address_at
+address_again row width entry fits =
+    Again-as
+    (Again-part _ (Again-string-of (field row 2) width entry.address fits.address)
+    (Again-part _ (Again-string-of (field row 3) width entry.mask fits.mask)
+    (Again-part _ (context_again entry.context fits.context)
+    (Again-done entry))))
+    (simp (append_assoc, append-nil))
+
+-- ---- fsuse
+
+pub fsuse_spelled : IsReadFromSpelling (fsuse_at) spell_fsuse FsUseFits
+unfolding fsuse_at behaviour_at
+fsuse_spelled =
+    Reads-part (Reads-number_if (field 30 2) 4) λ behaviour behaviour-fits.
+    Reads-part (name_spelled 30 3) λ name name-fits.
+    Reads-part (context_spelled) λ context context-fits.
+    Reads-done _ (record { behaviour = behaviour; name = name; context = context }) (record {
+      same = simp (append_assoc, append-nil);
+      fitting = record { behaviour = behaviour-fits.0; name = name-fits; context = context-fits };
+    })
+
+pub fsuse_again : IsReadAgain (fsuse_at) spell_fsuse FsUseFits
+unfolding fsuse_at behaviour_at
+fsuse_again entry fits =
+    Again-as
+    (Again-part _ (Again-number_if (field 30 2) 4 entry.behaviour _ fits.behaviour)
+    (Again-part _ (name_again 30 3 entry.name fits.name)
+    (Again-part _ (context_again entry.context fits.context)
+    (Again-done entry))))
+    (simp (append_assoc, append-nil))
+
+-- ---- ibpkey
+
+pub ibpkey_spelled : IsReadFromSpelling (ibpkey_at) spell_ibpkey IbPkeyFits
+unfolding ibpkey_at
+ibpkey_spelled =
+    Reads-part (Reads-string (field 32 2) 8) λ prefix prefix-fits.
+    Reads-part (Reads-number (field 32 3) 4) λ low low-fits.
+    Reads-part (Reads-number (field 32 4) 4) λ high high-fits.
+    Reads-part (context_spelled) λ context context-fits.
+    Reads-done _ (record { prefix = prefix; low = low; high = high; context = context }) (record {
+      same = simp (append_assoc, append-nil);
+      fitting = record { prefix = prefix-fits; low = low-fits; high = high-fits; context = context-fits };
+    })
+
+pub ibpkey_again : IsReadAgain (ibpkey_at) spell_ibpkey IbPkeyFits
+unfolding ibpkey_at
+ibpkey_again entry fits =
+    Again-as
+    (Again-part _ (Again-string-of (field 32 2) 8 entry.prefix fits.prefix)
+    (Again-part _ (Again-number (field 32 3) 4 entry.low fits.low)
+    (Again-part _ (Again-number (field 32 4) 4 entry.high fits.high)
+    (Again-part _ (context_again entry.context fits.context)
+    (Again-done entry)))))
+    (simp (append_assoc, append-nil))
+
+-- ---- ibendport
+
+pub ibendport_spelled : IsReadFromSpelling (ibendport_at) spell_ibendport IbEndPortFits
+unfolding ibendport_at name_length_at name_bytes_at
+ibendport_spelled =
+    Reads-part (Reads-number_if (field 33 2) 4) λ len len-fits.
+    Reads-part (Reads-number (field 33 3) 4) λ port port-fits.
+    Reads-part (Reads-string_if (field 33 4) len) λ name name-fits.
+    Reads-part (context_spelled) λ context context-fits.
+    Reads-done _ (record { port = port; name = name; context = context }) (record {
+      same = rw (name-fits.0) (simp (append_assoc, append-nil));
+      fitting = record { port = port-fits; name = rw (name-fits.0) (len-fits.0); context = context-fits };
+    })
+
+pub ibendport_again : IsReadAgain (ibendport_at) spell_ibendport IbEndPortFits
+unfolding ibendport_at name_length_at name_bytes_at
+ibendport_again entry fits =
+    Again-as
+    (Again-part _ (Again-number_if (field 33 2) 4 (length entry.name) _ fits.name)
+    (Again-part _ (Again-number (field 33 3) 4 entry.port fits.port)
+    (Again-part _ (Again-string_if (field 33 4) entry.name _)
+    (Again-part _ (context_again entry.context fits.context)
+    (Again-done entry)))))
+    (simp (append_assoc, append-nil))
+
+-- ---- lists of entries behind their count
+
+pub entries_spelled : {A : Type 0} (row : ℕ) (entry_at : Reader A) (spell : A → List ℕ) (fits : A → Type 0) → IsReadFromSpelling entry_at spell fits → IsReadFromSpelling (entries_at row entry_at) (spell_counted spell) (CountedFits fits)
+entries_spelled row entry_at spell fits each = counted_spelled (field row 1) (records_at entry_at) spell fits (records_spelled entry_at spell fits each)
+
+pub entries_again : {A : Type 0} (row : ℕ) (entry_at : Reader A) (spell : A → List ℕ) (fits : A → Type 0) → IsReadAgain entry_at spell fits → IsReadAgain (entries_at row entry_at) (spell_counted spell) (CountedFits fits)
+entries_again row entry_at spell fits each = counted_again (field row 1) (records_at entry_at) spell fits (records_again entry_at spell fits each)

@@ -1,0 +1,5 @@
+pub mod ContextLaws
+pub mod Places
+pub mod SidNames
+pub mod Groups
+pub mod GenfsLaws

@@ -1,0 +1,15 @@
+use Rattle.pol_contexts.specs.FsUseRecord.{fsuse_at, spell_fsuse, FsUseFits}
+use Rattle.pol_contexts.proofs.ContextLaws.{fsuse_spelled, fsuse_again, entries_spelled, entries_again}
+use Rattle.pol_contexts.proofs.record_laws.behaviours_have_laws.Goals as goal
+
+pub returns-clause-again : goal.returns-clause-again
+returns-clause-again c = fsuse_again
+
+pub returns-clause-spelled : goal.returns-clause-spelled
+returns-clause-spelled c = fsuse_spelled
+
+pub returns-clause-list_again : goal.returns-clause-list_again
+returns-clause-list_again c = entries_again 30 fsuse_at spell_fsuse FsUseFits fsuse_again
+
+pub returns-clause-list_spelled : goal.returns-clause-list_spelled
+returns-clause-list_spelled c = entries_spelled 30 fsuse_at spell_fsuse FsUseFits fsuse_spelled

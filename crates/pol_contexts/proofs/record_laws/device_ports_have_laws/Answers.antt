@@ -1,0 +1,15 @@
+use Rattle.pol_contexts.specs.IbEndPortRecord.{ibendport_at, spell_ibendport, IbEndPortFits}
+use Rattle.pol_contexts.proofs.ContextLaws.{ibendport_spelled, ibendport_again, entries_spelled, entries_again}
+use Rattle.pol_contexts.proofs.record_laws.device_ports_have_laws.Goals as goal
+
+pub returns-clause-again : goal.returns-clause-again
+returns-clause-again c = ibendport_again
+
+pub returns-clause-spelled : goal.returns-clause-spelled
+returns-clause-spelled c = ibendport_spelled
+
+pub returns-clause-list_again : goal.returns-clause-list_again
+returns-clause-list_again c = entries_again 33 ibendport_at spell_ibendport IbEndPortFits ibendport_again
+
+pub returns-clause-list_spelled : goal.returns-clause-list_spelled
+returns-clause-list_spelled c = entries_spelled 33 ibendport_at spell_ibendport IbEndPortFits ibendport_spelled

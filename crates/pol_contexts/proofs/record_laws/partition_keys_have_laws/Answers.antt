@@ -1,0 +1,15 @@
+use Rattle.pol_contexts.specs.IbPkeyRecord.{ibpkey_at, spell_ibpkey, IbPkeyFits}
+use Rattle.pol_contexts.proofs.ContextLaws.{ibpkey_spelled, ibpkey_again, entries_spelled, entries_again}
+use Rattle.pol_contexts.proofs.record_laws.partition_keys_have_laws.Goals as goal
+
+pub returns-clause-again : goal.returns-clause-again
+returns-clause-again c = ibpkey_again
+
+pub returns-clause-spelled : goal.returns-clause-spelled
+returns-clause-spelled c = ibpkey_spelled
+
+pub returns-clause-list_again : goal.returns-clause-list_again
+returns-clause-list_again c = entries_again 32 ibpkey_at spell_ibpkey IbPkeyFits ibpkey_again
+
+pub returns-clause-list_spelled : goal.returns-clause-list_spelled
+returns-clause-list_spelled c = entries_spelled 32 ibpkey_at spell_ibpkey IbPkeyFits ibpkey_spelled

@@ -1,0 +1,15 @@
+use Rattle.pol_contexts.specs.PortRecord.{port_at, spell_port, PortFits}
+use Rattle.pol_contexts.proofs.ContextLaws.{port_spelled, port_again, entries_spelled, entries_again}
+use Rattle.pol_contexts.proofs.record_laws.ports_have_laws.Goals as goal
+
+pub returns-clause-again : goal.returns-clause-again
+returns-clause-again c = port_again
+
+pub returns-clause-spelled : goal.returns-clause-spelled
+returns-clause-spelled c = port_spelled
+
+pub returns-clause-list_again : goal.returns-clause-list_again
+returns-clause-list_again c = entries_again 27 port_at spell_port PortFits port_again
+
+pub returns-clause-list_spelled : goal.returns-clause-list_spelled
+returns-clause-list_spelled c = entries_spelled 27 port_at spell_port PortFits port_spelled

@@ -1,0 +1,15 @@
+use Rattle.pol_contexts.specs.SidRecord.{sid_at, spell_sid, SidFits}
+use Rattle.pol_contexts.proofs.ContextLaws.{sid_spelled, sid_again, entries_spelled, entries_again}
+use Rattle.pol_contexts.proofs.record_laws.sids_have_laws.Goals as goal
+
+pub returns-clause-again : goal.returns-clause-again
+returns-clause-again c = sid_again
+
+pub returns-clause-spelled : goal.returns-clause-spelled
+returns-clause-spelled c = sid_spelled
+
+pub returns-clause-list_again : goal.returns-clause-list_again
+returns-clause-list_again c = entries_again 25 sid_at spell_sid SidFits sid_again
+
+pub returns-clause-list_spelled : goal.returns-clause-list_spelled
+returns-clause-list_spelled c = entries_spelled 25 sid_at spell_sid SidFits sid_spelled

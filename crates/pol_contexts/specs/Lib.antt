@@ -1,0 +1,12 @@
+pub mod ContextRecord
+pub mod SidRecord
+pub mod NamedRecord
+pub mod PortRecord
+pub mod AddressRecord
+pub mod FsUseRecord
+pub mod IbPkeyRecord
+pub mod IbEndPortRecord
+pub mod ContextTables
+pub mod EntryLists
+pub mod ContextTexts
+pub mod GenfsRecord

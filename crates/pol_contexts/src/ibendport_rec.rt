@@ -1,0 +1,13 @@
+use crate::context_rec::ContextRec;
+use pol_cursor::ByteList;
+
+/// The context of an InfiniBand device at a port, owned.
+#[derive(Drop)]
+pub struct IbEndPortRec {
+    /// The number of the port.
+    pub port: u32,
+    /// The name of the device.
+    pub name: ByteList,
+    /// Its context.
+    pub context: ContextRec,
+}

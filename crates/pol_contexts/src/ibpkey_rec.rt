@@ -1,0 +1,14 @@
+use crate::context_rec::ContextRec;
+
+/// The context of a range of InfiniBand partition keys, owned.
+#[derive(Drop)]
+pub struct IbPkeyRec {
+    /// The prefix of the subnet, in the order of its text.
+    pub prefix: [u8; 8],
+    /// The lowest key.
+    pub low: u32,
+    /// The highest key.
+    pub high: u32,
+    /// Their context.
+    pub context: ContextRec,
+}

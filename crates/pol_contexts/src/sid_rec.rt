@@ -1,0 +1,10 @@
+use crate::context_rec::ContextRec;
+
+/// The context of an initial SID, owned.
+#[derive(Drop)]
+pub struct SidRec {
+    /// The number of the initial SID.
+    pub sid: u32,
+    /// Its context.
+    pub context: ContextRec,
+}

@@ -1,0 +1,122 @@
+//! The tables that hold contexts.
+
+ghost use Rattle.pol_cursor.specs.Outcome.{Yields};
+ghost use Rattle.pol_contexts.specs.ContextTables.{table_if, table_at, contexts_at};
+
+use crate::fsuse_rec::FsUseRec;
+use crate::fsuse_view::FsUse;
+use crate::ibendport_rec::IbEndPortRec;
+use crate::ibendport_view::IbEndPort;
+use crate::ibpkey_rec::IbPkeyRec;
+use crate::ibpkey_view::IbPkey;
+use crate::kinds::{Fs, FsRec, Netif, NetifRec, Node, Node6, Node6Rec, NodeRec};
+use crate::port_rec::PortRec;
+use crate::port_view::Port;
+use crate::sid_rec::SidRec;
+use crate::sid_view::Sid;
+use pol_cursor::{Cursor, Field, OwnedList, ReadError, Record, Records, read_counted};
+use std::alloc::Global;
+
+pub type SidList<'a> = Records<'a, Sid>;
+
+pub type FsList<'a> = Records<'a, Fs>;
+
+pub type PortList<'a> = Records<'a, Port>;
+
+pub type NetifList<'a> = Records<'a, Netif>;
+
+pub type NodeList<'a> = Records<'a, Node>;
+
+pub type FsUseList<'a> = Records<'a, FsUse>;
+
+pub type Node6List<'a> = Records<'a, Node6>;
+
+pub type IbPkeyList<'a> = Records<'a, IbPkey>;
+
+pub type IbEndPortList<'a> = Records<'a, IbEndPort>;
+
+pub type SidRecList = OwnedList<SidRec>;
+
+pub type FsRecList = OwnedList<FsRec>;
+
+pub type PortRecList = OwnedList<PortRec>;
+
+pub type NetifRecList = OwnedList<NetifRec>;
+
+pub type NodeRecList = OwnedList<NodeRec>;
+
+pub type FsUseRecList = OwnedList<FsUseRec>;
+
+pub type Node6RecList = OwnedList<Node6Rec>;
+
+pub type IbPkeyRecList = OwnedList<IbPkeyRec>;
+
+pub type IbEndPortRecList = OwnedList<IbEndPortRec>;
+
+/// The tables of a policy that hold contexts, each in file order.
+#[derive(Drop)]
+pub struct Contexts<'a> {
+    pub sid: Records<'a, Sid>,
+    pub fs: Records<'a, Fs>,
+    pub port: Records<'a, Port>,
+    pub netif: Records<'a, Netif>,
+    pub node: Records<'a, Node>,
+    pub fsuse: Records<'a, FsUse>,
+    pub node6: Records<'a, Node6>,
+    /// It is empty below version 31.
+    pub ibpkey: Records<'a, IbPkey>,
+    /// It is empty below version 31.
+    pub ibendport: Records<'a, IbEndPort>,
+}
+
+/// Reads the tables in the order of the file. Nothing is reserved by the numbers that the policy claims.
+#[tactic(auto, unfolding(crate::specs::ContextTables::contexts_at))]
+pub fn read_contexts<'a>(
+    alloc: Global,
+    c: &mut Cursor<'a>,
+    version: u32,
+) -> Result<Contexts<'a>, ReadError>
+    ensures { Yields (λ contexts. contexts) result (contexts_at version) c.old c.new }
+{
+    let infiniband = version >= 31;
+    Ok(Contexts {
+        sid: read_table(alloc, c, 25)?,
+        fs: read_table(alloc, c, 26)?,
+        port: read_table(alloc, c, 27)?,
+        netif: read_table(alloc, c, 28)?,
+        node: read_table(alloc, c, 29)?,
+        fsuse: read_table(alloc, c, 30)?,
+        node6: read_table(alloc, c, 31)?,
+        ibpkey: read_table_if(alloc, c, infiniband, 32)?,
+        ibendport: read_table_if(alloc, c, infiniband, 33)?,
+    })
+}
+
+// Reads the table of that code.
+#[tactic(auto, unfolding(crate::specs::ContextTables::table_at))]
+fn read_table<'a, K: Record + Drop>(
+    alloc: Global,
+    c: &mut Cursor<'a>,
+    row: u8,
+) -> Result<Records<'a, K>, ReadError>
+    ensures { Yields (λ entries. entries) result (table_at row K.reads) c.old c.new }
+{
+    read_counted(alloc, c, Field { row, part: 1 })
+}
+
+// Reads the table of that code, where there is one.
+#[tactic(auto, unfolding(crate::specs::ContextTables::table_if))]
+fn read_table_if<'a, K: Record + Drop>(
+    alloc: Global,
+    c: &mut Cursor<'a>,
+    there: bool,
+    row: u8,
+) -> Result<Records<'a, K>, ReadError>
+    ensures { Yields (λ entries. entries) result (table_if there (table_at row K.reads)) c.old c.new }
+{
+    if there {
+        read_table(alloc, c, row)
+    } else {
+        Ok(Records::empty(alloc, c.bytes()))
+    }
+}
