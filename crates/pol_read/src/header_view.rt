@@ -1,0 +1,140 @@
+ghost use Rattle.std.specs.Prelude.{◌≡◌, ◌≤◌, ◌+◌, IfOk, OnOk, length};
+ghost use Rattle.pol_cursor.specs.Outcome.{Answers};
+ghost use Rattle.pol_read.specs.HeaderRecord.{identity_at, counts_at, header_at, header_in, HasHeader};
+
+use crate::causes::{
+    config_cause, context_tables_cause, identity_cause, identity_length_cause, magic_cause,
+    symbol_tables_cause, version_cause,
+};
+use crate::header_rec::HeaderRec;
+use pol_cursor::{Cursor, Fault, Field, refuse, u32_in};
+use std::alloc::{AllocError, Global};
+use std::marker::Model;
+
+// The code of a header's record.
+const HEADER: u8 = 1;
+
+/// A header in the buffer: 32 bytes.
+#[derive(Drop)]
+pub struct HeaderView<'a> {
+    bytes: &'a [u8],
+    place: u32,
+}
+
+impl<'a> Model for HeaderView<'a> {
+    ghost use Rattle.pol_read.specs.declared.header_rec.HeaderRec.{HeaderRec};
+    ghost use Rattle.pol_read.specs.HeaderRecord.{header_in, HasHeader};
+
+    ghost Value = { HeaderRec };
+
+    ghost view = { λ v. header_in v.bytes.now v.place };
+
+    ghost invariant = { λ v. HasHeader v.bytes.now v.place };
+}
+
+impl<'a> HeaderView<'a> {
+    /// The version of the format, 28 to 34.
+    pub fn version(&self) -> u32
+        ensures { result ≡ self.now.version }
+    {
+        u32_in(self.bytes, self.place as usize + 16)
+    }
+
+    /// Bit 0x1 is MLS, 0x2 refuses unknown classes and 0x4 allows them.
+    pub fn config(&self) -> u32
+        ensures { result ≡ self.now.config }
+    {
+        u32_in(self.bytes, self.place as usize + 20)
+    }
+
+    /// The same header, owned.
+    pub fn rec(&self) -> HeaderRec
+        ensures { result ≡ self.now }
+    {
+        HeaderRec {
+            version: self.version(),
+            config: self.config(),
+        }
+    }
+}
+
+/// The header at the cursor, which then stands behind it.
+#[tactic(auto, unfolding(crate::specs::HeaderRecord::header_at), using(pol_cursor::proofs::Facts::number_is))]
+pub fn read_header<'a>(c: &mut Cursor<'a>) -> Result<HeaderView<'a>, Fault>
+    ensures exact { Answers (λ v. v) result header_at c.old c.new }
+    ensures stands { IfOk result (λ v. HasHeader c.old.bytes c.old.place × (v ≡ header_in c.old.bytes c.old.place)) }
+{
+    let bytes = c.bytes();
+    let first = c.place();
+    pass_identity(c)?;
+    let place = c.place();
+    let field = Field {
+        row: HEADER,
+        part: 4,
+    };
+    let version = c.u32(field)?;
+    refuse(version_cause(version), place, field)?;
+    let place = c.place();
+    let field = Field {
+        row: HEADER,
+        part: 5,
+    };
+    let config = c.u32(field)?;
+    refuse(config_cause(config), place, field)?;
+    pass_counts(c, version)?;
+    Ok(HeaderView {
+        bytes,
+        place: first,
+    })
+}
+
+// Reads what says that the file is a kernel policy: 16 bytes.
+#[tactic(auto, unfolding(crate::specs::HeaderRecord::identity_at), using(pol_cursor::proofs::Facts::number_is, pol_cursor::proofs::Facts::string_is))]
+fn pass_identity(c: &mut Cursor<'_>) -> Result<(), Fault>
+    ensures exact { Answers (λ u. u) result identity_at c.old c.new }
+    ensures next { OnOk result (c.new.place ≡ c.old.place + 16) }
+{
+    let place = c.place();
+    let field = Field {
+        row: HEADER,
+        part: 1,
+    };
+    let magic = c.u32(field)?;
+    refuse(magic_cause(magic), place, field)?;
+    let place = c.place();
+    let field = Field {
+        row: HEADER,
+        part: 2,
+    };
+    let len = c.u32(field)?;
+    refuse(identity_length_cause(len), place, field)?;
+    let place = c.place();
+    let field = Field {
+        row: HEADER,
+        part: 3,
+    };
+    let id = c.take(8, field)?;
+    refuse(identity_cause(id), place, field)
+}
+
+// Reads the numbers of tables: 8 bytes.
+#[tactic(auto, unfolding(crate::specs::HeaderRecord::counts_at), using(pol_cursor::proofs::Facts::number_is))]
+fn pass_counts(c: &mut Cursor<'_>, version: u32) -> Result<(), Fault>
+    ensures exact { Answers (λ u. u) result (counts_at version) c.old c.new }
+    ensures next { OnOk result ((c.new.place ≡ c.old.place + 8) × (c.new.place ≤ length c.old.bytes)) }
+{
+    let place = c.place();
+    let field = Field {
+        row: HEADER,
+        part: 6,
+    };
+    let symbol_tables = c.u32(field)?;
+    refuse(symbol_tables_cause(symbol_tables), place, field)?;
+    let place = c.place();
+    let field = Field {
+        row: HEADER,
+        part: 7,
+    };
+    let context_tables = c.u32(field)?;
+    refuse(context_tables_cause(version, context_tables), place, field)
+}
