@@ -1,0 +1,22 @@
+-- What is known of the system's files: no content, and no name.
+use Rattle.std.specs.Prelude.{ℕ, None, is_some}
+use Rattle.se_outside.specs.declared.files.Slot.{Slot}
+use Rattle.se_outside.specs.declared.files.Slot.TheVariants.{Policy, Map}
+use Rattle.se_outside.specs.declared.real.RealSlot.{RealSlot}
+use Rattle.se_outside.specs.declared.real.RealFiles.{RealFiles}
+use Rattle.se_outside.specs.declared.real.RealSink.{RealSink}
+use Rattle.se_outside.specs.Outside.{SlotState, Untold}
+
+abbrev pub real_slot : {F : Type 0} → RealSlot F → SlotState
+real_slot s = record { asked = s.asked; is_open = is_some s.file; name = Untold; left = None; faults = s.faults; turns = s.turns }
+
+abbrev pub real_state : {R F D : Type 0} → RealFiles R F D → Slot → SlotState
+real_state m Policy = real_slot m.policy
+real_state m Map = real_slot m.map
+
+-- how many writes failed
+abbrev pub real_faults : {W : Type 0} → RealSink W → ℕ
+real_faults s = s.faults
+
+abbrev pub real_writer : {W : Type 0} → RealSink W → W
+real_writer s = s.writer
