@@ -1,0 +1,6 @@
+pub mod Gains
+pub mod Lines
+pub mod Wrotes
+pub mod Turns
+pub mod Causes
+pub mod Answered

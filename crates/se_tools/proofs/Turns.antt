@@ -1,0 +1,52 @@
+-- What the turns of a reading loop keep.
+use Rattle.std.proofs.Common.{◌≡◌, ◌≢◌, ◌≤◌, ◌<◌, ◌+◌, ◌++◌, ℕ, List, [], length, take, drop, true, Some, Result, Ok, refl, sym, ◌∙◌, ap, arith, append_assoc, length-append}
+use Rattle.std.proofs.lemmas.List.{take-append-drop, length-take-le}
+use Rattle.se_outside.specs.Outside.{SlotState, Reads}
+use Rattle.se_outside.specs.declared.Slot.{Slot}
+
+-- Nothing but the slot's place changes.
+pub record Kept (start now : Slot → SlotState) (slot : Slot) : Type 0 where
+  pub others : (s : Slot) → s ≢ slot → now s ≡ start s
+  pub asked : (now slot).asked ≡ (start slot).asked
+  pub named : (now slot).name ≡ (start slot).name
+  pub later : (start slot).faults ≤ (now slot).faults
+
+-- What was read and what is left are what the slot had.
+pub record Turns (start now : Slot → SlotState) (slot : Slot) (turn : ℕ) (bytes : List ℕ) (limit : ℕ) : Type 0 where
+  pub kept : Kept start now slot
+  pub turned : (now slot).turns ≤ (start slot).turns + turn
+  pub is_open : (now slot).is_open ≡ true
+  pub content : (xs : List ℕ) → (start slot).left ≡ Some xs → (rest : List ℕ) × ((now slot).left ≡ Some rest) × (xs ≡ bytes ++ rest)
+  pub turns : turn ≤ length bytes
+  pub size : length bytes ≤ limit
+
+pub turns-start : (start : Slot → SlotState) (slot : Slot) (bytes : List ℕ) (limit : ℕ) → bytes ≡ [] → (start slot).is_open ≡ true → Turns start start slot 0 bytes limit
+turns-start start slot bytes limit empty is_open =
+    record { kept = record { others = λ s ne. refl; asked = refl; named = refl; later = omega arith }; turned = omega arith; is_open = is_open; content = λ xs h. (xs, h, rw empty refl); turns = omega arith; size = rw empty (omega arith) }
+
+pub kept-read : {E : Type 0} (start mid new : Slot → SlotState) (slot : Slot) (into : List ℕ) (r : Result ℕ E) → Kept start mid slot → Reads mid new slot into r → Kept start new slot
+kept-read start mid new slot into r kept reads =
+    record { others = λ s ne. reads.others s ne ∙ kept.others s ne; asked = reads.this.asked ∙ kept.asked; named = reads.this.named ∙ kept.named; later = omega (arith, kept.later, reads.this.later) }
+
+-- what is left after a read of some bytes
+pub read-on : {E : Type 0} (mid new : Slot → SlotState) (slot : Slot) (into : List ℕ) (k : ℕ) (bytes more xs rest : List ℕ)
+    → Reads {E = E} mid new slot into (Ok k) → more ≡ bytes ++ take k into → (mid slot).left ≡ Some rest → xs ≡ bytes ++ rest
+    → ((new slot).left ≡ Some (drop k rest)) × (xs ≡ more ++ drop k rest) × (k ≡ 0 → rest ≡ [])
+read-on mid new slot into k bytes more xs rest reads grown left e =
+    let h = rw left at reads.this.bytes in
+    (h.0, (e ∙ ap (λ vs. bytes ++ vs) (sym (take-append-drop k rest)) ∙ sym (append_assoc bytes (take k rest) (drop k rest)) ∙ ap (λ vs. (bytes ++ vs) ++ drop k rest) (sym h.1) ∙ ap (λ vs. vs ++ drop k rest) (sym grown)), h.3)
+
+pub longer : (into bytes more : List ℕ) (k : ℕ) → k ≤ length into → more ≡ bytes ++ take k into → length more ≡ length bytes + k
+longer into bytes more k fits grown = rw (grown, length-append bytes (take k into), length-take-le k into fits) refl
+
+pub turns-more : {E : Type 0} (start mid new : Slot → SlotState) (slot : Slot) (turn k limit : ℕ) (bytes more into : List ℕ)
+    → Turns start mid slot turn bytes limit → Reads {E = E} mid new slot into (Ok k) → 0 < k → more ≡ bytes ++ take k into → length more ≤ limit → Turns start new slot (turn + 1) more limit
+turns-more {E} start mid new slot turn k limit bytes more into turns reads some grown size =
+    record {
+      kept = kept-read start mid new slot into _ turns.kept reads;
+      turned = omega (arith, turns.turned, reads.this.turned);
+      is_open = reads.this.still;
+      content = λ xs h. let was = turns.content xs h in let now = read-on {E = E} mid new slot into k bytes more xs was.0 reads grown was.1 was.2 in (drop k was.0, now.0, now.1);
+      turns = omega (arith, longer into bytes more k reads.this.bound grown, turns.turns);
+      size = size;
+    }

@@ -1,0 +1,9 @@
+pub mod Word
+pub mod Request
+pub mod Writing
+pub mod Reading
+pub mod Listing
+pub mod Capability
+pub mod Status
+pub mod Message
+pub mod Answer

@@ -1,0 +1,123 @@
+// The message of a status. It takes no memory.
+ghost use Rattle.std.specs.Prelude.{◌≡◌, ◌++◌, codes, flat_map};
+ghost use Rattle.se_tools.specs.Writing.{Wrote};
+ghost use Rattle.se_tools.specs.Message.{message_of, part_text, slot_word};
+
+use crate::Status;
+use crate::writing::{write_all, write_number};
+use pol_cursor::{Cause, Fault};
+use se_outside::{Failed, Sink, Slot};
+
+/// A part of a message.
+#[derive(Clone, Copy, Debug)]
+pub enum Part<'a> {
+    Text(&'a str),
+    Number(u64),
+}
+
+/// Writes the message of a status.
+pub fn report<E: Sink>(status: &Status, err: &mut E) -> Result<(), Failed>
+    ensures { Wrote (E.written err.old) (E.written err.new) (E.faults err.old) (E.faults err.new)
+        (message_of status.now) result }
+{
+    match *status {
+        Status::Done => Ok(()),
+        Status::Usage(word) => say(
+            &[
+                Part::Text("word "),
+                Part::Number(word),
+                Part::Text(" does not fit"),
+            ],
+            err,
+        ),
+        Status::ReadFault(slot) => say(
+            &[Part::Text(slot_word(slot)), Part::Text(": read failed")],
+            err,
+        ),
+        Status::TooLarge(slot) => say(
+            &[Part::Text(slot_word(slot)), Part::Text(": too large")],
+            err,
+        ),
+        Status::BadPolicy(fault) => say_fault(&fault, err),
+        Status::WriteFault => say(&[Part::Text("write failed")], err),
+        Status::Memory => say(&[Part::Text("out of memory")], err),
+    }
+}
+
+// Writes the message of a policy's fault.
+fn say_fault<E: Sink>(fault: &Fault, err: &mut E) -> Result<(), Failed>
+    ensures { Wrote (E.written err.old) (E.written err.new) (E.faults err.old) (E.faults err.new)
+        (message_of (Status.BadPolicy fault.now)) result }
+{
+    let place = Part::Number(fault.place as u64);
+    let field = Part::Text(fault.field.word());
+    let cause = Part::Text(fault.cause.word());
+    match fault.cause {
+        Cause::Dangling { table, value } => say(
+            &[
+                Part::Text("policy: place "),
+                place,
+                Part::Text(", field "),
+                field,
+                Part::Text(": "),
+                cause,
+                Part::Text(" "),
+                Part::Text(table.word()),
+                Part::Text(" "),
+                Part::Number(value as u64),
+            ],
+            err,
+        ),
+        _ => say(
+            &[
+                Part::Text("policy: place "),
+                place,
+                Part::Text(", field "),
+                field,
+                Part::Text(": "),
+                cause,
+            ],
+            err,
+        ),
+    }
+}
+
+// What a slot is called.
+fn slot_word(slot: Slot) -> &'static str
+    ensures { result.now ≡ slot_word slot }
+{
+    match slot {
+        Slot::Policy => "policy",
+        Slot::Map => "map",
+    }
+}
+
+// Writes the line of a message.
+fn say<E: Sink>(parts: &[Part], err: &mut E) -> Result<(), Failed>
+    ensures { Wrote (E.written err.old) (E.written err.new) (E.faults err.old) (E.faults err.new)
+        (codes "setools: " ++ (flat_map part_text parts.now ++ codes "\n")) result }
+{
+    write_all(err, b"setools: ")?;
+    write_parts(parts, err)?;
+    write_all(err, b"\n")
+}
+
+fn write_parts<E: Sink>(parts: &[Part], err: &mut E) -> Result<(), Failed>
+    ensures { Wrote (E.written err.old) (E.written err.new) (E.faults err.old) (E.faults err.new)
+        (flat_map part_text parts.now) result }
+{
+    for part in parts {
+        write_part(part, err)?;
+    }
+    Ok(())
+}
+
+fn write_part<E: Sink>(part: &Part, err: &mut E) -> Result<(), Failed>
+    ensures { Wrote (E.written err.old) (E.written err.new) (E.faults err.old) (E.faults err.new)
+        (part_text part.now) result }
+{
+    match part {
+        Part::Text(text) => write_all(err, text.as_bytes()),
+        Part::Number(number) => write_number(err, *number),
+    }
+}
