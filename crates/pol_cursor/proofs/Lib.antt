@@ -4,3 +4,6 @@ pub mod Laws
 pub mod Lists
 pub mod Facts
 pub mod NameLaws
+pub mod RunLists
+pub mod ContextLists
+pub mod ReferenceLists

@@ -7,7 +7,7 @@ use Rattle.std.proofs.lemmas.List.{append-nil, map_push}
 use Rattle.pol_cursor.specs.declared.fault.Fault.{Fault}
 use Rattle.pol_cursor.specs.Outcome.{Position, Outcome, Got, Bad, Reader, and_then}
 use Rattle.pol_cursor.specs.Parts.{list_of, records_at}
-use Rattle.pol_cursor.specs.References.{Placed, placed, values_of}
+use Rattle.pol_cursor.specs.References.{Placed, placed, without_places}
 
 -- a value was read, and nothing of it is kept but that it was
 pub record Skips {A : Type 0} (old new : Position) (r : Reader A) : Type 0 where
@@ -130,25 +130,21 @@ pub placed_bad : {A : Type 0} (r : Reader A) (f : Fault) (bytes : List ℕ) (pla
 unfolding placed
 placed_bad {A} r f bytes place e = ap (λ (o : Outcome A). and_then o (λ y next. Got (record { place = place; value = y }) next)) e
 
--- the values of an outcome of placed records
-abbrev pub unplaced : {A : Type 0} → Outcome (List (Placed A)) → Outcome (List A)
-unplaced o = and_then o (λ records next. Got (values_of records) next)
-
 -- the rest of a list, by the outcome of its first record
-unplaced-cons : {A : Type 0} (p : Placed A) (o : Outcome (List (Placed A))) → unplaced (and_then o (λ ps next. Got (p ∷ ps) next)) ≡ and_then (unplaced o) (λ xs next. Got (p.value ∷ xs) next)
+unplaced-cons : {A : Type 0} (p : Placed A) (o : Outcome (List (Placed A))) → without_places (and_then o (λ ps next. Got (p ∷ ps) next)) ≡ and_then (without_places o) (λ xs next. Got (p.value ∷ xs) next)
 unplaced-cons p (Got ps next) = refl
 unplaced-cons p (Bad f) = refl
 
 -- one record, and others of which that is known
-unplaced-first : {A : Type 0} (place : ℕ) (others : ℕ → Outcome (List (Placed A))) (plain : ℕ → Outcome (List A)) → ((next : ℕ) → unplaced (others next) ≡ plain next) → (o : Outcome A)
-    → unplaced (and_then (and_then o (λ x next. Got (record { place = place; value = x }) next)) (λ p next. and_then (others next) (λ ps k. Got (p ∷ ps) k))) ≡ and_then o (λ x next. and_then (plain next) (λ xs k. Got (x ∷ xs) k))
-unplaced-first place others plain same (Bad f) = refl
-unplaced-first {A} place others plain same (Got x next) =
-    unplaced-cons (record { place = place; value = x }) (others next) ∙ ap (λ (o : Outcome (List A)). and_then o (λ xs k. Got (x ∷ xs) k)) (same next)
+pub unplaced_rest : {A : Type 0} (place : ℕ) (others : A → ℕ → Outcome (List (Placed A))) (plain : A → ℕ → Outcome (List A)) → ((x : A) (next : ℕ) → without_places (others x next) ≡ plain x next) → (o : Outcome A)
+    → without_places (and_then (and_then o (λ x next. Got (record { place = place; value = x }) next)) (λ p next. and_then (others p.value next) (λ ps k. Got (p ∷ ps) k))) ≡ and_then o (λ x next. and_then (plain x next) (λ xs k. Got (x ∷ xs) k))
+unplaced_rest place others plain same (Bad f) = refl
+unplaced_rest {A} place others plain same (Got x next) =
+    unplaced-cons (record { place = place; value = x }) (others x next) ∙ ap (λ (o : Outcome (List A)). and_then o (λ xs k. Got (x ∷ xs) k)) (same x next)
 
 -- Records that are read with their places are the records that are read.
-pub records_unplaced : {A : Type 0} (r : Reader A) (n : ℕ) (bytes : List ℕ) (place : ℕ) → unplaced (records_at (placed r) n bytes place) ≡ records_at r n bytes place
+pub records_unplaced : {A : Type 0} (r : Reader A) (n : ℕ) (bytes : List ℕ) (place : ℕ) → without_places (records_at (placed r) n bytes place) ≡ records_at r n bytes place
 unfolding records_at list_of placed
 records_unplaced r zero bytes place = refl
 records_unplaced {A} r (suc n) bytes place =
-    unplaced-first place (λ next. records_at (placed r) n bytes next) (λ next. records_at r n bytes next) (λ next. records_unplaced r n bytes next) (r bytes place)
+    unplaced_rest place (λ x next. records_at (placed r) n bytes next) (λ x next. records_at r n bytes next) (λ x next. records_unplaced r n bytes next) (r bytes place)

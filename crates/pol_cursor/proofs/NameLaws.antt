@@ -1,5 +1,5 @@
 -- The two laws of a name behind its length.
-use Rattle.std.proofs.Common.{◌≡◌, ℕ, ◌+◌, length}
+use Rattle.std.proofs.Common.{ℕ, ◌+◌, length}
 use Rattle.std.proofs.lemmas.List.{append-nil}
 use Rattle.pol_cursor.specs.Outcome.{field}
 use Rattle.pol_cursor.specs.Laws.{IsReadAgain, IsReadFromSpelling}

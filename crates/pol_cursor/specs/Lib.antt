@@ -6,3 +6,6 @@ pub mod Spelling
 pub mod Laws
 pub mod References
 pub mod FileNames
+pub mod Mentions
+pub mod Runs
+pub mod Contexts

@@ -5,7 +5,7 @@ use Rattle.pol_cursor.specs.declared.field.Field.{Field}
 use Rattle.pol_cursor.specs.declared.fault.Fault.{Fault}
 use Rattle.pol_cursor.specs.declared.fault.Cause.TheVariants.{Dangling}
 use Rattle.pol_cursor.specs.declared.table_kind.TableKind.{TableKind}
-use Rattle.pol_cursor.specs.Outcome.{Reader, Got, and_then, fault}
+use Rattle.pol_cursor.specs.Outcome.{Outcome, Reader, Got, and_then, fault}
 
 -- a record and the place of its first byte
 pub record Placed (A : Type 0) : Type 0 where
@@ -19,6 +19,10 @@ placed record_at bytes place = and_then (record_at bytes place) (λ x next. Got 
 -- the records without their places
 abbrev pub values_of : {A : Type 0} → List (Placed A) → List A
 values_of records = map (λ r. r.value) records
+
+-- an outcome of records with their places, without the places
+abbrev pub without_places : {A : Type 0} → Outcome (List (Placed A)) → Outcome (List A)
+without_places o = and_then o (λ records next. Got (values_of records) next)
 
 -- a reference: the place of its field, the field, and the value of a table that it names
 pub record Reference : Type 0 where

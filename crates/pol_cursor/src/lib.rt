@@ -5,12 +5,14 @@ mod cursor;
 mod fault;
 mod field;
 mod file_name;
+mod mention;
 mod names;
 mod owned_list;
 mod parts;
 mod read_error;
 mod record_laws;
 mod record_list;
+mod record_run;
 mod table_kind;
 #[cfg(test)]
 mod tests;
@@ -19,10 +21,18 @@ pub use cursor::Cursor;
 pub use fault::{Cause, Fault};
 pub use field::Field;
 pub use file_name::{read_name, read_name_bytes, read_name_length, write_name};
+pub use mention::{Mention, first_dangling};
 pub use names::{Names, dangling};
 pub use owned_list::{ByteList, NumberList, OwnedList};
 pub use parts::{push_number, refuse, string_in, u16_in, u32_in, u64_in};
 pub use read_error::ReadError;
-pub use record_laws::{names_have_laws, numbers_have_laws, strings_have_laws};
-pub use record_list::{Record, RecordView, Records, read_counted, read_records};
+pub use record_laws::{
+    dependent_lists_have_laws, lists_have_laws, names_have_laws, numbers_have_laws,
+    strings_have_laws,
+};
+pub use record_list::{
+    ReadAfter, ReadAlone, Record, RecordView, Records, read_counted, read_records,
+    read_records_after,
+};
+pub use record_run::{Inner, Run, end_of_run, read_run};
 pub use table_kind::TableKind;

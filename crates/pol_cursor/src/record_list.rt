@@ -1,31 +1,53 @@
 // Lists of records in the buffer, generic in the record.
-ghost use Rattle.std.specs.Prelude.{◌≡◌, ◌<◌, [], ℕ, List, Some, OnOk, slice_get, length};
+ghost use Rattle.std.specs.Prelude.{◌≡◌, ◌<◌, [], ℕ, List, Some, IfOk, OnOk, slice_get, length};
 ghost use Rattle.pol_cursor.specs.Outcome.{Outcome, Answers, Yields};
 ghost use Rattle.pol_cursor.specs.Parts.{counted, records_at};
+ghost use Rattle.pol_cursor.specs.Contexts.{context_after, records_after};
 ghost use Rattle.pol_cursor.specs.References.{placed};
 
 use crate::{Cursor, Fault, Field, ReadError};
 use std::alloc::Global;
 use std::marker::{Model, PhantomData};
 
-/// A kind of record, which is read without regard to the records before it.
+/// A kind of record.
 pub trait Record {
     /// The record, owned.
     type Owned;
-
-    /// How it is read.
-    ghost reads: { List ℕ → ℕ → Outcome Self.Owned };
 
     /// The record that stands at a place.
     ghost standing: { List ℕ → ℕ → Self.Owned };
 
     /// Its bytes stand there.
     ghost has: { List ℕ → ℕ → Type 0 };
+}
+
+/// A kind of record which is read without regard to the records before it.
+pub trait ReadAlone: Record {
+    /// How it is read.
+    ghost reads: { List ℕ → ℕ → Outcome Self.Owned };
 
     /// Passes over the record at the cursor, which then stands behind it. Takes no memory.
     fn pass(c: &mut Cursor<'_>) -> Result<(), Fault>
-        ensures exact { Answers (λ _. standing c.old.bytes c.old.place) result reads c.old c.new }
-        ensures stands { OnOk result (has c.old.bytes c.old.place) };
+        ensures exact { Answers (λ _. Self.standing c.old.bytes c.old.place) result reads c.old c.new }
+        ensures stands { OnOk result (Self.has c.old.bytes c.old.place) };
+}
+
+/// A kind of record which is read under what the records before it made of a context: the names that they took, say.
+pub trait ReadAfter<'a>: Record {
+    /// The context.
+    type Context: Drop;
+
+    /// How it is read.
+    ghost reads: { Self.Context → List ℕ → ℕ → Outcome Self.Owned };
+
+    /// The context after it.
+    ghost after: { Self.Context → Self.Owned → Self.Context };
+
+    /// Passes over the record at the cursor, which then stands behind it, and answers the context after it.
+    fn pass(c: &mut Cursor<'a>, context: Self::Context) -> Result<Self::Context, ReadError>
+        ensures exact { Yields (λ _. Self.standing c.old.bytes c.old.place) result (reads context) c.old c.new }
+        ensures stands { OnOk result (Self.has c.old.bytes c.old.place) }
+        ensures after { IfOk result (λ context_new. context_new ≡ after context (Self.standing c.old.bytes c.old.place)) };
 }
 
 /// A kind of record that has a view.
@@ -105,7 +127,7 @@ impl<'a, V: RecordView<'a> + Drop> Records<'a, V> {
 }
 
 /// Reads n records. Nothing is reserved by the number that the policy claims.
-pub fn read_records<'a, K: Record + Drop>(
+pub fn read_records<'a, K: ReadAlone + Drop>(
     alloc: Global,
     c: &mut Cursor<'a>,
     n: u32,
@@ -127,7 +149,7 @@ pub fn read_records<'a, K: Record + Drop>(
 }
 
 /// Reads a count, which is a field of its own, and so many records.
-pub fn read_counted<'a, K: Record + Drop>(
+pub fn read_counted<'a, K: ReadAlone + Drop>(
     alloc: Global,
     c: &mut Cursor<'a>,
     count: Field,
@@ -136,4 +158,31 @@ pub fn read_counted<'a, K: Record + Drop>(
 {
     let n = c.u32(count)?;
     read_records(alloc, c, n)
+}
+
+/// Reads n records, each under the context that the ones before it made, and answers the last context too. Nothing is
+/// reserved by the number that the policy claims.
+pub fn read_records_after<'a, K: ReadAfter<'a> + Drop>(
+    alloc: Global,
+    c: &mut Cursor<'a>,
+    n: u32,
+    context: K::Context,
+) -> Result<(Records<'a, K>, K::Context), ReadError>
+    ensures exact { Yields (λ read. read.0) result (records_after K.reads K.after n context) c.old c.new }
+    ensures after { IfOk result (λ read. read.1 ≡ context_after K.after context read.0) }
+{
+    let bytes = c.bytes();
+    let mut context = context;
+    let mut places = Vec::new(alloc);
+    for _ in 0..n {
+        let place = c.place();
+        context = K::pass(c, context)?;
+        places.push(place)?;
+    }
+    let records = Records {
+        bytes,
+        places,
+        kind: PhantomData,
+    };
+    Ok((records, context))
 }

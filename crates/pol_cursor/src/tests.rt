@@ -105,19 +105,65 @@ struct Word {
 
 impl Record for Word {
     ghost use Rattle.std.specs.Prelude.{◌≤◌, ◌+◌, length};
-    ghost use Rattle.pol_cursor.specs.Outcome.{field};
-    ghost use Rattle.pol_cursor.specs.Parts.{num, number};
+    ghost use Rattle.pol_cursor.specs.Parts.{num};
 
     type Owned = u32;
 
-    ghost reads = { number (field 21 2) 4 };
-
     ghost standing = { λ bytes place. num bytes place 4 };
 
-    ghost has = { λ bytes place. place + 4 ≤ length bytes };
+    ghost has = { λ bytes place. (place + 4 ≤ length bytes) × (length bytes ≤ 67108864) };
+}
+
+impl ReadAlone for Word {
+    ghost use Rattle.pol_cursor.specs.Outcome.{field};
+    ghost use Rattle.pol_cursor.specs.Parts.{number};
+
+    ghost reads = { number (field 21 2) 4 };
 
     #[tactic(auto, using(crate::proofs::Facts::number_is))]
     fn pass(c: &mut Cursor<'_>) -> Result<(), Fault> {
+        let _all = c.bytes();
+        let _word = c.u32(Field { row: 21, part: 2 })?;
+        Ok(())
+    }
+}
+
+// Under the number before it, which changes nothing.
+impl<'a> ReadAfter<'a> for Word {
+    ghost use Rattle.pol_cursor.specs.Outcome.{field};
+    ghost use Rattle.pol_cursor.specs.Parts.{number};
+
+    type Context = u32;
+
+    ghost reads = { λ before. number (field 21 2) 4 };
+
+    ghost after = { λ before word. word };
+
+    #[tactic(auto, using(crate::proofs::Facts::number_is))]
+    fn pass(c: &mut Cursor<'a>, _context: u32) -> Result<u32, ReadError> {
+        let _all = c.bytes();
+        Ok(c.u32(Field { row: 21, part: 2 })?)
+    }
+}
+
+impl Inner for Word {
+    ghost use Rattle.std.specs.Prelude.{◌+◌};
+    ghost use Rattle.pol_cursor.specs.Outcome.{field};
+    ghost use Rattle.pol_cursor.specs.Parts.{number};
+
+    type Given = ();
+
+    ghost reads = { λ given. number (field 21 2) 4 };
+
+    ghost ends = { λ bytes place. place + 4 };
+
+    fn end(_bytes: &[u8], place: u32) -> u32 {
+        place + 4
+    }
+
+    #[tactic(auto, using(crate::proofs::Facts::number_is))]
+    fn pass(c: &mut Cursor<'_>, _given: &()) -> Result<(), Fault> {
+        let _all = c.bytes();
         let _word = c.u32(Field { row: 21, part: 2 })?;
         Ok(())
     }
@@ -148,6 +194,27 @@ fn counted_records(rt: HostRuntime) -> Result<(), Fail> {
     let three = read_records::<Word>(rt.alloc(), &mut Cursor::at(bytes, 4), 3);
     assert!(rt; three.is_err());
     assert_eq!(rt; Records::<Word>::empty(rt.alloc(), bytes).len(), 0);
+    Ok(())
+}
+
+#[test]
+fn dependent_records(rt: HostRuntime) -> Result<(), Fail> {
+    let bytes = b"\x07\0\0\0\x09\0\0\0\x01";
+    let (words, last) = read_records_after::<Word>(rt.alloc(), &mut Cursor::new(bytes), 2, 0)?;
+    assert_eq!(rt; (words.len(), last), (2, 9));
+    Ok(())
+}
+
+#[test]
+fn runs_of_records(rt: HostRuntime) -> Result<(), Fail> {
+    let bytes = b"\x07\0\0\0\x09\0\0\0\x01";
+    let mut words = read_run::<Word>(&mut Cursor::new(bytes), 2, &()).map_err(|fault| fault
+        .cause
+        .word())?;
+    assert_eq!(rt; (words.len(), words.view(1).number), (2, 9));
+    assert_eq!(rt; words.next().map(|word| word.place), Some(0));
+    assert_eq!(rt; words.next().map(|word| word.number), Some(9));
+    assert!(rt; words.next().is_none());
     Ok(())
 }
 
