@@ -1,3 +1,2 @@
-pub mod Dangling
 pub mod TransLaws
 pub mod NameData

@@ -1,11 +1,11 @@
 -- The two laws of transitions and role allows, and of their lists.
-use Rattle.std.proofs.Common.{List, ℕ, ◌++◌, length, None, append_assoc}
+use Rattle.std.proofs.Common.{List, ℕ, None, append_assoc}
 use Rattle.std.proofs.lemmas.List.{append-nil}
 use Rattle.pol_cursor.specs.declared.field.Field.{Field}
 use Rattle.pol_cursor.specs.Outcome.{Reader, field}
 use Rattle.pol_cursor.specs.Parts.{counted, records_at, spell_counted, CountedFits}
 use Rattle.pol_cursor.specs.Laws.{IsReadAgain, IsReadFromSpelling}
-use Rattle.pol_cursor.proofs.Laws.{Reads-done, Reads-part, Reads-number, Reads-number_if, Reads-string_if, Again-done, Again-part, Again-as, Again-number, Again-number_if, Again-string_if, records_spelled, records_again, counted_spelled, counted_again}
+use Rattle.pol_cursor.proofs.Laws.{Reads-done, Reads-part, Reads-number, Again-done, Again-part, Again-as, Again-number, records_spelled, records_again, counted_spelled, counted_again}
 use Rattle.pol_bitmap.proofs.Laws.{bitmap_spelled, bitmap_again}
 use Rattle.pol_mls.proofs.MlsLaws.{range_spelled, range_again}
 use Rattle.pol_trans.specs.RoleAllowRecord.{role_allow_at, spell_role_allow, RoleAllowFits}

@@ -1,4 +1,4 @@
-pub mod Mentions
+pub mod InnerPlaces
 pub mod RoleAllowRecord
 pub mod RoleTransRecord
 pub mod NameTransRecord

@@ -1,13 +1,15 @@
 -- Record 23: a group of file-name transitions with one name, target and class, which version 33 brought. Each of its data has the
 -- sources and the default type that objects of theirs have (libsepol's filename_trans_read_one).
-use Rattle.std.specs.Prelude.{ℕ, zero, suc, ◌+◌, ◌*◌, ◌^◌, ◌<◌, ◌≤◌, None, List, [], ◌∷◌, ◌++◌, length}
+use Rattle.std.specs.Prelude.{ℕ, ◌+◌, ◌*◌, ◌^◌, ◌<◌, ◌≤◌, None, List, ◌∷◌, ◌++◌, length, map}
 use Rattle.pol_cursor.specs.declared.table_kind.TableKind.TheVariants.{Types, Classes}
 use Rattle.pol_cursor.specs.Outcome.{Reader, field, ◌>>=◌, done}
-use Rattle.pol_cursor.specs.Parts.{num, number, number_if, string_if, counted, records_at, spell_counted, CountedFits}
-use Rattle.pol_cursor.specs.References.{Placed, Reference}
+use Rattle.pol_cursor.specs.Parts.{num, number, counted, records_at, spell_counted, CountedFits}
+use Rattle.pol_cursor.specs.References.{Placed, Reference, values_of}
+use Rattle.pol_cursor.specs.Runs.{run_in, HasRun}
 use Rattle.pol_cursor.specs.Spelling.{bytes_of}
 use Rattle.pol_bitmap.specs.Bitmap.{bitmap_at, spell_bitmap, BitmapFits}
 use Rattle.pol_bitmap.specs.Nodes.{bitmap_in, bitmap_size, HasBitmap}
+use Rattle.pol_trans.specs.InnerPlaces.{placed_from}
 use Rattle.pol_trans.specs.declared.name_datum_rec.NameDatumRec.{NameDatumRec}
 use Rattle.pol_trans.specs.declared.name_group_rec.NameGroupRec.{NameGroupRec}
 use Rattle.pol_cursor.specs.FileNames.{name_at, spell_name, name_in, name_end}
@@ -63,22 +65,6 @@ name_datum_end bytes place = place + bitmap_size bytes place + 4
 abbrev pub HasNameDatum : List ℕ → ℕ → Type 0
 HasNameDatum bytes place = HasBitmap bytes place × (name_datum_end bytes place ≤ length bytes)
 
--- ---- the data that stand from a place on, each behind the one before
-
-unfoldable pub name_data_in : List ℕ → ℕ → ℕ → List NameDatumRec
-name_data_in bytes place zero = []
-name_data_in bytes place (suc n) = name_datum_in bytes place ∷ name_data_in bytes (name_datum_end bytes place) n
-
--- the place of the datum of that number, counted from 0
-unfoldable pub name_datum_place : List ℕ → ℕ → ℕ → ℕ
-name_datum_place bytes place zero = place
-name_datum_place bytes place (suc i) = name_datum_place bytes (name_datum_end bytes place) i
-
--- n data stand there
-unfoldable pub HaveNameData : List ℕ → ℕ → ℕ → Type 0
-HaveNameData bytes place zero = Unit {0}
-HaveNameData bytes place (suc n) = HasNameDatum bytes place × HaveNameData bytes (name_datum_end bytes place) n
-
 -- ---- the group that stands at a place
 
 -- how many data it has, and the place of the first
@@ -93,12 +79,16 @@ name_group_in bytes place = record {
   name = name_in bytes place;
   target = num bytes (name_end bytes place) 4;
   class = num bytes (name_end bytes place + 4) 4;
-  datums = name_data_in bytes (name_data_place bytes place) (name_data_count bytes place);
+  datums = values_of (run_in name_datum_in name_datum_end bytes (name_data_place bytes place) (name_data_count bytes place));
 }
 
 -- a group stands there, in a buffer of a policy's size
 abbrev pub HasNameGroup : List ℕ → ℕ → Type 0
-HasNameGroup bytes place = (name_data_place bytes place ≤ length bytes) × (length bytes ≤ 67108864) × HaveNameData bytes (name_data_place bytes place) (name_data_count bytes place)
+HasNameGroup bytes place = (name_data_place bytes place ≤ length bytes) × (length bytes ≤ 67108864) × HasRun HasNameDatum name_datum_end bytes (name_data_place bytes place) (name_data_count bytes place)
+
+-- its data, each with its place
+abbrev pub name_data_of : Placed NameGroupRec → List (Placed NameDatumRec)
+name_data_of group = placed_from name_datum_length (group.place + 16 + length group.value.name) group.value.datums
 
 -- ---- what it names
 
@@ -106,17 +96,9 @@ HasNameGroup bytes place = (name_data_place bytes place ≤ length bytes) × (le
 abbrev pub name_datum_reference : Placed NameDatumRec → Reference
 name_datum_reference datum = record { place = datum.place + 12 + 12 * length datum.value.sources; field = field 23 7; table = Types; value = datum.value.default }
 
--- the defaults of the data from a place on
-unfoldable pub name_data_references : ℕ → List NameDatumRec → List Reference
-name_data_references place [] = []
-name_data_references place (datum ∷ datums) = name_datum_reference (record { place = place; value = datum }) ∷ name_data_references (place + name_datum_length datum) datums
-
--- the references from the place behind the name on
-abbrev pub group_references_behind_name : ℕ → NameGroupRec → List Reference
-group_references_behind_name place group =
-    record { place = place; field = field 23 4; table = Types; value = group.target } ∷
-    record { place = place + 4; field = field 23 5; table = Classes; value = group.class } ∷
-    name_data_references (place + 12) group.datums
-
+-- the target and the class, whose places the name's length moves, and then the default of each datum
 abbrev pub name_group_references : Placed NameGroupRec → List Reference
-name_group_references group = group_references_behind_name (group.place + 4 + length group.value.name) group.value
+name_group_references group =
+    record { place = group.place + 4 + length group.value.name; field = field 23 4; table = Types; value = group.value.target } ∷
+    record { place = group.place + 8 + length group.value.name; field = field 23 5; table = Classes; value = group.value.class } ∷
+    map name_datum_reference (name_data_of group)

@@ -3,7 +3,7 @@
 use Rattle.std.specs.Prelude.{ℕ, ◌+◌, ◌^◌, ◌<◌, ◌≤◌, List, [], ◌∷◌, ◌++◌, length}
 use Rattle.pol_cursor.specs.declared.table_kind.TableKind.TheVariants.{Types, Classes}
 use Rattle.pol_cursor.specs.Outcome.{Reader, field, ◌>>=◌, done}
-use Rattle.pol_cursor.specs.Parts.{num, number, number_if, string_if}
+use Rattle.pol_cursor.specs.Parts.{num, number}
 use Rattle.pol_cursor.specs.References.{Placed, Reference}
 use Rattle.pol_cursor.specs.Spelling.{bytes_of}
 use Rattle.pol_trans.specs.declared.name_trans_rec.NameTransRec.{NameTransRec}

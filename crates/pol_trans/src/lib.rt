@@ -3,7 +3,6 @@
 #![tactic(auto)]
 
 mod lists;
-mod mentions;
 mod name_datum_rec;
 mod name_datum_view;
 mod name_group_rec;
@@ -32,6 +31,7 @@ pub use lists::{
     read_role_allows, read_role_trans,
 };
 pub use name_datum_rec::{NameDatumRec, NameDatumRecList};
+pub use name_datum_view::{NameDatum, NameDatumView};
 pub use name_group_rec::{NameGroupRec, NameGroupRecList};
 pub use name_group_view::{NameGroupView, read_name_group_entry};
 pub use name_group_write::write_name_group;

@@ -1,20 +1,31 @@
-ghost use Rattle.std.specs.Prelude.{◌≡◌, ◌<◌, IfOk, Some, option_map, slice_get, length};
-ghost use Rattle.pol_cursor.specs.Outcome.{Answers};
-ghost use Rattle.pol_cursor.specs.References.{dangling_of};
+ghost use Rattle.std.specs.Prelude.{◌≡◌, ◌<◌, IfOk, Some, option_map, slice_get, length, map};
+ghost use Rattle.pol_cursor.specs.Outcome.{Answers, field};
+ghost use Rattle.pol_cursor.specs.References.{dangling_of, values_of};
 ghost use Rattle.pol_cursor.specs.FileNames.{name_end};
-ghost use Rattle.pol_trans.specs.NameGroupRecord.{name_group_at, name_group_in, HasNameGroup, name_group_references, name_datum_place, HasNameDatum, name_data_place, name_data_count, name_data_in, name_data_references, HaveNameData};
+ghost use Rattle.pol_trans.specs.NameGroupRecord.{name_group_at, name_group_in, HasNameGroup, name_group_references, name_data_of, name_datum_reference};
 
-use crate::mentions::{Mention, first_dangling};
 use crate::name_datum_rec::{NameDatumRec, NameDatumRecList};
-use crate::name_datum_view::{NameDatumView, pass_name_data};
+use crate::name_datum_view::NameDatum;
 use crate::name_group_rec::NameGroupRec;
 use crate::rows::NAME_GROUP;
 use pol_bitmap::BitmapView;
+use pol_cursor::TableKind::{Classes, Types};
 use pol_cursor::{
-    ByteList, Cursor, Fault, Field, Names, Record, TableKind, read_name, string_in, u32_in,
+    ByteList, Cursor, Fault, Field, Mention, Names, ReadAlone, Record, RecordView, Run,
+    first_dangling, read_name, read_run, string_in, u32_in,
 };
 use std::alloc::{AllocError, Global};
 use std::marker::Model;
+
+// The field of that number.
+fn part(part: u8) -> Field
+    ensures { result ≡ field 23 part }
+{
+    Field {
+        row: NAME_GROUP,
+        part,
+    }
+}
 
 /// A group in the buffer.
 #[derive(Drop)]
@@ -36,14 +47,6 @@ impl<'a> Model for NameGroupView<'a> {
 }
 
 impl<'a> NameGroupView<'a> {
-    /// The group at a place that has one.
-    pub fn at(bytes: &'a [u8], place: u32) -> NameGroupView<'a>
-        requires { HasNameGroup bytes.now place }
-        ensures { result ≡ record { place = place; value = name_group_in bytes.now place } }
-    {
-        NameGroupView { bytes, place }
-    }
-
     /// The name of the new object: one byte or more, none of them 0.
     pub fn name(&self) -> &'a [u8]
         ensures { result.now ≡ self.now.value.name }
@@ -66,12 +69,22 @@ impl<'a> NameGroupView<'a> {
         u32_in(self.bytes, behind_name(self.bytes, self.place) as usize + 4)
     }
 
+    /// The data, in file order.
+    #[tactic(auto, using(crate::proofs::NameData::data_placed, crate::proofs::NameData::length_part))]
+    pub fn data(&self) -> Run<'a, NameDatum>
+        ensures placed { result ≡ name_data_of self.now }
+        ensures values { values_of result ≡ self.now.value.datums }
+    {
+        let place = behind_name(self.bytes, self.place);
+        let count = u32_in(self.bytes, place as usize + 8);
+        Run::at(self.bytes, place + 12, count)
+    }
+
     /// The number of data.
-    #[tactic(auto, using(crate::proofs::NameData::length_name_data_in))]
     pub fn ndatum(&self) -> u32
         ensures { result ≡ length self.now.value.datums }
     {
-        u32_in(self.bytes, behind_name(self.bytes, self.place) as usize + 8)
+        self.data().len()
     }
 
     /// The sources of the datum of that number, counted from 0: bit v - 1 stands for the value v. It goes through the data before.
@@ -79,7 +92,7 @@ impl<'a> NameGroupView<'a> {
         requires { i < length self.now.value.datums }
         ensures { option_map (λ datum. datum.sources) (slice_get self.now.value.datums i) ≡ Some result }
     {
-        self.datum(i).sources()
+        self.data().view(i).sources()
     }
 
     /// The value of the type that the new object has, in the datum of that number. It goes through the data before.
@@ -87,34 +100,24 @@ impl<'a> NameGroupView<'a> {
         requires { i < length self.now.value.datums }
         ensures { option_map (λ datum. datum.default) (slice_get self.now.value.datums i) ≡ Some result }
     {
-        self.datum(i).default()
-    }
-
-    // The datum of that number.
-    #[tactic(auto, using(crate::proofs::NameData::length_name_data_in, crate::proofs::NameData::get_name_data_in))]
-    fn datum(&self, i: u32) -> NameDatumView<'a>
-        requires { i < length self.now.value.datums }
-        ensures { slice_get self.now.value.datums i ≡ Some result.value }
-    {
-        let place = name_datum_place(self.bytes, self.place, i);
-        NameDatumView::at(self.bytes, place)
+        self.data().view(i).default()
     }
 
     /// The first reference, in file order, whose value no primary record declares, as a fault at its field.
     pub fn dangling<N: Names>(&self, names: &N) -> Option<Fault>
         ensures { result ≡ dangling_of (N.named names.now) (name_group_references self.now) }
     {
-        let place = self.place + 4 + self.name().len() as u32;
+        let place = behind_name(self.bytes, self.place);
         let own = first_dangling(
             names,
             &[
-                Mention::new(NAME_GROUP, 4, place, TableKind::Types, self.target()),
-                Mention::new(NAME_GROUP, 5, place + 4, TableKind::Classes, self.class()),
+                Mention::new(NAME_GROUP, 4, place, Types, self.target()),
+                Mention::new(NAME_GROUP, 5, place + 4, Classes, self.class()),
             ],
         );
         match own {
             Some(fault) => Some(fault),
-            None => dangling_default(self.bytes, self.place, names),
+            None => dangling_default(self.data(), names),
         }
     }
 
@@ -122,13 +125,11 @@ impl<'a> NameGroupView<'a> {
     pub fn rec(&self, alloc: Global) -> Result<NameGroupRec, AllocError>
         ensures { IfOk result (λ group. group ≡ self.now.value) }
     {
-        let name = Vec::from_slice(alloc, self.name())?;
-        let datums = name_data(alloc, self.bytes, self.place)?;
         Ok(NameGroupRec {
-            name: ByteList::from_vec(name),
+            name: ByteList::from_vec(Vec::from_slice(alloc, self.name())?),
             target: self.target(),
             class: self.class(),
-            datums: NameDatumRecList::from_vec(datums),
+            datums: NameDatumRecList::from_vec(owned_data(alloc, self.data())?),
         })
     }
 }
@@ -141,59 +142,26 @@ fn behind_name(bytes: &[u8], place: u32) -> u32
     place + 4 + u32_in(bytes, place as usize)
 }
 
-// The place of the first datum of the group there, and the number of data.
-fn first_datum(bytes: &[u8], group: u32) -> (u32, u32)
-    requires { HasNameGroup bytes.now group }
-    ensures place { result.0 ≡ name_data_place bytes.now group }
-    ensures count { result.1 ≡ name_data_count bytes.now group }
-    ensures stand { HaveNameData bytes.now result.0 result.1 }
+// The first default that no primary record declares, as a fault at its field.
+fn dangling_default<N: Names>(run: Run<'_, NameDatum>, names: &N) -> Option<Fault>
+    ensures { result ≡ dangling_of (N.named names.now) (map name_datum_reference run.entry) }
 {
-    let place = behind_name(bytes, group);
-    (place + 12, u32_in(bytes, place as usize + 8))
-}
-
-// The place of the datum of that number in the group there.
-fn name_datum_place(bytes: &[u8], group: u32, i: u32) -> u32
-    requires stands { HasNameGroup bytes.now group }
-    requires below { i < name_data_count bytes.now group }
-    ensures place { result ≡ name_datum_place bytes.now (name_data_place bytes.now group) i }
-    ensures stands { HasNameDatum bytes.now result }
-{
-    let (mut place, _) = first_datum(bytes, group);
-    for _ in 0..i {
-        place = NameDatumView::at(bytes, place).end();
-    }
-    place
-}
-
-// The first default of the group there that no primary record declares, as a fault at its field.
-fn dangling_default<N: Names>(bytes: &[u8], group: u32, names: &N) -> Option<Fault>
-    requires { HasNameGroup bytes.now group }
-    ensures { result ≡ dangling_of (N.named names.now) (name_data_references (name_data_place bytes.now group) (name_data_in bytes.now (name_data_place bytes.now group) (name_data_count bytes.now group))) }
-{
-    let (mut place, count) = first_datum(bytes, group);
-    for _ in 0..count {
-        let datum = NameDatumView::at(bytes, place);
+    for datum in run {
         match datum.dangling(names) {
             Some(fault) => return Some(fault),
             None => {}
         }
-        place = datum.end();
     }
     None
 }
 
-// The data of the group there, owned.
-fn name_data(alloc: Global, bytes: &[u8], group: u32) -> Result<Vec<NameDatumRec>, AllocError>
-    requires { HasNameGroup bytes.now group }
-    ensures { IfOk result (λ datums. datums.items ≡ name_data_in bytes.now (name_data_place bytes.now group) (name_data_count bytes.now group)) }
+// The data, owned.
+fn owned_data(alloc: Global, run: Run<'_, NameDatum>) -> Result<Vec<NameDatumRec>, AllocError>
+    ensures { IfOk result (λ datums. datums.items ≡ values_of run.entry) }
 {
-    let (mut place, count) = first_datum(bytes, group);
     let mut datums = Vec::new(alloc);
-    for _ in 0..count {
-        let datum = NameDatumView::at(bytes, place);
+    for datum in run {
         datums.push(datum.rec(alloc)?)?;
-        place = datum.end();
     }
     Ok(datums)
 }
@@ -208,35 +176,40 @@ pub fn read_name_group_entry<'a>(c: &mut Cursor<'a>) -> Result<NameGroupView<'a>
     let bytes = c.bytes();
     let place = c.place();
     read_name(c, NAME_GROUP, 2)?;
-    c.u32(Field {
-        row: NAME_GROUP,
-        part: 4,
-    })?;
-    c.u32(Field {
-        row: NAME_GROUP,
-        part: 5,
-    })?;
-    let n = c.u32(Field {
-        row: NAME_GROUP,
-        part: 6,
-    })?;
-    pass_name_data(c, n)?;
+    c.u32(part(4))?;
+    c.u32(part(5))?;
+    let n = c.u32(part(6))?;
+    read_run::<NameDatum>(c, n, &())?;
     Ok(NameGroupView { bytes, place })
 }
 
 impl Record for NameGroupRec {
-    ghost use Rattle.pol_trans.specs.NameGroupRecord.{name_group_at, name_group_in, HasNameGroup};
+    ghost use Rattle.pol_trans.specs.NameGroupRecord.{name_group_in, HasNameGroup};
 
     type Owned = NameGroupRec;
-
-    ghost reads = { name_group_at };
 
     ghost standing = { name_group_in };
 
     ghost has = { HasNameGroup };
+}
+
+impl ReadAlone for NameGroupRec {
+    ghost use Rattle.pol_trans.specs.NameGroupRecord.{name_group_at};
+
+    ghost reads = { name_group_at };
 
     fn pass(c: &mut Cursor<'_>) -> Result<(), Fault> {
         read_name_group_entry(c)?;
         Ok(())
+    }
+}
+
+impl<'a> RecordView<'a> for NameGroupRec {
+    type View = NameGroupView<'a>;
+
+    ghost shown = { λ view. view };
+
+    fn at(bytes: &'a [u8], place: u32) -> NameGroupView<'a> {
+        NameGroupView { bytes, place }
     }
 }

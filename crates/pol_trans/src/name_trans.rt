@@ -1,7 +1,8 @@
 ghost use Rattle.pol_cursor.specs.Outcome.{Yields};
 ghost use Rattle.pol_trans.specs.NameTransitions.{name_transitions_at};
 
-use crate::lists::{NameGroupList, NameTransList, read_name_group_list, read_name_trans_list};
+use crate::lists::{NameGroupList, NameTransList, read_list};
+use crate::rows::{NAME_GROUP, NAME_TRANS};
 use pol_cursor::{Cursor, ReadError};
 use std::alloc::Global;
 
@@ -23,8 +24,8 @@ pub fn read_name_trans<'a>(
     ensures { Yields (λ trans. trans) result (name_transitions_at version) c.old c.new }
 {
     if version >= 33 {
-        Ok(NameTrans::Groups(read_name_group_list(alloc, c)?))
+        Ok(NameTrans::Groups(read_list(alloc, c, NAME_GROUP)?))
     } else {
-        Ok(NameTrans::Entries(read_name_trans_list(alloc, c)?))
+        Ok(NameTrans::Entries(read_list(alloc, c, NAME_TRANS)?))
     }
 }

@@ -1,17 +1,28 @@
 ghost use Rattle.std.specs.Prelude.{◌≡◌, IfOk};
-ghost use Rattle.pol_cursor.specs.Outcome.{Answers};
+ghost use Rattle.pol_cursor.specs.Outcome.{Answers, field};
 ghost use Rattle.pol_cursor.specs.References.{dangling_of};
 ghost use Rattle.pol_cursor.specs.FileNames.{name_end};
 ghost use Rattle.pol_trans.specs.NameTransRecord.{name_trans_at, name_trans_in, HasNameTrans, name_trans_references};
 
-use crate::mentions::{Mention, first_dangling};
 use crate::name_trans_rec::NameTransRec;
 use crate::rows::NAME_TRANS;
+use pol_cursor::TableKind::{Classes, Types};
 use pol_cursor::{
-    ByteList, Cursor, Fault, Field, Names, Record, TableKind, read_name, string_in, u32_in,
+    ByteList, Cursor, Fault, Field, Mention, Names, ReadAlone, Record, RecordView, first_dangling,
+    read_name, string_in, u32_in,
 };
 use std::alloc::{AllocError, Global};
 use std::marker::Model;
+
+// The field of that number.
+fn part(part: u8) -> Field
+    ensures { result ≡ field 22 part }
+{
+    Field {
+        row: NAME_TRANS,
+        part,
+    }
+}
 
 /// A file-name transition in the buffer.
 #[derive(Drop)]
@@ -33,14 +44,6 @@ impl<'a> Model for NameTransView<'a> {
 }
 
 impl<'a> NameTransView<'a> {
-    /// The file-name transition at a place that has one.
-    pub fn at(bytes: &'a [u8], place: u32) -> NameTransView<'a>
-        requires { HasNameTrans bytes.now place }
-        ensures { result ≡ record { place = place; value = name_trans_in bytes.now place } }
-    {
-        NameTransView { bytes, place }
-    }
-
     /// The name of the new object: one byte or more, none of them 0.
     pub fn name(&self) -> &'a [u8]
         ensures { result.now ≡ self.now.value.name }
@@ -88,10 +91,10 @@ impl<'a> NameTransView<'a> {
         first_dangling(
             names,
             &[
-                Mention::new(NAME_TRANS, 4, place, TableKind::Types, self.source()),
-                Mention::new(NAME_TRANS, 5, place + 4, TableKind::Types, self.target()),
-                Mention::new(NAME_TRANS, 6, place + 8, TableKind::Classes, self.class()),
-                Mention::new(NAME_TRANS, 7, place + 12, TableKind::Types, self.default()),
+                Mention::new(NAME_TRANS, 4, place, Types, self.source()),
+                Mention::new(NAME_TRANS, 5, place + 4, Types, self.target()),
+                Mention::new(NAME_TRANS, 6, place + 8, Classes, self.class()),
+                Mention::new(NAME_TRANS, 7, place + 12, Types, self.default()),
             ],
         )
     }
@@ -129,38 +132,40 @@ pub fn read_name_trans_entry<'a>(c: &mut Cursor<'a>) -> Result<NameTransView<'a>
     let bytes = c.bytes();
     let place = c.place();
     read_name(c, NAME_TRANS, 2)?;
-    c.u32(Field {
-        row: NAME_TRANS,
-        part: 4,
-    })?;
-    c.u32(Field {
-        row: NAME_TRANS,
-        part: 5,
-    })?;
-    c.u32(Field {
-        row: NAME_TRANS,
-        part: 6,
-    })?;
-    c.u32(Field {
-        row: NAME_TRANS,
-        part: 7,
-    })?;
+    c.u32(part(4))?;
+    c.u32(part(5))?;
+    c.u32(part(6))?;
+    c.u32(part(7))?;
     Ok(NameTransView { bytes, place })
 }
 
 impl Record for NameTransRec {
-    ghost use Rattle.pol_trans.specs.NameTransRecord.{name_trans_at, name_trans_in, HasNameTrans};
+    ghost use Rattle.pol_trans.specs.NameTransRecord.{name_trans_in, HasNameTrans};
 
     type Owned = NameTransRec;
-
-    ghost reads = { name_trans_at };
 
     ghost standing = { name_trans_in };
 
     ghost has = { HasNameTrans };
+}
+
+impl ReadAlone for NameTransRec {
+    ghost use Rattle.pol_trans.specs.NameTransRecord.{name_trans_at};
+
+    ghost reads = { name_trans_at };
 
     fn pass(c: &mut Cursor<'_>) -> Result<(), Fault> {
         read_name_trans_entry(c)?;
         Ok(())
+    }
+}
+
+impl<'a> RecordView<'a> for NameTransRec {
+    type View = NameTransView<'a>;
+
+    ghost shown = { λ view. view };
+
+    fn at(bytes: &'a [u8], place: u32) -> NameTransView<'a> {
+        NameTransView { bytes, place }
     }
 }

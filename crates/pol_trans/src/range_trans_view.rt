@@ -1,15 +1,27 @@
 ghost use Rattle.std.specs.Prelude.{◌≡◌, IfOk};
-ghost use Rattle.pol_cursor.specs.Outcome.{Answers};
+ghost use Rattle.pol_cursor.specs.Outcome.{Answers, field};
 ghost use Rattle.pol_cursor.specs.References.{dangling_of};
 ghost use Rattle.pol_trans.specs.RangeTransRecord.{range_trans_at, range_trans_in, HasRangeTrans, range_trans_references, range_of};
 
-use crate::mentions::{Mention, first_dangling};
 use crate::range_trans_rec::RangeTransRec;
 use crate::rows::RANGE_TRANS;
-use pol_cursor::{Cursor, Fault, Field, Names, Record, TableKind, u32_in};
+use pol_cursor::TableKind::{Classes, Types};
+use pol_cursor::{
+    Cursor, Fault, Field, Mention, Names, ReadAlone, Record, RecordView, first_dangling, u32_in,
+};
 use pol_mls::{RangeView, read_range};
 use std::alloc::{AllocError, Global};
 use std::marker::Model;
+
+// The field of that number.
+fn part(part: u8) -> Field
+    ensures { result ≡ field 35 part }
+{
+    Field {
+        row: RANGE_TRANS,
+        part,
+    }
+}
 
 /// A range transition in the buffer.
 #[derive(Drop)]
@@ -31,14 +43,6 @@ impl<'a> Model for RangeTransView<'a> {
 }
 
 impl<'a> RangeTransView<'a> {
-    /// The range transition at a place that has one.
-    pub fn at(bytes: &'a [u8], place: u32) -> RangeTransView<'a>
-        requires { HasRangeTrans bytes.now place }
-        ensures { result ≡ record { place = place; value = range_trans_in bytes.now place } }
-    {
-        RangeTransView { bytes, place }
-    }
-
     /// The value of the type that makes the object or is the process.
     pub fn source(&self) -> u32
         ensures { result ≡ self.now.value.source }
@@ -74,21 +78,9 @@ impl<'a> RangeTransView<'a> {
         let own = first_dangling(
             names,
             &[
-                Mention::new(RANGE_TRANS, 2, self.place, TableKind::Types, self.source()),
-                Mention::new(
-                    RANGE_TRANS,
-                    3,
-                    self.place + 4,
-                    TableKind::Types,
-                    self.target(),
-                ),
-                Mention::new(
-                    RANGE_TRANS,
-                    4,
-                    self.place + 8,
-                    TableKind::Classes,
-                    self.class(),
-                ),
+                Mention::new(RANGE_TRANS, 2, self.place, Types, self.source()),
+                Mention::new(RANGE_TRANS, 3, self.place + 4, Types, self.target()),
+                Mention::new(RANGE_TRANS, 4, self.place + 8, Classes, self.class()),
             ],
         );
         match own {
@@ -119,35 +111,40 @@ pub fn read_range_trans_entry<'a>(c: &mut Cursor<'a>) -> Result<RangeTransView<'
 {
     let bytes = c.bytes();
     let place = c.place();
-    c.u32(Field {
-        row: RANGE_TRANS,
-        part: 2,
-    })?;
-    c.u32(Field {
-        row: RANGE_TRANS,
-        part: 3,
-    })?;
-    c.u32(Field {
-        row: RANGE_TRANS,
-        part: 4,
-    })?;
+    c.u32(part(2))?;
+    c.u32(part(3))?;
+    c.u32(part(4))?;
     read_range(c)?;
     Ok(RangeTransView { bytes, place })
 }
 
 impl Record for RangeTransRec {
-    ghost use Rattle.pol_trans.specs.RangeTransRecord.{range_trans_at, range_trans_in, HasRangeTrans};
+    ghost use Rattle.pol_trans.specs.RangeTransRecord.{range_trans_in, HasRangeTrans};
 
     type Owned = RangeTransRec;
-
-    ghost reads = { range_trans_at };
 
     ghost standing = { range_trans_in };
 
     ghost has = { HasRangeTrans };
+}
+
+impl ReadAlone for RangeTransRec {
+    ghost use Rattle.pol_trans.specs.RangeTransRecord.{range_trans_at};
+
+    ghost reads = { range_trans_at };
 
     fn pass(c: &mut Cursor<'_>) -> Result<(), Fault> {
         read_range_trans_entry(c)?;
         Ok(())
+    }
+}
+
+impl<'a> RecordView<'a> for RangeTransRec {
+    type View = RangeTransView<'a>;
+
+    ghost shown = { λ view. view };
+
+    fn at(bytes: &'a [u8], place: u32) -> RangeTransView<'a> {
+        RangeTransView { bytes, place }
     }
 }

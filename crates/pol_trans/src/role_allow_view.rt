@@ -1,14 +1,26 @@
 ghost use Rattle.std.specs.Prelude.{◌≡◌, IfOk};
-ghost use Rattle.pol_cursor.specs.Outcome.{Answers};
+ghost use Rattle.pol_cursor.specs.Outcome.{Answers, field};
 ghost use Rattle.pol_cursor.specs.References.{dangling_of};
 ghost use Rattle.pol_trans.specs.RoleAllowRecord.{role_allow_at, role_allow_in, HasRoleAllow, role_allow_references};
 
-use crate::mentions::{Mention, first_dangling};
 use crate::role_allow_rec::RoleAllowRec;
 use crate::rows::ROLE_ALLOW;
-use pol_cursor::{Cursor, Fault, Field, Names, Record, TableKind, u32_in};
+use pol_cursor::TableKind::Roles;
+use pol_cursor::{
+    Cursor, Fault, Field, Mention, Names, ReadAlone, Record, RecordView, first_dangling, u32_in,
+};
 use std::alloc::{AllocError, Global};
 use std::marker::Model;
+
+// The field of that number.
+fn part(part: u8) -> Field
+    ensures { result ≡ field 21 part }
+{
+    Field {
+        row: ROLE_ALLOW,
+        part,
+    }
+}
 
 /// A role allow in the buffer.
 #[derive(Drop)]
@@ -30,14 +42,6 @@ impl<'a> Model for RoleAllowView<'a> {
 }
 
 impl<'a> RoleAllowView<'a> {
-    /// The role allow at a place that has one.
-    pub fn at(bytes: &'a [u8], place: u32) -> RoleAllowView<'a>
-        requires { HasRoleAllow bytes.now place }
-        ensures { result ≡ record { place = place; value = role_allow_in bytes.now place } }
-    {
-        RoleAllowView { bytes, place }
-    }
-
     /// The value of the role that may change.
     pub fn role(&self) -> u32
         ensures { result ≡ self.now.value.role }
@@ -59,14 +63,8 @@ impl<'a> RoleAllowView<'a> {
         first_dangling(
             names,
             &[
-                Mention::new(ROLE_ALLOW, 2, self.place, TableKind::Roles, self.role()),
-                Mention::new(
-                    ROLE_ALLOW,
-                    3,
-                    self.place + 4,
-                    TableKind::Roles,
-                    self.newrole(),
-                ),
+                Mention::new(ROLE_ALLOW, 2, self.place, Roles, self.role()),
+                Mention::new(ROLE_ALLOW, 3, self.place + 4, Roles, self.newrole()),
             ],
         )
     }
@@ -90,30 +88,38 @@ pub fn read_role_allow_entry<'a>(c: &mut Cursor<'a>) -> Result<RoleAllowView<'a>
 {
     let bytes = c.bytes();
     let place = c.place();
-    c.u32(Field {
-        row: ROLE_ALLOW,
-        part: 2,
-    })?;
-    c.u32(Field {
-        row: ROLE_ALLOW,
-        part: 3,
-    })?;
+    c.u32(part(2))?;
+    c.u32(part(3))?;
     Ok(RoleAllowView { bytes, place })
 }
 
 impl Record for RoleAllowRec {
-    ghost use Rattle.pol_trans.specs.RoleAllowRecord.{role_allow_at, role_allow_in, HasRoleAllow};
+    ghost use Rattle.pol_trans.specs.RoleAllowRecord.{role_allow_in, HasRoleAllow};
 
     type Owned = RoleAllowRec;
-
-    ghost reads = { role_allow_at };
 
     ghost standing = { role_allow_in };
 
     ghost has = { HasRoleAllow };
+}
+
+impl ReadAlone for RoleAllowRec {
+    ghost use Rattle.pol_trans.specs.RoleAllowRecord.{role_allow_at};
+
+    ghost reads = { role_allow_at };
 
     fn pass(c: &mut Cursor<'_>) -> Result<(), Fault> {
         read_role_allow_entry(c)?;
         Ok(())
+    }
+}
+
+impl<'a> RecordView<'a> for RoleAllowRec {
+    type View = RoleAllowView<'a>;
+
+    ghost shown = { λ view. view };
+
+    fn at(bytes: &'a [u8], place: u32) -> RoleAllowView<'a> {
+        RoleAllowView { bytes, place }
     }
 }

@@ -1,14 +1,26 @@
 ghost use Rattle.std.specs.Prelude.{◌≡◌, IfOk};
-ghost use Rattle.pol_cursor.specs.Outcome.{Answers};
+ghost use Rattle.pol_cursor.specs.Outcome.{Answers, field};
 ghost use Rattle.pol_cursor.specs.References.{dangling_of};
 ghost use Rattle.pol_trans.specs.RoleTransRecord.{role_trans_at, role_trans_in, HasRoleTrans, role_trans_references};
 
-use crate::mentions::{Mention, first_dangling};
 use crate::role_trans_rec::RoleTransRec;
 use crate::rows::ROLE_TRANS;
-use pol_cursor::{Cursor, Fault, Field, Names, Record, TableKind, u32_in};
+use pol_cursor::TableKind::{Classes, Roles, Types};
+use pol_cursor::{
+    Cursor, Fault, Field, Mention, Names, ReadAlone, Record, RecordView, first_dangling, u32_in,
+};
 use std::alloc::{AllocError, Global};
 use std::marker::Model;
+
+// The field of that number.
+fn part(part: u8) -> Field
+    ensures { result ≡ field 20 part }
+{
+    Field {
+        row: ROLE_TRANS,
+        part,
+    }
+}
 
 /// A role transition in the buffer.
 #[derive(Drop)]
@@ -30,14 +42,6 @@ impl<'a> Model for RoleTransView<'a> {
 }
 
 impl<'a> RoleTransView<'a> {
-    /// The role transition at a place that has one.
-    pub fn at(bytes: &'a [u8], place: u32) -> RoleTransView<'a>
-        requires { HasRoleTrans bytes.now place }
-        ensures { result ≡ record { place = place; value = role_trans_in bytes.now place } }
-    {
-        RoleTransView { bytes, place }
-    }
-
     /// The value of the role that changes.
     pub fn role(&self) -> u32
         ensures { result ≡ self.now.value.role }
@@ -73,28 +77,10 @@ impl<'a> RoleTransView<'a> {
         first_dangling(
             names,
             &[
-                Mention::new(ROLE_TRANS, 2, self.place, TableKind::Roles, self.role()),
-                Mention::new(
-                    ROLE_TRANS,
-                    3,
-                    self.place + 4,
-                    TableKind::Types,
-                    self.type_value(),
-                ),
-                Mention::new(
-                    ROLE_TRANS,
-                    4,
-                    self.place + 8,
-                    TableKind::Roles,
-                    self.newrole(),
-                ),
-                Mention::new(
-                    ROLE_TRANS,
-                    5,
-                    self.place + 12,
-                    TableKind::Classes,
-                    self.class(),
-                ),
+                Mention::new(ROLE_TRANS, 2, self.place, Roles, self.role()),
+                Mention::new(ROLE_TRANS, 3, self.place + 4, Types, self.type_value()),
+                Mention::new(ROLE_TRANS, 4, self.place + 8, Roles, self.newrole()),
+                Mention::new(ROLE_TRANS, 5, self.place + 12, Classes, self.class()),
             ],
         )
     }
@@ -120,38 +106,40 @@ pub fn read_role_trans_entry<'a>(c: &mut Cursor<'a>) -> Result<RoleTransView<'a>
 {
     let bytes = c.bytes();
     let place = c.place();
-    c.u32(Field {
-        row: ROLE_TRANS,
-        part: 2,
-    })?;
-    c.u32(Field {
-        row: ROLE_TRANS,
-        part: 3,
-    })?;
-    c.u32(Field {
-        row: ROLE_TRANS,
-        part: 4,
-    })?;
-    c.u32(Field {
-        row: ROLE_TRANS,
-        part: 5,
-    })?;
+    c.u32(part(2))?;
+    c.u32(part(3))?;
+    c.u32(part(4))?;
+    c.u32(part(5))?;
     Ok(RoleTransView { bytes, place })
 }
 
 impl Record for RoleTransRec {
-    ghost use Rattle.pol_trans.specs.RoleTransRecord.{role_trans_at, role_trans_in, HasRoleTrans};
+    ghost use Rattle.pol_trans.specs.RoleTransRecord.{role_trans_in, HasRoleTrans};
 
     type Owned = RoleTransRec;
-
-    ghost reads = { role_trans_at };
 
     ghost standing = { role_trans_in };
 
     ghost has = { HasRoleTrans };
+}
+
+impl ReadAlone for RoleTransRec {
+    ghost use Rattle.pol_trans.specs.RoleTransRecord.{role_trans_at};
+
+    ghost reads = { role_trans_at };
 
     fn pass(c: &mut Cursor<'_>) -> Result<(), Fault> {
         read_role_trans_entry(c)?;
         Ok(())
+    }
+}
+
+impl<'a> RecordView<'a> for RoleTransRec {
+    type View = RoleTransView<'a>;
+
+    ghost shown = { λ view. view };
+
+    fn at(bytes: &'a [u8], place: u32) -> RoleTransView<'a> {
+        RoleTransView { bytes, place }
     }
 }

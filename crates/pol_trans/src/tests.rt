@@ -87,17 +87,17 @@ fn range_transitions(rt: HostRuntime) -> Result<(), Fail> {
     Ok(())
 }
 
-// The cause, the part and the place of a fault.
-fn fault_of<T: Drop>(read: Result<T, ReadError>) -> (&'static str, u8, u32) {
+// The cause, the field and the place of a fault.
+fn fault_of<T: Drop>(read: Result<T, ReadError>) -> (&'static str, &'static str, u32) {
     match read {
-        Err(ReadError::Fault(fault)) => (fault.cause.word(), fault.field.part, fault.place),
-        Err(ReadError::Memory) => ("memory", 0, 0),
-        Ok(_) => ("", 0, 0),
+        Err(ReadError::Fault(fault)) => (fault.cause.word(), fault.field.word(), fault.place),
+        Err(ReadError::Memory) => ("memory", "", 0),
+        Ok(_) => ("", "", 0),
     }
 }
 
 // The first fault of file-name transitions.
-fn names_fault(alloc: Global, bytes: &[u8], version: u32) -> (&'static str, u8, u32)
+fn names_fault(alloc: Global, bytes: &[u8], version: u32) -> (&'static str, &'static str, u32)
     requires { length bytes.now ≤ 67108864 }
 {
     fault_of(read_name_trans(alloc, &mut Cursor::new(bytes), version))
@@ -106,13 +106,21 @@ fn names_fault(alloc: Global, bytes: &[u8], version: u32) -> (&'static str, u8, 
 #[test]
 fn faults_of_names(rt: HostRuntime) {
     for (bytes, version, want) in [
-        (b"\0\0\0\0".as_slice(), 32, ("", 0, 0)),
-        (b"\x01\0\0\0\0\0\0\0", 32, ("BadName", 2, 4)),
-        (b"\x01\0\0\0\0\0\0\0", 33, ("BadName", 2, 4)),
-        (b"\x01\0\0\0\x02\0\0\0a\0", 32, ("BadName", 3, 8)),
-        (b"\x01\0\0\0\x02\0\0\0a\0", 33, ("BadName", 3, 8)),
-        (b"\x01\0\0\0\x02\0\0\0a", 33, ("Short", 3, 8)),
-        (&ENTRIES, 33, ("BadMapUnit", 1, 21)),
+        (b"\0\0\0\0".as_slice(), 32, ("", "", 0)),
+        (b"\x01\0\0\0\0\0\0\0", 32, ("BadName", "nametrans.len", 4)),
+        (b"\x01\0\0\0\0\0\0\0", 33, ("BadName", "namegroup.len", 4)),
+        (
+            b"\x01\0\0\0\x02\0\0\0a\0",
+            32,
+            ("BadName", "nametrans.name", 8),
+        ),
+        (
+            b"\x01\0\0\0\x02\0\0\0a\0",
+            33,
+            ("BadName", "namegroup.name", 8),
+        ),
+        (b"\x01\0\0\0\x02\0\0\0a", 33, ("Short", "namegroup.name", 8)),
+        (&ENTRIES, 33, ("BadMapUnit", "bitmap.unit", 21)),
     ] {
         assert!(rt; bytes.len() <= 67108864);
         assert_eq!(rt; names_fault(rt.alloc(), bytes, version), want);
@@ -123,22 +131,30 @@ fn faults_of_names(rt: HostRuntime) {
 #[test]
 fn greatest_count(rt: HostRuntime) {
     let bytes = b"\xff\xff\xff\xff";
-    let short = ("Short", 2, 4);
     let alloc = rt.alloc();
+    let role_trans = fault_of(read_role_trans(alloc, &mut Cursor::new(bytes), 31));
+    assert_eq!(rt; role_trans, ("Short", "roletrans.role", 4));
+    let role_allows = fault_of(read_role_allows(alloc, &mut Cursor::new(bytes), 31));
+    assert_eq!(rt; role_allows, ("Short", "roleallow.role", 4));
     assert_eq!(rt;
-        fault_of(read_role_trans(alloc, &mut Cursor::new(bytes), 31)),
-        short
+        names_fault(alloc, bytes, 32),
+        ("Short", "nametrans.len", 4)
     );
     assert_eq!(rt;
-        fault_of(read_role_allows(alloc, &mut Cursor::new(bytes), 31)),
-        short
+        names_fault(alloc, bytes, 33),
+        ("Short", "namegroup.len", 4)
     );
-    assert_eq!(rt;
-        fault_of(read_range_trans(alloc, &mut Cursor::new(bytes), 31)),
-        short
-    );
-    assert_eq!(rt; names_fault(alloc, bytes, 32), short);
-    assert_eq!(rt; names_fault(alloc, bytes, 33), short);
+}
+
+// A smallest policy has 196 bytes, and the count of range transitions is its last field.
+#[test]
+fn end_of_a_smallest_policy(rt: HostRuntime) {
+    let mut policy = [0; 196];
+    policy[192..].fill(0xff);
+    let greatest = fault_of(read_range_trans(rt.alloc(), &mut Cursor::at(&policy, 192), 31));
+    assert_eq!(rt; greatest, ("Short", "rangetrans.source", 196));
+    let cut = fault_of(read_range_trans(rt.alloc(), &mut Cursor::at(&policy[..195], 192), 31));
+    assert_eq!(rt; cut, ("Short", "rangetrans.count", 192));
 }
 
 // The value 9 alone is not declared.
