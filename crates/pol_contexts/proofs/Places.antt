@@ -1,16 +1,21 @@
 -- Where parts end, and the references of two records.
-use Rattle.std.proofs.Common.{◌≡◌, ℕ, ◌+◌, ◌*◌, ◌≤◌, Bool, true, false, Option, Some, None, List, [], ◌∷◌, ◌++◌, length, take, drop, refl, arith}
+use Rattle.std.proofs.Common.{◌≡◌, ℕ, zero, suc, ◌+◌, ◌*◌, ◌≤◌, Bool, true, false, Option, Some, None, List, [], ◌∷◌, ◌++◌, length, take, drop, refl, sym, ap, ◌∙◌, arith}
 use Rattle.std.proofs.lemmas.List.{length-take-le, length-drop}
 use Rattle.std.specs.Prelude.{if◌then◌else◌, is_some}
 use Rattle.pol_cursor.specs.declared.fault.Fault.{Fault}
 use Rattle.pol_cursor.specs.declared.fault.Cause.TheVariants.{Dangling}
 use Rattle.pol_cursor.specs.Outcome.{fault}
-use Rattle.pol_cursor.specs.References.{Named, Reference, dangling_of}
+use Rattle.pol_cursor.specs.References.{Placed, Named, Reference, values_of, dangling_of}
+use Rattle.pol_cursor.specs.Runs.{run_in, HasRun}
+use Rattle.pol_cursor.specs.FileNames.{name_in, name_end}
+use Rattle.pol_cursor.proofs.Lists.{placed_in}
 use Rattle.pol_cursor.specs.Parts.{num}
 use Rattle.pol_bitmap.specs.Nodes.{bitmap_in, bitmap_size, HasBitmap}
 use Rattle.pol_bitmap.proofs.NodePlaces.{length_nodes_in}
 use Rattle.pol_mls.specs.RangeRecord.{range_in, range_length, range_end, high_length, has_high, low_place, HasBitmapIf, HasRange}
 use Rattle.pol_contexts.specs.ContextRecord.{context_in, context_length, context_end, HasContext}
+use Rattle.pol_contexts.specs.GenfsRecord.{path_in, path_length, path_end, HasPath}
+use Rattle.pol_contexts.specs.InnerPlaces.{placed_from}
 
 -- ---- lengths
 
@@ -54,3 +59,24 @@ pub dangling_some : (named : Named) (xs ys : List Reference) (f : Fault) → dan
 dangling_some named [] ys f e = absurd cc
 dangling_some named (x ∷ xs) ys f e =
     some_by (is_some (named x.table x.value)) (dangling_of named xs) (dangling_of named (xs ++ ys)) (fault x.place x.field (Dangling x.table x.value)) f (dangling_some named xs ys f) e
+
+-- ---- the paths of a file system, by their lengths
+
+run_placed_by : {A : Type 0} (standing : List ℕ → ℕ → A) (has : List ℕ → ℕ → Type 0) (ends : List ℕ → ℕ → ℕ) (length_of : A → ℕ) (bytes : List ℕ) → ((p : ℕ) → has bytes p → p + length_of (standing bytes p) ≡ ends bytes p) → (place n : ℕ) → HasRun has ends bytes place n
+    → run_in standing ends bytes place n ≡ placed_from length_of place (values_of (run_in standing ends bytes place n))
+unfolding run_in HasRun placed_from
+run_placed_by standing has ends length_of bytes reaches place zero h = refl
+run_placed_by {A} standing has ends length_of bytes reaches place (suc n) h =
+    let others : List (Placed A) = run_in standing ends bytes (ends bytes place) n in
+    ap (λ (rs : List (Placed A)). placed_in standing bytes place ∷ rs)
+    (run_placed_by standing has ends length_of bytes reaches (ends bytes place) n h.1 ∙ ap (λ (p : ℕ). placed_from length_of p (values_of others)) (sym (reaches place h.0)))
+
+path_reaches : (bytes : List ℕ) (place : ℕ) → HasPath bytes place → place + path_length (path_in bytes place) ≡ path_end bytes place
+path_reaches bytes place h =
+    let ends = context_ends bytes (name_end bytes place + 4) h in
+    let named : length (name_in bytes place) ≡ num bytes place 4 = length_part bytes (place + 4) (num bytes place 4) (omega (arith, h.1.0)) in
+    omega (arith, ends.0, named)
+
+pub paths_placed : (bytes : List ℕ) (place n : ℕ) → HasRun HasPath path_end bytes place n
+    → run_in path_in path_end bytes place n ≡ placed_from path_length place (values_of (run_in path_in path_end bytes place n))
+paths_placed bytes place n h = run_placed_by path_in HasPath path_end path_length bytes (path_reaches bytes) place n h

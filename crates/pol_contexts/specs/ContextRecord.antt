@@ -52,14 +52,10 @@ HasContext bytes place = HasRange bytes (place + 12)
 
 -- ---- what it names
 
--- the type of a context at a place, and then the sensitivities
-abbrev pub type_references : ℕ → ContextRec → List Reference
-type_references place context = record { place = place + 8; field = field 24 3; table = Types; value = context.type_value } ∷ range_references (record { place = place + 12; value = context.range })
-
--- the role, and then those
-abbrev pub role_references : ℕ → ContextRec → List Reference
-role_references place context = record { place = place + 4; field = field 24 2; table = Roles; value = context.role } ∷ type_references place context
-
 -- the user, the role and the type, and then the sensitivities
 abbrev pub context_references : Placed ContextRec → List Reference
-context_references context = record { place = context.place; field = field 24 1; table = Users; value = context.value.user } ∷ role_references context.place context.value
+context_references context =
+    record { place = context.place; field = field 24 1; table = Users; value = context.value.user } ∷
+    record { place = context.place + 4; field = field 24 2; table = Roles; value = context.value.role } ∷
+    record { place = context.place + 8; field = field 24 3; table = Types; value = context.value.type_value } ∷
+    range_references (record { place = context.place + 12; value = context.value.range })

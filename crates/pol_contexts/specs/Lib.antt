@@ -8,5 +8,6 @@ pub mod IbPkeyRecord
 pub mod IbEndPortRecord
 pub mod ContextTables
 pub mod EntryLists
-pub mod ContextTexts
+pub mod ContextText
+pub mod InnerPlaces
 pub mod GenfsRecord

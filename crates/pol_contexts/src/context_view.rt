@@ -1,10 +1,11 @@
 ghost use Rattle.std.specs.Prelude.{◌≡◌, ◌+◌, IfOk, OnOk};
 ghost use Rattle.pol_cursor.specs.Outcome.{Answers, field};
 ghost use Rattle.pol_cursor.specs.References.{dangling_of};
-ghost use Rattle.pol_contexts.specs.ContextRecord.{context_at, context_in, context_end, HasContext, role_references, type_references, context_references};
+ghost use Rattle.pol_contexts.specs.ContextRecord.{context_at, context_in, context_end, HasContext, context_references};
 
 use crate::context_rec::ContextRec;
-use pol_cursor::{Cursor, Fault, Field, Names, TableKind, dangling, u32_in};
+use pol_cursor::TableKind::{Roles, Types, Users};
+use pol_cursor::{Cursor, Fault, Field, Mention, Names, first_dangling, u32_in};
 use pol_mls::{RangeView, read_range};
 use std::alloc::{AllocError, Global};
 use std::marker::Model;
@@ -76,37 +77,15 @@ impl<'a> ContextView<'a> {
     pub fn dangling<N: Names>(&self, names: &N) -> Option<Fault>
         ensures { result ≡ dangling_of (N.named names.now) (context_references self.now) }
     {
-        match dangling(names, self.place, part(1), TableKind::Users, self.user()) {
-            Some(fault) => Some(fault),
-            None => self.dangling_role(names),
-        }
-    }
-
-    fn dangling_role<N: Names>(&self, names: &N) -> Option<Fault>
-        ensures { result ≡ dangling_of (N.named names.now) (role_references self.now.place self.now.value) }
-    {
-        match dangling(
+        let own = first_dangling(
             names,
-            self.place + 4,
-            part(2),
-            TableKind::Roles,
-            self.role(),
-        ) {
-            Some(fault) => Some(fault),
-            None => self.dangling_type(names),
-        }
-    }
-
-    fn dangling_type<N: Names>(&self, names: &N) -> Option<Fault>
-        ensures { result ≡ dangling_of (N.named names.now) (type_references self.now.place self.now.value) }
-    {
-        match dangling(
-            names,
-            self.place + 8,
-            part(3),
-            TableKind::Types,
-            self.type_value(),
-        ) {
+            &[
+                Mention::new(24, 1, self.place, Users, self.user()),
+                Mention::new(24, 2, self.place + 4, Roles, self.role()),
+                Mention::new(24, 3, self.place + 8, Types, self.type_value()),
+            ],
+        );
+        match own {
             Some(fault) => Some(fault),
             None => self.range().dangling(names),
         }

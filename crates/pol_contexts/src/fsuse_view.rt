@@ -8,7 +8,9 @@ use crate::causes::behaviour_cause;
 use crate::context_view::{ContextView, read_context};
 use crate::fsuse_rec::FsUseRec;
 use crate::parts::{name_end, name_standing, owned};
-use pol_cursor::{Cursor, Fault, Field, Names, Record, RecordView, read_name, refuse, u32_in};
+use pol_cursor::{
+    Cursor, Fault, Field, Names, ReadAlone, Record, RecordView, read_name, refuse, u32_in,
+};
 use std::alloc::{AllocError, Global};
 use std::marker::Model;
 
@@ -80,16 +82,15 @@ pub struct FsUse;
 impl Record for FsUse {
     type Owned = FsUseRec;
 
-    ghost reads = { fsuse_at };
-
     ghost standing = { fsuse_in };
 
     ghost has = { HasFsUse };
+}
 
-    fn pass(c: &mut Cursor<'_>) -> Result<(), Fault>
-        ensures exact { Answers (λ _. fsuse_in c.old.bytes c.old.place) result fsuse_at c.old c.new }
-        ensures stands { OnOk result (HasFsUse c.old.bytes c.old.place) }
-    {
+impl ReadAlone for FsUse {
+    ghost reads = { fsuse_at };
+
+    fn pass(c: &mut Cursor<'_>) -> Result<(), Fault> {
         read_fsuse_entry(c)?;
         Ok(())
     }

@@ -2,13 +2,13 @@ ghost use Rattle.std.specs.Prelude.{◌≡◌, ◌+◌, IfOk, OnOk};
 ghost use Rattle.pol_cursor.specs.Outcome.{Answers, field};
 ghost use Rattle.pol_cursor.specs.Parts.{num, number};
 ghost use Rattle.pol_cursor.specs.References.{dangling_of};
-ghost use Rattle.pol_contexts.specs.GenfsRecord.{path_at, path_in, HasPath, class_place, class_references, path_references};
+ghost use Rattle.pol_contexts.specs.GenfsRecord.{path_in, HasPath, class_place, class_references, context_of_path, path_references};
 
 use crate::context_view::{ContextView, read_context};
 use crate::genfs_rec::GenfsPathRec;
-use crate::parts::{name_end, name_standing, owned};
+use crate::parts::{context_end, name_end, name_standing, owned};
 use pol_cursor::{
-    Cursor, Fault, Field, Names, Record, RecordView, TableKind, dangling, read_name, u32_in,
+    Cursor, Fault, Field, Inner, Names, Record, RecordView, TableKind, dangling, read_name, u32_in,
 };
 use std::alloc::{AllocError, Global};
 use std::marker::Model;
@@ -50,7 +50,7 @@ impl<'a> GenfsPathView<'a> {
     /// Their context.
     #[tactic(auto, using(crate::proofs::Places::length_part, crate::proofs::Places::context_ends))]
     pub fn context(&self) -> ContextView<'a>
-        ensures { result ≡ record { place = class_place self.now + 4; value = self.now.value.context } }
+        ensures { result ≡ context_of_path self.now }
     {
         ContextView::at(self.bytes, name_end(self.bytes, self.place) + 4)
     }
@@ -99,17 +99,30 @@ pub struct GenfsPath;
 impl Record for GenfsPath {
     type Owned = GenfsPathRec;
 
-    ghost reads = { path_at };
-
     ghost standing = { path_in };
 
     ghost has = { HasPath };
+}
 
-    fn pass(c: &mut Cursor<'_>) -> Result<(), Fault>
-        ensures exact { Answers (λ _. path_in c.old.bytes c.old.place) result path_at c.old c.new }
-        ensures stands { OnOk result (HasPath c.old.bytes c.old.place) }
-    {
-        read_genfs_path(c)?;
+impl Inner for GenfsPath {
+    ghost use Rattle.pol_contexts.specs.GenfsRecord.{path_at, path_end};
+
+    type Given = ();
+
+    ghost reads = { λ _. path_at };
+
+    ghost ends = { path_end };
+
+    #[tactic(auto, using(crate::proofs::Places::context_ends))]
+    fn end(bytes: &[u8], place: u32) -> u32 {
+        context_end(bytes, name_end(bytes, place) + 4)
+    }
+
+    #[tactic(auto, unfolding(crate::specs::GenfsRecord::path_at))]
+    fn pass(c: &mut Cursor<'_>, _given: &()) -> Result<(), Fault> {
+        read_name(c, 34, 5)?;
+        read_class(c)?;
+        read_context(c)?;
         Ok(())
     }
 }
@@ -132,18 +145,4 @@ fn read_class(c: &mut Cursor<'_>) -> Result<u32, Fault>
     ensures same { IfOk result (λ class. class ≡ num c.old.bytes c.old.place 4) }
 {
     c.u32(Field { row: 34, part: 7 })
-}
-
-/// The path at the cursor, which then stands behind it. Takes no memory.
-#[tactic(auto, unfolding(crate::specs::GenfsRecord::path_at))]
-pub fn read_genfs_path<'a>(c: &mut Cursor<'a>) -> Result<GenfsPathView<'a>, Fault>
-    ensures exact { Answers (λ entry. entry.value) result path_at c.old c.new }
-    ensures stands { IfOk result (λ entry. HasPath c.old.bytes c.old.place × (entry ≡ record { place = c.old.place; value = path_in c.old.bytes c.old.place })) }
-{
-    let bytes = c.bytes();
-    let place = c.place();
-    read_name(c, 34, 5)?;
-    read_class(c)?;
-    read_context(c)?;
-    Ok(GenfsPathView { bytes, place })
 }

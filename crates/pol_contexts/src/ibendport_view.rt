@@ -8,8 +8,8 @@ use crate::context_view::{ContextView, read_context};
 use crate::ibendport_rec::IbEndPortRec;
 use crate::parts::owned;
 use pol_cursor::{
-    Cursor, Fault, Field, Names, Record, RecordView, read_name_bytes, read_name_length, string_in,
-    u32_in,
+    Cursor, Fault, Field, Names, ReadAlone, Record, RecordView, read_name_bytes, read_name_length,
+    string_in, u32_in,
 };
 use std::alloc::{AllocError, Global};
 use std::marker::Model;
@@ -86,16 +86,15 @@ pub struct IbEndPort;
 impl Record for IbEndPort {
     type Owned = IbEndPortRec;
 
-    ghost reads = { ibendport_at };
-
     ghost standing = { ibendport_in };
 
     ghost has = { HasIbEndPort };
+}
 
-    fn pass(c: &mut Cursor<'_>) -> Result<(), Fault>
-        ensures exact { Answers (λ _. ibendport_in c.old.bytes c.old.place) result ibendport_at c.old c.new }
-        ensures stands { OnOk result (HasIbEndPort c.old.bytes c.old.place) }
-    {
+impl ReadAlone for IbEndPort {
+    ghost reads = { ibendport_at };
+
+    fn pass(c: &mut Cursor<'_>) -> Result<(), Fault> {
         read_ibendport_entry(c)?;
         Ok(())
     }

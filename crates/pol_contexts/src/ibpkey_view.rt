@@ -6,7 +6,7 @@ ghost use Rattle.pol_contexts.specs.IbPkeyRecord.{ibpkey_at, ibpkey_in, HasIbPke
 use crate::context_view::{ContextView, read_context};
 use crate::ibpkey_rec::IbPkeyRec;
 use crate::parts::array_in;
-use pol_cursor::{Cursor, Fault, Field, Names, Record, RecordView, u32_in};
+use pol_cursor::{Cursor, Fault, Field, Names, ReadAlone, Record, RecordView, u32_in};
 use std::alloc::{AllocError, Global};
 use std::marker::Model;
 
@@ -85,16 +85,15 @@ pub struct IbPkey;
 impl Record for IbPkey {
     type Owned = IbPkeyRec;
 
-    ghost reads = { ibpkey_at };
-
     ghost standing = { ibpkey_in };
 
     ghost has = { HasIbPkey };
+}
 
-    fn pass(c: &mut Cursor<'_>) -> Result<(), Fault>
-        ensures exact { Answers (λ _. ibpkey_in c.old.bytes c.old.place) result ibpkey_at c.old c.new }
-        ensures stands { OnOk result (HasIbPkey c.old.bytes c.old.place) }
-    {
+impl ReadAlone for IbPkey {
+    ghost reads = { ibpkey_at };
+
+    fn pass(c: &mut Cursor<'_>) -> Result<(), Fault> {
         read_ibpkey_entry(c)?;
         Ok(())
     }

@@ -1,15 +1,18 @@
 //! The kinds of entries that two tables have in the same form, and their readers.
 
-ghost use Rattle.std.specs.Prelude.{◌≡◌, IfOk, OnOk};
+ghost use Rattle.std.specs.Prelude.{◌≡◌, ◌++◌, IfOk, OnOk};
 ghost use Rattle.pol_cursor.specs.Outcome.{Answers};
-ghost use Rattle.pol_contexts.specs.NamedRecord.{named_at, named_in, HasNamed};
-ghost use Rattle.pol_contexts.specs.AddressRecord.{address_at, address_in, HasAddress};
+ghost use Rattle.pol_contexts.specs.NamedRecord.{named_at, named_in, spell_named, HasNamed};
+ghost use Rattle.pol_contexts.specs.AddressRecord.{address_at, address_in, spell_address, HasAddress};
 
 use crate::address_rec::AddressRec;
 use crate::address_view::{AddressView, read_address};
+use crate::address_write::write_address;
 use crate::named_rec::NamedRec;
 use crate::named_view::{NamedView, read_named};
-use pol_cursor::{Cursor, Fault, Record, RecordView};
+use crate::named_write::write_named;
+use pol_cursor::{Cursor, Fault, ReadAlone, Record, RecordView};
+use std::alloc::AllocError;
 
 /// The contexts of a file system, and their owned form.
 pub type FsView<'a> = NamedView<'a>;
@@ -31,61 +34,34 @@ pub type Node6View<'a> = AddressView<'a, 16>;
 
 pub type Node6Rec = AddressRec<16>;
 
-/// The kind of the entries of file systems.
+/// The kind of the entries of the table of that code, by names.
 #[derive(Drop)]
-pub struct Fs;
+pub struct Named<const ROW: u8>;
 
-impl Record for Fs {
-    type Owned = NamedRec;
-
-    ghost reads = { named_at 26 };
-
-    ghost standing = { named_in };
-
-    ghost has = { HasNamed };
-
-    fn pass(c: &mut Cursor<'_>) -> Result<(), Fault>
-        ensures exact { Answers (λ _. named_in c.old.bytes c.old.place) result (named_at 26) c.old c.new }
-        ensures stands { OnOk result (HasNamed c.old.bytes c.old.place) }
-    {
-        read_fs_entry(c)?;
-        Ok(())
-    }
-}
-
-impl<'a> RecordView<'a> for Fs {
-    type View = NamedView<'a>;
-
-    ghost shown = { λ v. v };
-
-    fn at(bytes: &'a [u8], place: u32) -> NamedView<'a> {
-        NamedView::at(bytes, place)
-    }
-}
+/// The kind of the entries of file systems.
+pub type Fs = Named<26>;
 
 /// The kind of the entries of network interfaces.
-#[derive(Drop)]
-pub struct Netif;
+pub type Netif = Named<28>;
 
-impl Record for Netif {
+impl<const ROW: u8> Record for Named<ROW> {
     type Owned = NamedRec;
-
-    ghost reads = { named_at 28 };
 
     ghost standing = { named_in };
 
     ghost has = { HasNamed };
+}
 
-    fn pass(c: &mut Cursor<'_>) -> Result<(), Fault>
-        ensures exact { Answers (λ _. named_in c.old.bytes c.old.place) result (named_at 28) c.old c.new }
-        ensures stands { OnOk result (HasNamed c.old.bytes c.old.place) }
-    {
-        read_netif_entry(c)?;
+impl<const ROW: u8> ReadAlone for Named<ROW> {
+    ghost reads = { named_at ROW };
+
+    fn pass(c: &mut Cursor<'_>) -> Result<(), Fault> {
+        read_named(c, ROW)?;
         Ok(())
     }
 }
 
-impl<'a> RecordView<'a> for Netif {
+impl<'a, const ROW: u8> RecordView<'a> for Named<ROW> {
     type View = NamedView<'a>;
 
     ghost shown = { λ v. v };
@@ -102,16 +78,15 @@ pub struct Node;
 impl Record for Node {
     type Owned = AddressRec<4>;
 
-    ghost reads = { address_at 29 4 };
-
     ghost standing = { address_in 4 };
 
     ghost has = { HasAddress 4 };
+}
 
-    fn pass(c: &mut Cursor<'_>) -> Result<(), Fault>
-        ensures exact { Answers (λ _. address_in 4 c.old.bytes c.old.place) result (address_at 29 4) c.old c.new }
-        ensures stands { OnOk result (HasAddress 4 c.old.bytes c.old.place) }
-    {
+impl ReadAlone for Node {
+    ghost reads = { address_at 29 4 };
+
+    fn pass(c: &mut Cursor<'_>) -> Result<(), Fault> {
         read_node_entry(c)?;
         Ok(())
     }
@@ -134,16 +109,15 @@ pub struct Node6;
 impl Record for Node6 {
     type Owned = AddressRec<16>;
 
-    ghost reads = { address_at 31 16 };
-
     ghost standing = { address_in 16 };
 
     ghost has = { HasAddress 16 };
+}
 
-    fn pass(c: &mut Cursor<'_>) -> Result<(), Fault>
-        ensures exact { Answers (λ _. address_in 16 c.old.bytes c.old.place) result (address_at 31 16) c.old c.new }
-        ensures stands { OnOk result (HasAddress 16 c.old.bytes c.old.place) }
-    {
+impl ReadAlone for Node6 {
+    ghost reads = { address_at 31 16 };
+
+    fn pass(c: &mut Cursor<'_>) -> Result<(), Fault> {
         read_node6_entry(c)?;
         Ok(())
     }
@@ -189,4 +163,34 @@ pub fn read_node6_entry<'a>(c: &mut Cursor<'a>) -> Result<Node6View<'a>, Fault>
     ensures stands { IfOk result (λ entry. HasAddress 16 c.old.bytes c.old.place × (entry ≡ record { place = c.old.place; value = address_in 16 c.old.bytes c.old.place })) }
 {
     read_address(c, 31)
+}
+
+/// Appends the bytes of the entry of a file system, which are the same in each version.
+///
+/// After want of memory a part of them may be there; so it is with the writers below.
+pub fn write_fs(entry: &FsRec, version: u32, out: &mut Vec<u8>) -> Result<(), AllocError>
+    ensures { OnOk result (out.new.items ≡ out.old.items ++ spell_named entry.now) }
+{
+    write_named(entry, version, out)
+}
+
+/// Appends the bytes of the entry of a network interface, which are the same in each version.
+pub fn write_netif(entry: &NetifRec, version: u32, out: &mut Vec<u8>) -> Result<(), AllocError>
+    ensures { OnOk result (out.new.items ≡ out.old.items ++ spell_named entry.now) }
+{
+    write_named(entry, version, out)
+}
+
+/// Appends the bytes of the entry of IPv4 addresses, which are the same in each version.
+pub fn write_node(entry: &NodeRec, version: u32, out: &mut Vec<u8>) -> Result<(), AllocError>
+    ensures { OnOk result (out.new.items ≡ out.old.items ++ spell_address entry.now) }
+{
+    write_address(entry, version, out)
+}
+
+/// Appends the bytes of the entry of IPv6 addresses, which are the same in each version.
+pub fn write_node6(entry: &Node6Rec, version: u32, out: &mut Vec<u8>) -> Result<(), AllocError>
+    ensures { OnOk result (out.new.items ≡ out.old.items ++ spell_address entry.now) }
+{
+    write_address(entry, version, out)
 }

@@ -13,6 +13,7 @@ mod fsuse_view;
 mod fsuse_write;
 mod genfs_path_view;
 mod genfs_rec;
+mod genfs_view;
 mod genfs_write;
 mod ibendport_rec;
 mod ibendport_view;
@@ -38,16 +39,16 @@ mod tests;
 mod texts;
 
 pub use address_rec::AddressRec;
-pub use address_view::{AddressView, read_address};
-pub use address_write::write_address;
+pub use address_view::AddressView;
 pub use context_rec::ContextRec;
 pub use context_view::{ContextView, read_context};
 pub use context_write::write_context;
 pub use fsuse_rec::FsUseRec;
 pub use fsuse_view::{FsUse, FsUseView, read_fsuse_entry};
 pub use fsuse_write::write_fsuse;
-pub use genfs_path_view::{GenfsPath, GenfsPathView, read_genfs_path};
+pub use genfs_path_view::{GenfsPath, GenfsPathView};
 pub use genfs_rec::{GenfsPathRec, GenfsPathRecList, GenfsRec, GenfsRecList};
+pub use genfs_view::{Genfs, GenfsView, read_genfs_entry};
 pub use genfs_write::write_genfs;
 pub use ibendport_rec::IbEndPortRec;
 pub use ibendport_view::{IbEndPort, IbEndPortView, read_ibendport_entry};
@@ -57,11 +58,11 @@ pub use ibpkey_view::{IbPkey, IbPkeyView, read_ibpkey_entry};
 pub use ibpkey_write::write_ibpkey;
 pub use kinds::{
     Fs, FsRec, FsView, Netif, NetifRec, NetifView, Node, Node6, Node6Rec, Node6View, NodeRec,
-    NodeView, read_fs_entry, read_netif_entry, read_node_entry, read_node6_entry,
+    NodeView, read_fs_entry, read_netif_entry, read_node_entry, read_node6_entry, write_fs,
+    write_netif, write_node, write_node6,
 };
 pub use named_rec::NamedRec;
-pub use named_view::{NamedView, read_named};
-pub use named_write::write_named;
+pub use named_view::NamedView;
 pub use port_rec::PortRec;
 pub use port_view::{Port, PortView, read_port_entry};
 pub use port_write::write_port;
@@ -74,11 +75,8 @@ pub use sid_rec::SidRec;
 pub use sid_view::{Sid, SidView, read_sid_entry};
 pub use sid_write::write_sid;
 pub use tables::{
-    Contexts, FsList, FsRecList, FsUseList, FsUseRecList, IbEndPortList, IbEndPortRecList,
-    IbPkeyList, IbPkeyRecList, NetifList, NetifRecList, Node6List, Node6RecList, NodeList,
-    NodeRecList, PortList, PortRecList, SidList, SidRecList, read_contexts,
+    Contexts, FsList, FsRecList, FsUseList, FsUseRecList, GenfsList, IbEndPortList,
+    IbEndPortRecList, IbPkeyList, IbPkeyRecList, NetifList, NetifRecList, Node6List, Node6RecList,
+    NodeList, NodeRecList, PortList, PortRecList, SidList, SidRecList, read_contexts, read_genfs,
 };
-pub use texts::{
-    behaviour_word, context_text, push_groups_text, push_ipv4_text, push_name_text,
-    push_protocol_name, push_sid_name,
-};
+pub use texts::context_text;

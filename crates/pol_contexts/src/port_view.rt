@@ -5,7 +5,7 @@ ghost use Rattle.pol_contexts.specs.PortRecord.{port_at, port_in, HasPort, port_
 
 use crate::context_view::{ContextView, read_context};
 use crate::port_rec::PortRec;
-use pol_cursor::{Cursor, Fault, Field, Names, Record, RecordView, u32_in};
+use pol_cursor::{Cursor, Fault, Field, Names, ReadAlone, Record, RecordView, u32_in};
 use std::alloc::{AllocError, Global};
 use std::marker::Model;
 
@@ -84,16 +84,15 @@ pub struct Port;
 impl Record for Port {
     type Owned = PortRec;
 
-    ghost reads = { port_at };
-
     ghost standing = { port_in };
 
     ghost has = { HasPort };
+}
 
-    fn pass(c: &mut Cursor<'_>) -> Result<(), Fault>
-        ensures exact { Answers (λ _. port_in c.old.bytes c.old.place) result port_at c.old c.new }
-        ensures stands { OnOk result (HasPort c.old.bytes c.old.place) }
-    {
+impl ReadAlone for Port {
+    ghost reads = { port_at };
+
+    fn pass(c: &mut Cursor<'_>) -> Result<(), Fault> {
         read_port_entry(c)?;
         Ok(())
     }

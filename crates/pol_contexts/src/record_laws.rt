@@ -91,8 +91,10 @@ pub fn device_ports_have_laws()
     ensures list_spelled { IsReadFromSpelling (entries_at 33 ibendport_at) (spell_counted spell_ibendport) (CountedFits IbEndPortFits) }
 {}
 
-/// The same of a file system with its paths and their contexts.
+/// The same of a file system of genfs with its paths, and of the list of such file systems.
 pub fn genfs_have_laws()
     ensures again { IsReadAgain genfs_at spell_genfs GenfsFits }
     ensures spelled { IsReadFromSpelling genfs_at spell_genfs GenfsFits }
+    ensures list_again { IsReadAgain (entries_at 34 genfs_at) (spell_counted spell_genfs) (CountedFits GenfsFits) }
+    ensures list_spelled { IsReadFromSpelling (entries_at 34 genfs_at) (spell_counted spell_genfs) (CountedFits GenfsFits) }
 {}

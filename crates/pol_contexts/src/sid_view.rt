@@ -5,7 +5,7 @@ ghost use Rattle.pol_contexts.specs.SidRecord.{sid_at, sid_in, HasSid, sid_refer
 
 use crate::context_view::{ContextView, read_context};
 use crate::sid_rec::SidRec;
-use pol_cursor::{Cursor, Fault, Field, Names, Record, RecordView, u32_in};
+use pol_cursor::{Cursor, Fault, Field, Names, ReadAlone, Record, RecordView, u32_in};
 use std::alloc::{AllocError, Global};
 use std::marker::Model;
 
@@ -68,16 +68,15 @@ pub struct Sid;
 impl Record for Sid {
     type Owned = SidRec;
 
-    ghost reads = { sid_at };
-
     ghost standing = { sid_in };
 
     ghost has = { HasSid };
+}
 
-    fn pass(c: &mut Cursor<'_>) -> Result<(), Fault>
-        ensures exact { Answers (λ _. sid_in c.old.bytes c.old.place) result sid_at c.old c.new }
-        ensures stands { OnOk result (HasSid c.old.bytes c.old.place) }
-    {
+impl ReadAlone for Sid {
+    ghost reads = { sid_at };
+
+    fn pass(c: &mut Cursor<'_>) -> Result<(), Fault> {
         read_sid_entry(c)?;
         Ok(())
     }

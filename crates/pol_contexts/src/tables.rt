@@ -1,10 +1,12 @@
 //! The tables that hold contexts.
 
 ghost use Rattle.pol_cursor.specs.Outcome.{Yields};
+ghost use Rattle.pol_contexts.specs.GenfsRecord.{genfs_at};
 ghost use Rattle.pol_contexts.specs.ContextTables.{table_if, table_at, contexts_at};
 
 use crate::fsuse_rec::FsUseRec;
 use crate::fsuse_view::FsUse;
+use crate::genfs_view::Genfs;
 use crate::ibendport_rec::IbEndPortRec;
 use crate::ibendport_view::IbEndPort;
 use crate::ibpkey_rec::IbPkeyRec;
@@ -14,9 +16,10 @@ use crate::port_rec::PortRec;
 use crate::port_view::Port;
 use crate::sid_rec::SidRec;
 use crate::sid_view::Sid;
-use pol_cursor::{Cursor, Field, OwnedList, ReadError, Record, Records, read_counted};
+use pol_cursor::{Cursor, Field, OwnedList, ReadAlone, ReadError, Records, read_counted};
 use std::alloc::Global;
 
+// The lists of views, in file order.
 pub type SidList<'a> = Records<'a, Sid>;
 
 pub type FsList<'a> = Records<'a, Fs>;
@@ -35,6 +38,9 @@ pub type IbPkeyList<'a> = Records<'a, IbPkey>;
 
 pub type IbEndPortList<'a> = Records<'a, IbEndPort>;
 
+pub type GenfsList<'a> = Records<'a, Genfs>;
+
+// The same lists, owned.
 pub type SidRecList = OwnedList<SidRec>;
 
 pub type FsRecList = OwnedList<FsRec>;
@@ -92,9 +98,20 @@ pub fn read_contexts<'a>(
     })
 }
 
+/// Reads the count and the file systems of genfs, which are the same in each version.
+pub fn read_genfs<'a>(
+    alloc: Global,
+    c: &mut Cursor<'a>,
+    _version: u32,
+) -> Result<GenfsList<'a>, ReadError>
+    ensures { Yields (λ list. list) result (table_at 34 genfs_at) c.old c.new }
+{
+    read_table(alloc, c, 34)
+}
+
 // Reads the table of that code.
 #[tactic(auto, unfolding(crate::specs::ContextTables::table_at))]
-fn read_table<'a, K: Record + Drop>(
+fn read_table<'a, K: ReadAlone + Drop>(
     alloc: Global,
     c: &mut Cursor<'a>,
     row: u8,
@@ -106,7 +123,7 @@ fn read_table<'a, K: Record + Drop>(
 
 // Reads the table of that code, where there is one.
 #[tactic(auto, unfolding(crate::specs::ContextTables::table_if))]
-fn read_table_if<'a, K: Record + Drop>(
+fn read_table_if<'a, K: ReadAlone + Drop>(
     alloc: Global,
     c: &mut Cursor<'a>,
     there: bool,

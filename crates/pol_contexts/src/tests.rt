@@ -16,20 +16,31 @@ fn with_context(alloc: Global, head: &[u8]) -> Result<Vec<u8>, AllocError> {
     Ok(bytes)
 }
 
-// The values 1 to 4 have the table's word as their name. The others are not declared.
-struct TableNames;
+// The names of that context. No class is declared.
+struct SmallNames;
 
-impl Names for TableNames {
-    ghost use Rattle.std.specs.Prelude.{Some, None, nat_le, if◌then◌else◌};
-    ghost use Rattle.pol_cursor.specs.FaultWords.{table_word};
+impl Names for SmallNames {
+    ghost use Rattle.std.specs.Prelude.{ℕ, List, Option, Some, None, codes, nat_eq, if◌then◌else◌};
+    ghost use Rattle.pol_cursor.specs.declared.table_kind.TableKind.TheVariants.{Users, Roles, Types, Levels, Categories};
 
-    ghost named = { λ _ table value. if nat_le value 4 then Some (table_word table) else None };
+    ghost named = { λ _ table value. elim table as (λ _. Option (List ℕ)) [
+      | Users ↦ if nat_eq value 1 then Some (codes "u") else None
+      | Roles ↦ if nat_eq value 1 then Some (codes "r") else None
+      | Types ↦ if nat_eq value 4 then Some (codes "t") else None
+      | Levels ↦ if nat_eq value 1 then Some (codes "s0") else None
+      | Categories ↦ if nat_eq value 1 then Some (codes "c0") else if nat_eq value 2 then Some (codes "c1") else None
+      | _ ↦ None
+    ] };
 
     fn name(&self, table: TableKind, value: u32) -> Option<&[u8]> {
-        if value <= 4 {
-            Some(table.word().as_bytes())
-        } else {
-            None
+        match table {
+            TableKind::Users if value == 1 => Some(b"u"),
+            TableKind::Roles if value == 1 => Some(b"r"),
+            TableKind::Types if value == 4 => Some(b"t"),
+            TableKind::Levels if value == 1 => Some(b"s0"),
+            TableKind::Categories if value == 1 => Some(b"c0"),
+            TableKind::Categories if value == 2 => Some(b"c1"),
+            _ => None,
         }
     }
 }
@@ -39,17 +50,24 @@ fn initial_sid_30(rt: HostRuntime) -> Result<(), Fail> {
     let bytes = with_context(rt.alloc(), b"\x1e\0\0\0")?;
     assert!(rt; bytes.len() <= 67108864);
     let entry = read_sid_entry(&mut Cursor::new(&bytes)).map_err(|fault| fault.cause.word())?;
-    let mut text = Vec::new(rt.alloc());
-    push_sid_name(&mut text, entry.sid())?;
-    assert_eq!(rt; text.as_slice(), b"sid_30".as_slice());
-    let text = context_text(rt.alloc(), &entry.context(), &TableNames)?;
-    assert_eq!(rt;
-        text.as_slice(),
-        b"users:roles:types:levels:categories,categories".as_slice()
-    );
-    assert!(rt; entry.dangling(&TableNames).is_none());
+    assert_eq!(rt; entry.sid(), 30);
+    let text = context_text(rt.alloc(), &entry.context(), &SmallNames)?;
+    assert_eq!(rt; text.as_slice(), b"u:r:t:s0:c0,c1".as_slice());
+    assert!(rt; entry.dangling(&SmallNames).is_none());
     let mut out = Vec::new(rt.alloc());
     write_sid(&entry.rec(rt.alloc())?, 31, &mut out)?;
+    assert_eq!(rt; out, bytes);
+    Ok(())
+}
+
+#[test]
+fn file_system(rt: HostRuntime) -> Result<(), Fail> {
+    let mut bytes = with_context(rt.alloc(), b"\x02\0\0\0fs")?;
+    bytes.extend_from_slice(&CONTEXT)?;
+    assert!(rt; bytes.len() <= 67108864);
+    let entry = read_fs_entry(&mut Cursor::new(&bytes)).map_err(|fault| fault.cause.word())?;
+    let mut out = Vec::new(rt.alloc());
+    write_fs(&entry.rec(rt.alloc())?, 31, &mut out)?;
     assert_eq!(rt; out, bytes);
     Ok(())
 }
@@ -60,11 +78,20 @@ fn port_22(rt: HostRuntime) -> Result<(), Fail> {
     assert!(rt; bytes.len() <= 67108864);
     let entry = read_port_entry(&mut Cursor::new(&bytes)).map_err(|fault| fault.cause.word())?;
     assert_eq!(rt; (entry.protocol(), entry.low(), entry.high()), (6, 22, 22));
-    let mut text = Vec::new(rt.alloc());
-    push_protocol_name(&mut text, entry.protocol())?;
-    assert_eq!(rt; text.as_slice(), b"tcp".as_slice());
     let mut out = Vec::new(rt.alloc());
     write_port(&entry.rec(rt.alloc())?, 31, &mut out)?;
+    assert_eq!(rt; out, bytes);
+    Ok(())
+}
+
+#[test]
+fn interface(rt: HostRuntime) -> Result<(), Fail> {
+    let mut bytes = with_context(rt.alloc(), b"\x02\0\0\0lo")?;
+    bytes.extend_from_slice(&CONTEXT)?;
+    assert!(rt; bytes.len() <= 67108864);
+    let entry = read_netif_entry(&mut Cursor::new(&bytes)).map_err(|fault| fault.cause.word())?;
+    let mut out = Vec::new(rt.alloc());
+    write_netif(&entry.rec(rt.alloc())?, 31, &mut out)?;
     assert_eq!(rt; out, bytes);
     Ok(())
 }
@@ -75,51 +102,85 @@ fn node_127_0_0_1(rt: HostRuntime) -> Result<(), Fail> {
     assert!(rt; bytes.len() <= 67108864);
     let entry = read_node_entry(&mut Cursor::new(&bytes)).map_err(|fault| fault.cause.word())?;
     assert_eq!(rt; (entry.address(), entry.mask()), ([127, 0, 0, 1], [255; 4]));
-    let mut text = Vec::new(rt.alloc());
-    push_ipv4_text(&mut text, &entry.address())?;
-    assert_eq!(rt; text.as_slice(), b"127.0.0.1".as_slice());
     let mut out = Vec::new(rt.alloc());
-    write_address(&entry.rec(rt.alloc())?, 31, &mut out)?;
+    write_node(&entry.rec(rt.alloc())?, 31, &mut out)?;
     assert_eq!(rt; out, bytes);
     Ok(())
 }
 
-// A space, a quotation mark, a backslash, a line feed and bytes of UTF-8.
 #[test]
-fn text_of_a_name(rt: HostRuntime) -> Result<(), Fail> {
-    let mut text = Vec::new(rt.alloc());
-    push_name_text(&mut text, b"a b\"\\\n\xc3\xa9~")?;
-    assert_eq!(rt;
-        text.as_slice(),
-        b"a b\\x22\\x5c\\x0a\\xc3\\xa9~".as_slice()
-    );
+fn behaviour_of_a_file_system(rt: HostRuntime) -> Result<(), Fail> {
+    let bytes = with_context(rt.alloc(), b"\x03\0\0\0\x02\0\0\0fs")?;
+    assert!(rt; bytes.len() <= 67108864);
+    let entry = read_fsuse_entry(&mut Cursor::new(&bytes)).map_err(|fault| fault.cause.word())?;
+    let mut out = Vec::new(rt.alloc());
+    write_fsuse(&entry.rec(rt.alloc())?, 31, &mut out)?;
+    assert_eq!(rt; out, bytes);
     Ok(())
 }
 
+// The address ::1 with a full mask.
 #[test]
-fn text_of_a_prefix(rt: HostRuntime) -> Result<(), Fail> {
-    let mut text = Vec::new(rt.alloc());
-    push_groups_text(&mut text, b"\xfe\x80\0\0\0\0\0\x0a")?;
-    assert_eq!(rt; text.as_slice(), b"fe80:0000:0000:000a".as_slice());
+fn node6_1(rt: HostRuntime) -> Result<(), Fail> {
+    let mut head = [0xff; 32];
+    head[..15].fill(0);
+    head[15] = 1;
+    let bytes = with_context(rt.alloc(), &head)?;
+    assert!(rt; bytes.len() <= 67108864);
+    let entry = read_node6_entry(&mut Cursor::new(&bytes)).map_err(|fault| fault.cause.word())?;
+    let mut out = Vec::new(rt.alloc());
+    write_node6(&entry.rec(rt.alloc())?, 31, &mut out)?;
+    assert_eq!(rt; out, bytes);
     Ok(())
 }
 
-// The path / of any class, and of the class 5, which is not declared.
+// The prefix fe80:: and the keys 1 to 0x7fff.
+#[test]
+fn partition_keys(rt: HostRuntime) -> Result<(), Fail> {
+    let head = b"\xfe\x80\0\0\0\0\0\0\x01\0\0\0\xff\x7f\0\0";
+    let bytes = with_context(rt.alloc(), head)?;
+    assert!(rt; bytes.len() <= 67108864);
+    let entry = read_ibpkey_entry(&mut Cursor::new(&bytes)).map_err(|fault| fault.cause.word())?;
+    let mut out = Vec::new(rt.alloc());
+    write_ibpkey(&entry.rec(rt.alloc())?, 31, &mut out)?;
+    assert_eq!(rt; out, bytes);
+    Ok(())
+}
+
+// The port 1 of the device mlx, whose number stands before the name.
+#[test]
+fn port_of_a_device(rt: HostRuntime) -> Result<(), Fail> {
+    let bytes = with_context(rt.alloc(), b"\x03\0\0\0\x01\0\0\0mlx")?;
+    assert!(rt; bytes.len() <= 67108864);
+    let entry = read_ibendport_entry(&mut Cursor::new(&bytes)).map_err(|fault| fault.cause.word())?;
+    let mut out = Vec::new(rt.alloc());
+    write_ibendport(&entry.rec(rt.alloc())?, 31, &mut out)?;
+    assert_eq!(rt; out, bytes);
+    Ok(())
+}
+
+// The file system a with the path / of any class, and of the class 5, which is not declared.
 #[test]
 fn paths_of_genfs(rt: HostRuntime) -> Result<(), Fail> {
     for (head, word, place) in [
-        (b"\x01\0\0\0/\0\0\0\0", "", 0),
-        (b"\x01\0\0\0/\x05\0\0\0", "Dangling", 5),
+        (b"\x01\0\0\0a\x01\0\0\0\x01\0\0\0/\0\0\0\0", "", 0),
+        (
+            b"\x01\0\0\0a\x01\0\0\0\x01\0\0\0/\x05\0\0\0",
+            "Dangling",
+            14,
+        ),
     ] {
         let bytes = with_context(rt.alloc(), head)?;
         assert!(rt; bytes.len() <= 67108864);
-        let entry = read_genfs_path(&mut Cursor::new(&bytes)).map_err(|fault| fault.cause.word())?;
-        let found = match entry.dangling(&TableNames) {
+        let entry = read_genfs_entry(&mut Cursor::new(&bytes)).map_err(|fault| fault.cause.word())?;
+        let found = match entry.dangling(&SmallNames) {
             Some(fault) => (fault.cause.word(), fault.place),
             None => ("", 0),
         };
         assert_eq!(rt; found, (word, place));
-        assert_eq!(rt; entry.rec(rt.alloc())?.path.as_slice(), b"/".as_slice());
+        let mut out = Vec::new(rt.alloc());
+        write_genfs(&entry.rec(rt.alloc())?, 31, &mut out)?;
+        assert_eq!(rt; out, bytes);
     }
     Ok(())
 }
@@ -154,4 +215,17 @@ fn tables_of_contexts(rt: HostRuntime) -> Result<(), Fail> {
         assert_eq!(rt; tables_fault(rt.alloc(), bytes, version)?, (word, place));
     }
     Ok(())
+}
+
+// In a smallest policy the count of the file systems of genfs is at 188, and the rest is 8 bytes 0.
+#[test]
+fn greatest_count_of_genfs(rt: HostRuntime) {
+    let mut policy = [0; 196];
+    policy[188..192].fill(0xff);
+    let found = match read_genfs(rt.alloc(), &mut Cursor::at(&policy, 188), 31) {
+        Ok(_) => ("", "", 0),
+        Err(ReadError::Fault(fault)) => (fault.cause.word(), fault.field.word(), fault.place),
+        Err(ReadError::Memory) => ("memory", "", 0),
+    };
+    assert_eq!(rt; found, ("BadName", "genfs.len", 192));
 }

@@ -1,8 +1,8 @@
 use Rattle.std.proofs.Common.{List, ℕ, ◌++◌, ◌∙◌, sym, ap, append_assoc}
 use Rattle.std.specs.List.{flat_map, range_with_len}
-use Rattle.pol_contexts.specs.ContextTexts.{grouped_byte}
-use Rattle.pol_contexts.proofs.Groups.{range_more}
-use Rattle.pol_contexts.proofs.texts.push_groups_text.Goals as goal
+use Rattle.pol_texts.specs.AddressTexts.{grouped_byte}
+use Rattle.pol_texts.proofs.Groups.{range_more}
+use Rattle.pol_texts.proofs.address_texts.push_groups_text.Goals as goal
 
 pub loop-i-preserved : goal.loop-i-preserved
 loop-i-preserved c =

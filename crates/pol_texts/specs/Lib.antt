@@ -1,0 +1,5 @@
+pub mod Hexadecimal
+pub mod NameTexts
+pub mod AddressTexts
+pub mod NumberNames
+pub mod NumberTexts
