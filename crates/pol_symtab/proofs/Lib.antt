@@ -1,0 +1,14 @@
+pub mod TakenNames
+pub mod SymbolFieldLaws
+pub mod FreshRecords
+pub mod FreshTables
+pub mod TableReading
+pub mod TableLaws
+pub mod RankLaw
+pub mod Searches
+pub mod ListPlaces
+pub mod ValueEntries
+pub mod Ranks
+pub mod SortedNames
+pub mod ByteOrder
+pub mod NameSearch

@@ -1,0 +1,10 @@
+use Rattle.std.proofs.Common.{◌-◌}
+use Rattle.pol_symtab.specs.TableIndex.{names_of}
+use Rattle.pol_symtab.proofs.NameSearch.{IsBetween}
+use Rattle.pol_symtab.proofs.name_order.find_name.Given as goal
+
+abbrev pub invariant-loop-low : goal.invariant-loop-low
+invariant-loop-low g l = IsBetween (names_of g.K.SymbolKind.name_of l.records) l.by_name l.name l.low l.high
+
+abbrev pub decreases-loop-low : goal.decreases-loop-low
+decreases-loop-low g l = l.high - l.low

@@ -1,0 +1,5 @@
+pub mod Claims
+pub mod SymbolFields
+pub mod Freshness
+pub mod SymbolTables
+pub mod TableIndex

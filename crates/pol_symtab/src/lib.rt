@@ -1,0 +1,23 @@
+//! What the eight symbol tables share: claims of names and values, the conditions of symbol records, and look-ups by name and value.
+#![tactic(auto)]
+
+mod causes;
+mod name_order;
+mod record_laws;
+mod symbol;
+mod symbol_fields;
+mod symbol_laws;
+mod symbol_table;
+mod table_head;
+mod taken;
+#[cfg(test)]
+mod tests;
+mod value_index;
+
+pub use causes::{length_cause, name_cause, new_value_cause, primary_value_cause, value_cause};
+pub use record_laws::ranks_have_law;
+pub use symbol::{Symbol, SymbolKind};
+pub use symbol_fields::{read_symbol_length, read_symbol_name};
+pub use symbol_table::{SymbolTable, read_symbol_table, read_whole_table};
+pub use table_head::{TableHead, read_table_head};
+pub use taken::{TableContext, Taken};

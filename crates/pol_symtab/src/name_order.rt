@@ -1,0 +1,117 @@
+//! The names of a table in the order of their bytes.
+
+ghost use Rattle.std.specs.Prelude.{◌≡◌, ◌<◌, ◌^◌, IfOk, length, map};
+ghost use Rattle.pol_symtab.specs.SymbolTables.{index_named};
+ghost use Rattle.pol_symtab.specs.TableIndex.{names_of, name_at, IsNameOrder, HaveDistinctNames, seen, numbered, NamesRise, AreSorted, AreNumbered, RankAll};
+
+use crate::symbol::Symbol;
+use pol_cursor::Records;
+use std::alloc::{AllocError, Global};
+use std::cmp::Ordering;
+
+/// The name of a record, its number in the list, and whether it is primary.
+#[derive(Clone, Copy, PartialEq, Eq, PartialOrd, Ord)]
+pub(crate) struct Entry<'a> {
+    name: &'a [u8],
+    number: u32,
+    primary: bool,
+}
+
+/// The names of the records, in the order of their bytes.
+pub(crate) fn sorted_entries<'a, K: Symbol<'a> + Drop>(
+    alloc: Global,
+    records: &Records<'a, K>,
+) -> Result<Vec<Entry<'a>>, AllocError>
+where
+    K::View: Drop,
+    requires { HaveDistinctNames K.name_of records.now }
+    ensures sorted { IfOk result (λ entries. AreSorted K.name_of K.is_primary records.now (map seen entries.items)) }
+    ensures few { IfOk result (λ entries. length entries.items < 2 ^ 32) }
+{
+    let mut entries = entries_of(alloc, records)?;
+    entries.sort()?;
+    Ok(entries)
+}
+
+// The names of the records, in the order of the list.
+fn entries_of<'a, K: Symbol<'a> + Drop>(
+    alloc: Global,
+    records: &Records<'a, K>,
+) -> Result<Vec<Entry<'a>>, AllocError>
+where
+    K::View: Drop,
+    ensures same { IfOk result (λ entries. map seen entries.items ≡ numbered K.name_of K.is_primary 0 records.now) }
+    ensures few { IfOk result (λ entries. length entries.items < 2 ^ 32) }
+{
+    let mut entries = Vec::new(alloc);
+    for number in 0..records.len() {
+        let record = records.view(number);
+        entries.push(Entry {
+            name: K::name(&record),
+            number,
+            primary: K::is_primary(&record),
+        })?;
+    }
+    Ok(entries)
+}
+
+/// The numbers of the records, in the order of their names.
+pub(crate) fn numbers_of(alloc: Global, entries: &[Entry<'_>]) -> Result<Vec<u32>, AllocError>
+    ensures { IfOk result (λ numbers. numbers.items ≡ map (λ entry. entry.number) entries.now) }
+{
+    entries.iter().map(|entry| entry.number).collect(alloc)
+}
+
+/// By the number of a record: how many primary names are below its own.
+pub(crate) fn rank_names(alloc: Global, entries: &[Entry<'_>]) -> Result<Vec<u32>, AllocError>
+    requires rise { NamesRise (map seen entries.now) }
+    requires numbered { AreNumbered (map seen entries.now) }
+    requires few { length entries.now < 2 ^ 32 }
+    ensures { IfOk result (λ ranks. RankAll (map seen entries.now) ranks.items) }
+{
+    let mut ranks = Vec::new(alloc);
+    ranks.resize(entries.len(), 0)?;
+    let mut below: u32 = 0;
+    for entry in entries {
+        ranks[entry.number as usize] = below;
+        if entry.primary {
+            below += 1;
+        }
+    }
+    Ok(ranks)
+}
+
+/// The name of the record of that number.
+pub(crate) fn name_in<'a, K: Symbol<'a> + Drop>(records: &Records<'a, K>, i: u32) -> &'a [u8]
+where
+    K::View: Drop,
+    requires { i < length records.now }
+    ensures { result.now ≡ name_at (names_of K.name_of records.now) i }
+{
+    K::name(&records.view(i))
+}
+
+/// The number of the record of that name, by halving the numbers in the order of the names.
+pub(crate) fn find_name<'a, K: Symbol<'a> + Drop>(
+    records: &Records<'a, K>,
+    by_name: &[u32],
+    name: &[u8],
+) -> Option<u32>
+where
+    K::View: Drop,
+    requires { IsNameOrder (names_of K.name_of records.now) by_name.now }
+    ensures { result ≡ index_named K.name_of records.now name.now }
+{
+    let mut low = 0;
+    let mut high = by_name.len();
+    while low < high {
+        let middle = low + (high - low) / 2;
+        let number = by_name[middle];
+        match name_in(records, number).cmp(name) {
+            Ordering::Less => low = middle + 1,
+            Ordering::Equal => return Some(number),
+            Ordering::Greater => high = middle,
+        }
+    }
+    None
+}

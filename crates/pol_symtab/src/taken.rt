@@ -1,0 +1,73 @@
+ghost use Rattle.std.specs.Prelude.{◌≡◌, OnOk, OnErr};
+ghost use Rattle.pol_symtab.specs.Claims.{has_name, has_value, with_claim, no_claims};
+
+use indexmap::IndexSet;
+use std::alloc::{AllocError, Global};
+use std::marker::Model;
+
+/// The names and primary values of the records before one in its table.
+#[derive(Drop)]
+pub struct Taken<'a> {
+    names: IndexSet<&'a [u8]>,
+    values: IndexSet<u32>,
+}
+
+impl<'a> Model for Taken<'a> {
+    ghost use Rattle.std.specs.Prelude.{map};
+    ghost use Rattle.pol_symtab.specs.Claims.{Claims};
+
+    ghost Value = { Claims };
+
+    ghost view = { λ t. record { names = map (λ name. name.now) t.names.keys; values = t.values.keys } };
+}
+
+impl<'a> Taken<'a> {
+    /// Nothing is taken.
+    pub fn new(alloc: Global) -> Taken<'a>
+        ensures { result ≡ no_claims }
+    {
+        Taken {
+            names: IndexSet::new(alloc),
+            values: IndexSet::new(alloc),
+        }
+    }
+
+    /// Adds the name of a record, and its value where it is primary. After want of memory nothing was added.
+    pub fn add(&mut self, name: &'a [u8], value: Option<u32>) -> Result<(), AllocError>
+        ensures ok { OnOk result (self.new ≡ with_claim self.old name.now value) }
+        ensures err { OnErr result (self.new ≡ self.old) }
+    {
+        match value {
+            None => {
+                self.names.insert(name)?;
+            }
+            Some(value) => {
+                self.values.reserve(1)?;
+                self.names.insert(name)?;
+                self.values.insert(value)?;
+            }
+        }
+        Ok(())
+    }
+
+    /// Whether a record has the name.
+    pub fn has_name(&self, name: &[u8]) -> bool
+        ensures { result ≡ has_name self.now name.now }
+    {
+        self.names.contains(name)
+    }
+
+    /// Whether a primary record has the value.
+    pub fn has_value(&self, value: u32) -> bool
+        ensures { result ≡ has_value self.now value }
+    {
+        self.values.contains(&value)
+    }
+}
+
+/// What a record is read under: the greatest value of its table, and what the records before it have taken.
+#[derive(Drop)]
+pub struct TableContext<'a> {
+    pub nprim: u32,
+    pub taken: Taken<'a>,
+}
