@@ -1,0 +1,5 @@
+pub mod RunValues
+pub mod Claimed
+pub mod ListedPermissions
+pub mod CommonLaws
+pub mod CommonSearch

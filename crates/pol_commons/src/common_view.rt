@@ -1,0 +1,129 @@
+ghost use Rattle.std.specs.Prelude.{◌≡◌, ◌≤◌, IfOk, OnOk};
+ghost use Rattle.pol_cursor.specs.Outcome.{Answers};
+ghost use Rattle.pol_commons.specs.CommonRecord.{common_at, common_in, HasCommon};
+
+use crate::causes::permission_count_cause;
+use crate::common_rec::CommonRec;
+use crate::permission_list::{PermissionList, read_permissions};
+use pol_cursor::{ByteList, Cursor, Fault, Field, refuse, string_in, u32_in};
+use pol_symtab::{Taken, new_value_cause, read_symbol_length, read_symbol_name};
+use std::alloc::{AllocError, Global};
+use std::marker::Model;
+
+// The code of a common's record.
+const COMMON: u8 = 5;
+
+/// A common in the buffer.
+#[derive(Drop)]
+pub struct CommonView<'a> {
+    bytes: &'a [u8],
+    place: u32,
+}
+
+impl<'a> Model for CommonView<'a> {
+    ghost use Rattle.pol_cursor.specs.References.{Placed};
+    ghost use Rattle.pol_commons.specs.declared.common_rec.CommonRec.{CommonRec};
+    ghost use Rattle.pol_commons.specs.CommonRecord.{common_in, HasCommon};
+
+    ghost Value = { Placed CommonRec };
+
+    ghost view = { λ v. record { place = v.place; value = common_in v.bytes.now v.place } };
+
+    ghost invariant = { λ v. HasCommon v.bytes.now v.place };
+}
+
+impl<'a> CommonView<'a> {
+    /// The common at a place that has one.
+    pub fn at(bytes: &'a [u8], place: u32) -> CommonView<'a>
+        requires { HasCommon bytes.now place }
+        ensures { result ≡ record { place = place; value = common_in bytes.now place } }
+    {
+        CommonView { bytes, place }
+    }
+
+    /// Its name.
+    pub fn name(&self) -> &'a [u8]
+        ensures { result.now ≡ self.now.value.name }
+    {
+        let len = u32_in(self.bytes, self.place as usize);
+        string_in(self.bytes, self.place as usize + 16, len as usize)
+    }
+
+    /// Its value, which is 1 to the `nprim` of its table.
+    pub fn value(&self) -> u32
+        ensures { result ≡ self.now.value.value }
+    {
+        u32_in(self.bytes, self.place as usize + 4)
+    }
+
+    /// How many permissions it declares, at most 32.
+    pub fn nprim(&self) -> u32
+        ensures { result ≡ self.now.value.nprim }
+    {
+        u32_in(self.bytes, self.place as usize + 8)
+    }
+
+    /// The permissions that it has.
+    pub fn permissions(&self) -> PermissionList<'a>
+        ensures { result ≡ self.now.value.permissions }
+    {
+        let place = self.place + 16 + u32_in(self.bytes, self.place as usize);
+        let count = u32_in(self.bytes, self.place as usize + 12);
+        PermissionList::at(self.bytes, place, count)
+    }
+
+    /// The same common, owned.
+    pub fn rec(&self, alloc: Global) -> Result<CommonRec, AllocError>
+        ensures { IfOk result (λ common. common ≡ self.now.value) }
+    {
+        Ok(CommonRec {
+            name: ByteList::from_vec(Vec::from_slice(alloc, self.name())?),
+            value: self.value(),
+            nprim: self.nprim(),
+            permissions: self.permissions().rec(alloc)?,
+        })
+    }
+}
+
+/// The common at the cursor, which then stands behind it. Takes no memory.
+///
+/// `EmptyName` where its name has no byte, `ValueOut` where its value is not 1 to the `nprim` of its table, `DuplicateValue`
+/// where it is taken, `TableTooLarge` where it declares more than 32 permissions, `BadNameByte` where a byte of its name lies
+/// outside 0x21 to 0x7E, `DuplicateName` where the name is taken, and the faults of `read_permissions`.
+#[tactic(auto, unfolding(crate::specs::CommonRecord::common_at), using(pol_cursor::proofs::Facts::number_is))]
+pub fn read_common<'a>(
+    c: &mut Cursor<'a>,
+    taken: &Taken<'a>,
+    nprim: u32,
+) -> Result<CommonView<'a>, Fault>
+    ensures exact { Answers (λ common. common.value) result (common_at taken.now nprim) c.old c.new }
+    ensures stands { IfOk result (λ common. HasCommon c.old.bytes c.old.place × (common ≡ record { place = c.old.place; value = common_in c.old.bytes c.old.place })) }
+{
+    let bytes = c.bytes();
+    let first = c.place();
+    let len = read_symbol_length(c, COMMON, 1)?;
+    let place = c.place();
+    let field = Field {
+        row: COMMON,
+        part: 2,
+    };
+    let value = c.u32(field)?;
+    refuse(new_value_cause(nprim, taken, value), place, field)?;
+    let place = c.place();
+    let field = Field {
+        row: COMMON,
+        part: 3,
+    };
+    let own_nprim = c.u32(field)?;
+    refuse(permission_count_cause(own_nprim), place, field)?;
+    let count = c.u32(Field {
+        row: COMMON,
+        part: 4,
+    })?;
+    read_symbol_name(c, COMMON, 5, len, taken)?;
+    read_permissions(c, count, &PermissionList::empty())?;
+    Ok(CommonView {
+        bytes,
+        place: first,
+    })
+}

@@ -1,0 +1,28 @@
+//! The permissions of classes and commons, and the commons: records of the policy format.
+#![tactic(auto)]
+
+mod causes;
+mod common_rec;
+mod common_table;
+mod common_view;
+mod common_write;
+mod kind;
+mod permission_list;
+mod permission_rec;
+mod permission_view;
+mod permission_write;
+mod record_laws;
+#[cfg(test)]
+mod tests;
+
+pub use causes::permission_count_cause;
+pub use common_rec::{CommonRec, CommonRecList};
+pub use common_table::{CommonList, find_common, inherited_from, read_commons};
+pub use common_view::{CommonView, read_common};
+pub use common_write::write_common;
+pub use kind::Common;
+pub use permission_list::{PermissionList, permissions_end, read_permissions};
+pub use permission_rec::{PermissionRec, PermissionRecList};
+pub use permission_view::{PermissionView, read_permission};
+pub use permission_write::{write_permission, write_permissions};
+pub use record_laws::{commons_have_laws, permissions_have_laws};
