@@ -1,0 +1,9 @@
+pub mod SymbolReferences
+pub mod Flags
+pub mod SymbolValues
+pub mod RoleRecord
+pub mod TypeRecord
+pub mod BooleanRecord
+pub mod SensitivityRecord
+pub mod CategoryRecord
+pub mod DatumFreshness

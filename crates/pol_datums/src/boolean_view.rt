@@ -1,0 +1,95 @@
+ghost use Rattle.std.specs.Prelude.{◌≡◌, IfOk};
+ghost use Rattle.pol_cursor.specs.Outcome.{Answers};
+ghost use Rattle.pol_datums.specs.BooleanRecord.{boolean_at, boolean_in, HasBoolean};
+
+use crate::boolean_rec::BooleanRec;
+use crate::flags::read_flag;
+use crate::parts::owned;
+use crate::rows::BOOLEAN;
+use crate::symbol_values::read_new_value;
+use pol_cursor::{Cursor, Fault, string_in, u32_in};
+use pol_symtab::{Taken, read_symbol_length, read_symbol_name};
+use std::alloc::{AllocError, Global};
+use std::marker::Model;
+
+/// A boolean in the buffer.
+#[derive(Drop)]
+pub struct BooleanView<'a> {
+    bytes: &'a [u8],
+    place: u32,
+}
+
+impl<'a> Model for BooleanView<'a> {
+    ghost use Rattle.pol_cursor.specs.References.{Placed};
+    ghost use Rattle.pol_datums.specs.declared.boolean_rec.BooleanRec.{BooleanRec};
+    ghost use Rattle.pol_datums.specs.BooleanRecord.{boolean_in, HasBoolean};
+
+    ghost Value = { Placed BooleanRec };
+
+    ghost view = { λ v. record { place = v.place; value = boolean_in v.bytes.now v.place } };
+
+    ghost invariant = { λ v. HasBoolean v.bytes.now v.place };
+}
+
+impl<'a> BooleanView<'a> {
+    /// The boolean at a place that has one.
+    pub fn at(bytes: &'a [u8], place: u32) -> BooleanView<'a>
+        requires { HasBoolean bytes.now place }
+        ensures { result ≡ record { place = place; value = boolean_in bytes.now place } }
+    {
+        BooleanView { bytes, place }
+    }
+
+    /// Its value.
+    pub fn value(&self) -> u32
+        ensures { result ≡ self.now.value.value }
+    {
+        u32_in(self.bytes, self.place as usize)
+    }
+
+    /// 1 where it is true by default, else 0.
+    pub fn state(&self) -> u32
+        ensures { result ≡ self.now.value.state }
+    {
+        u32_in(self.bytes, self.place as usize + 4)
+    }
+
+    /// Its name.
+    pub fn name(&self) -> &'a [u8]
+        ensures { result.now ≡ self.now.value.name }
+    {
+        let len = u32_in(self.bytes, self.place as usize + 8);
+        string_in(self.bytes, self.place as usize + 12, len as usize)
+    }
+
+    /// The same boolean, owned.
+    pub fn rec(&self, alloc: Global) -> Result<BooleanRec, AllocError>
+        ensures { IfOk result (λ boolean. boolean ≡ self.now.value) }
+    {
+        Ok(BooleanRec {
+            value: self.value(),
+            state: self.state(),
+            name: owned(alloc, self.name())?,
+        })
+    }
+}
+
+/// The boolean at the cursor, which then stands behind it, under what the records before it in the table have taken. Takes no
+/// memory. `ValueOut`, `DuplicateValue`, `BadFlag`, `EmptyName`, `BadNameByte` or `DuplicateName`.
+#[tactic(auto, unfolding(crate::specs::BooleanRecord::boolean_at))]
+pub fn read_boolean<'a>(
+    c: &mut Cursor<'a>,
+    taken: &Taken<'a>,
+    nprim: u32,
+) -> Result<BooleanView<'a>, Fault>
+    ensures exact { Answers (λ boolean. boolean.value) result (boolean_at taken.now nprim) c.old c.new }
+    ensures stands { IfOk result (λ boolean. HasBoolean c.old.bytes c.old.place × (boolean ≡ record { place = c.old.place; value = boolean_in c.old.bytes c.old.place })) }
+{
+    let bytes = c.bytes();
+    let place = c.place();
+    read_new_value(c, BOOLEAN, 1, nprim, taken)?;
+    read_flag(c, BOOLEAN, 2)?;
+    let len = read_symbol_length(c, BOOLEAN, 3)?;
+    read_symbol_name(c, BOOLEAN, 4, len, taken)?;
+    Ok(BooleanView { bytes, place })
+}

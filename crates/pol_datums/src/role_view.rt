@@ -1,0 +1,133 @@
+ghost use Rattle.std.specs.Prelude.{◌≡◌, IfOk};
+ghost use Rattle.pol_cursor.specs.Outcome.{Answers};
+ghost use Rattle.pol_cursor.specs.References.{dangling_of};
+ghost use Rattle.pol_datums.specs.RoleRecord.{role_at, role_in, HasRole, dominates_place, role_references};
+
+use crate::parts::owned;
+use crate::role_rec::RoleRec;
+use crate::rows::ROLE;
+use crate::symbol_references::dangling_bounds;
+use crate::symbol_values::{read_bounds, read_new_value};
+use pol_bitmap::{BitmapView, Set};
+use pol_cursor::{Cursor, Fault, Mention, Names, TableKind, string_in, u32_in};
+use pol_symtab::{Taken, read_symbol_length, read_symbol_name};
+use std::alloc::{AllocError, Global};
+use std::marker::Model;
+
+/// A role in the buffer.
+#[derive(Drop)]
+pub struct RoleView<'a> {
+    bytes: &'a [u8],
+    place: u32,
+}
+
+impl<'a> Model for RoleView<'a> {
+    ghost use Rattle.pol_cursor.specs.References.{Placed};
+    ghost use Rattle.pol_datums.specs.declared.role_rec.RoleRec.{RoleRec};
+    ghost use Rattle.pol_datums.specs.RoleRecord.{role_in, HasRole};
+
+    ghost Value = { Placed RoleRec };
+
+    ghost view = { λ v. record { place = v.place; value = role_in v.bytes.now v.place } };
+
+    ghost invariant = { λ v. HasRole v.bytes.now v.place };
+}
+
+impl<'a> RoleView<'a> {
+    /// The role at a place that has one.
+    pub fn at(bytes: &'a [u8], place: u32) -> RoleView<'a>
+        requires { HasRole bytes.now place }
+        ensures { result ≡ record { place = place; value = role_in bytes.now place } }
+    {
+        RoleView { bytes, place }
+    }
+
+    /// Its value.
+    pub fn value(&self) -> u32
+        ensures { result ≡ self.now.value.value }
+    {
+        u32_in(self.bytes, self.place as usize + 4)
+    }
+
+    /// The value of the role that bounds it, or 0.
+    pub fn bounds(&self) -> u32
+        ensures { result ≡ self.now.value.bounds }
+    {
+        u32_in(self.bytes, self.place as usize + 8)
+    }
+
+    /// Its name.
+    pub fn name(&self) -> &'a [u8]
+        ensures { result.now ≡ self.now.value.name }
+    {
+        let len = u32_in(self.bytes, self.place as usize);
+        string_in(self.bytes, self.place as usize + 12, len as usize)
+    }
+
+    /// The roles that it dominates: bit v - 1 stands for the value v.
+    pub fn dominates(&self) -> BitmapView<'a>
+        ensures { result ≡ self.now.value.dominates }
+    {
+        BitmapView::at(self.bytes, dominates_place(self.bytes, self.place))
+    }
+
+    /// Its types: bit v - 1 stands for the value v.
+    #[tactic(auto, using(pol_bitmap::proofs::NodePlaces::length_nodes_in))]
+    pub fn types(&self) -> BitmapView<'a>
+        ensures { result ≡ self.now.value.types }
+    {
+        let place = dominates_place(self.bytes, self.place) + self.dominates().size();
+        BitmapView::at(self.bytes, place)
+    }
+
+    /// The role that bounds it as a fault at its field, where no primary record declares it.
+    pub fn dangling<N: Names>(&self, names: &N) -> Option<Fault>
+        ensures { result ≡ dangling_of (N.named names.now) (role_references self.now) }
+    {
+        let bounds = Mention::new(ROLE, 3, self.place + 8, TableKind::Roles, self.bounds());
+        dangling_bounds(names, bounds)
+    }
+
+    /// The same role, owned.
+    pub fn rec(&self, alloc: Global) -> Result<RoleRec, AllocError>
+        ensures { IfOk result (λ role. role ≡ self.now.value) }
+    {
+        Ok(RoleRec {
+            value: self.value(),
+            bounds: self.bounds(),
+            name: owned(alloc, self.name())?,
+            dominates: Set::from_view(alloc, &self.dominates())?,
+            types: Set::from_view(alloc, &self.types())?,
+        })
+    }
+}
+
+// The place of the first bitmap, behind the name of the role there.
+fn dominates_place(bytes: &[u8], place: u32) -> u32
+    requires { HasRole bytes.now place }
+    ensures { result ≡ dominates_place bytes.now place }
+{
+    place + 12 + u32_in(bytes, place as usize)
+}
+
+/// The role at the cursor, which then stands behind it, under what the records before it in the table have taken. Takes no
+/// memory. `EmptyName`, `ValueOut`, `DuplicateValue`, `BadNameByte`, `DuplicateName` or a fault of a bitmap.
+#[tactic(auto, unfolding(crate::specs::RoleRecord::role_at))]
+pub fn read_role<'a>(
+    c: &mut Cursor<'a>,
+    taken: &Taken<'a>,
+    nprim: u32,
+) -> Result<RoleView<'a>, Fault>
+    ensures exact { Answers (λ role. role.value) result (role_at taken.now nprim) c.old c.new }
+    ensures stands { IfOk result (λ role. HasRole c.old.bytes c.old.place × (role ≡ record { place = c.old.place; value = role_in c.old.bytes c.old.place })) }
+{
+    let bytes = c.bytes();
+    let place = c.place();
+    let len = read_symbol_length(c, ROLE, 1)?;
+    read_new_value(c, ROLE, 2, nprim, taken)?;
+    read_bounds(c, ROLE, 3)?;
+    read_symbol_name(c, ROLE, 4, len, taken)?;
+    BitmapView::read(c)?;
+    BitmapView::read(c)?;
+    Ok(RoleView { bytes, place })
+}

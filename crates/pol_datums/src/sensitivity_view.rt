@@ -1,0 +1,151 @@
+ghost use Rattle.std.specs.Prelude.{◌≡◌, ◌+◌, ◌≤◌, IfOk, OnOk, length};
+ghost use Rattle.pol_cursor.specs.Parts.{num};
+ghost use Rattle.pol_cursor.specs.Outcome.{Answers};
+ghost use Rattle.pol_cursor.specs.References.{dangling_of};
+ghost use Rattle.pol_datums.specs.Flags.{is_primary_flag};
+ghost use Rattle.pol_datums.specs.SensitivityRecord.{sens_at, sensitivity_at, sensitivity_in, HasSensitivity, sens_place, sensitivity_references};
+
+use crate::causes::sens_cause;
+use crate::flags::{is_primary_flag, read_flag};
+use crate::parts::owned;
+use crate::rows::SENSITIVITY;
+use crate::sensitivity_rec::SensitivityRec;
+use crate::symbol_references::dangling_alias;
+use pol_bitmap::{BitmapView, Set};
+use pol_cursor::{Cursor, Fault, Field, Mention, Names, TableKind, refuse, string_in, u32_in};
+use pol_symtab::{Taken, read_symbol_length, read_symbol_name};
+use std::alloc::{AllocError, Global};
+use std::marker::Model;
+
+/// A sensitivity or an alias of one in the buffer.
+#[derive(Drop)]
+pub struct SensitivityView<'a> {
+    bytes: &'a [u8],
+    place: u32,
+}
+
+impl<'a> Model for SensitivityView<'a> {
+    ghost use Rattle.pol_cursor.specs.References.{Placed};
+    ghost use Rattle.pol_datums.specs.declared.sensitivity_rec.SensitivityRec.{SensitivityRec};
+    ghost use Rattle.pol_datums.specs.SensitivityRecord.{sensitivity_in, HasSensitivity};
+
+    ghost Value = { Placed SensitivityRec };
+
+    ghost view = { λ v. record { place = v.place; value = sensitivity_in v.bytes.now v.place } };
+
+    ghost invariant = { λ v. HasSensitivity v.bytes.now v.place };
+}
+
+impl<'a> SensitivityView<'a> {
+    /// The sensitivity at a place that has one.
+    pub fn at(bytes: &'a [u8], place: u32) -> SensitivityView<'a>
+        requires { HasSensitivity bytes.now place }
+        ensures { result ≡ record { place = place; value = sensitivity_in bytes.now place } }
+    {
+        SensitivityView { bytes, place }
+    }
+
+    /// 1 for an alias, else 0.
+    pub fn isalias(&self) -> u32
+        ensures { result ≡ self.now.value.isalias }
+    {
+        u32_in(self.bytes, self.place as usize + 4)
+    }
+
+    /// Its name.
+    pub fn name(&self) -> &'a [u8]
+        ensures { result.now ≡ self.now.value.name }
+    {
+        let len = u32_in(self.bytes, self.place as usize);
+        string_in(self.bytes, self.place as usize + 8, len as usize)
+    }
+
+    /// Its value. An alias has that of the sensitivity that it stands for.
+    pub fn sens(&self) -> u32
+        ensures { result ≡ self.now.value.sens }
+    {
+        u32_in(self.bytes, sens_place(self.bytes, self.place) as usize)
+    }
+
+    /// The categories that go with it: bit v - 1 stands for the value v.
+    pub fn categories(&self) -> BitmapView<'a>
+        ensures { result ≡ self.now.value.categories }
+    {
+        BitmapView::at(self.bytes, sens_place(self.bytes, self.place) + 4)
+    }
+
+    /// Whether it declares its value, which an alias does not.
+    pub fn is_primary(&self) -> bool
+        ensures { result ≡ is_primary_flag self.now.value.isalias }
+    {
+        is_primary_flag(self.isalias())
+    }
+
+    /// The sensitivity that an alias stands for as a fault at its field, where no primary record declares it.
+    pub fn dangling<N: Names>(&self, names: &N) -> Option<Fault>
+        ensures { result ≡ dangling_of (N.named names.now) (sensitivity_references self.now) }
+    {
+        let place = self.place + 8 + self.name().len() as u32;
+        let stands_for = Mention::new(SENSITIVITY, 4, place, TableKind::Levels, self.sens());
+        dangling_alias(names, self.is_primary(), stands_for)
+    }
+
+    /// The same sensitivity, owned.
+    pub fn rec(&self, alloc: Global) -> Result<SensitivityRec, AllocError>
+        ensures { IfOk result (λ level. level ≡ self.now.value) }
+    {
+        Ok(SensitivityRec {
+            isalias: self.isalias(),
+            name: owned(alloc, self.name())?,
+            sens: self.sens(),
+            categories: Set::from_view(alloc, &self.categories())?,
+        })
+    }
+}
+
+// The place of the value, behind the name of the sensitivity there.
+fn sens_place(bytes: &[u8], place: u32) -> u32
+    requires { HasSensitivity bytes.now place }
+    ensures { result ≡ sens_place bytes.now place }
+{
+    place + 8 + u32_in(bytes, place as usize)
+}
+
+/// The sensitivity at the cursor, which then stands behind it, under what the records before it in the table have taken. Takes
+/// no memory. `EmptyName`, `BadFlag`, `BadNameByte`, `DuplicateName`, `ValueOut`, `DuplicateValue` where it is primary and its
+/// value is taken, or a fault of the bitmap.
+#[tactic(auto, unfolding(crate::specs::SensitivityRecord::sensitivity_at))]
+pub fn read_sensitivity<'a>(
+    c: &mut Cursor<'a>,
+    taken: &Taken<'a>,
+    nprim: u32,
+) -> Result<SensitivityView<'a>, Fault>
+    ensures exact { Answers (λ level. level.value) result (sensitivity_at taken.now nprim) c.old c.new }
+    ensures stands { IfOk result (λ level. HasSensitivity c.old.bytes c.old.place × (level ≡ record { place = c.old.place; value = sensitivity_in c.old.bytes c.old.place })) }
+{
+    let bytes = c.bytes();
+    let place = c.place();
+    let len = read_symbol_length(c, SENSITIVITY, 1)?;
+    let isalias = read_flag(c, SENSITIVITY, 2)?;
+    read_symbol_name(c, SENSITIVITY, 3, len, taken)?;
+    read_sens(c, taken, nprim, isalias)?;
+    BitmapView::read(c)?;
+    Ok(SensitivityView { bytes, place })
+}
+
+// The value of a sensitivity at the cursor, behind its name.
+#[tactic(auto, unfolding(crate::specs::SensitivityRecord::sens_at), using(pol_cursor::proofs::Facts::number_is))]
+fn read_sens(c: &mut Cursor<'_>, taken: &Taken<'_>, nprim: u32, isalias: u32) -> Result<u32, Fault>
+    ensures exact { Answers (λ sens. sens) result (sens_at nprim taken.now isalias) c.old c.new }
+    ensures same { IfOk result (λ sens. sens ≡ num c.old.bytes c.old.place 4) }
+    ensures next { OnOk result ((c.new.place ≡ c.old.place + 4) × (c.new.place ≤ length c.old.bytes)) }
+{
+    let place = c.place();
+    let field = Field {
+        row: SENSITIVITY,
+        part: 4,
+    };
+    let sens = c.u32(field)?;
+    refuse(sens_cause(nprim, taken, isalias, sens), place, field)?;
+    Ok(sens)
+}

@@ -1,0 +1,151 @@
+ghost use Rattle.std.specs.Prelude.{◌≡◌, IfOk};
+ghost use Rattle.pol_cursor.specs.Outcome.{Answers};
+ghost use Rattle.pol_cursor.specs.References.{dangling_of};
+ghost use Rattle.pol_datums.specs.TypeRecord.{type_at, type_in, HasType, is_primary_type, flavour_of, type_references};
+
+use crate::causes::{is_attribute, is_primary_type, properties_cause};
+use crate::flavour::Flavour;
+use crate::parts::owned;
+use crate::rows::TYPE;
+use crate::symbol_references::{dangling_alias, dangling_bounds};
+use crate::symbol_values::{read_bounds, read_value};
+use crate::type_rec::TypeRec;
+use pol_cursor::{Cursor, Fault, Field, Mention, Names, TableKind, refuse, string_in, u32_in};
+use pol_symtab::{Taken, read_symbol_length, read_symbol_name};
+use std::alloc::{AllocError, Global};
+use std::marker::Model;
+
+/// A type, an attribute or an alias of a type in the buffer.
+#[derive(Drop)]
+pub struct TypeView<'a> {
+    bytes: &'a [u8],
+    place: u32,
+}
+
+impl<'a> Model for TypeView<'a> {
+    ghost use Rattle.pol_cursor.specs.References.{Placed};
+    ghost use Rattle.pol_datums.specs.declared.type_rec.TypeRec.{TypeRec};
+    ghost use Rattle.pol_datums.specs.TypeRecord.{type_in, HasType};
+
+    ghost Value = { Placed TypeRec };
+
+    ghost view = { λ v. record { place = v.place; value = type_in v.bytes.now v.place } };
+
+    ghost invariant = { λ v. HasType v.bytes.now v.place };
+}
+
+impl<'a> TypeView<'a> {
+    /// The type at a place that has one.
+    pub fn at(bytes: &'a [u8], place: u32) -> TypeView<'a>
+        requires { HasType bytes.now place }
+        ensures { result ≡ record { place = place; value = type_in bytes.now place } }
+    {
+        TypeView { bytes, place }
+    }
+
+    /// Its value. An alias has the value of the type that it stands for.
+    pub fn value(&self) -> u32
+        ensures { result ≡ self.now.value.value }
+    {
+        u32_in(self.bytes, self.place as usize + 4)
+    }
+
+    /// Its properties: bit 0x1 is primary and bit 0x2 attribute.
+    pub fn properties(&self) -> u32
+        ensures { result ≡ self.now.value.properties }
+    {
+        u32_in(self.bytes, self.place as usize + 8)
+    }
+
+    /// The value of the type that bounds it, or 0.
+    pub fn bounds(&self) -> u32
+        ensures { result ≡ self.now.value.bounds }
+    {
+        u32_in(self.bytes, self.place as usize + 12)
+    }
+
+    /// Its name.
+    pub fn name(&self) -> &'a [u8]
+        ensures { result.now ≡ self.now.value.name }
+    {
+        let len = u32_in(self.bytes, self.place as usize);
+        string_in(self.bytes, self.place as usize + 16, len as usize)
+    }
+
+    /// Whether it declares its value, which an alias does not.
+    pub fn is_primary(&self) -> bool
+        ensures { result ≡ is_primary_type self.now.value.properties }
+    {
+        is_primary_type(self.properties())
+    }
+
+    /// Whether it is an attribute or none, and `None` for an alias.
+    pub fn flavour(&self) -> Option<Flavour>
+        ensures { result ≡ flavour_of self.now.value.properties }
+    {
+        let properties = self.properties();
+        if is_attribute(properties) {
+            Some(Flavour::Attribute)
+        } else if is_primary_type(properties) {
+            Some(Flavour::Plain)
+        } else {
+            None
+        }
+    }
+
+    /// The first reference, in file order, whose value no primary record declares, as a fault at its field: the type that an
+    /// alias stands for, and the type that bounds it.
+    pub fn dangling<N: Names>(&self, names: &N) -> Option<Fault>
+        ensures { result ≡ dangling_of (N.named names.now) (type_references self.now) }
+    {
+        let types = TableKind::Types;
+        let stands_for = Mention::new(TYPE, 2, self.place + 4, types, self.value());
+        match dangling_alias(names, self.is_primary(), stands_for) {
+            Some(fault) => Some(fault),
+            None => {
+                let bounds = Mention::new(TYPE, 4, self.place + 12, types, self.bounds());
+                dangling_bounds(names, bounds)
+            }
+        }
+    }
+
+    /// The same type, owned.
+    pub fn rec(&self, alloc: Global) -> Result<TypeRec, AllocError>
+        ensures { IfOk result (λ t. t ≡ self.now.value) }
+    {
+        Ok(TypeRec {
+            value: self.value(),
+            properties: self.properties(),
+            bounds: self.bounds(),
+            name: owned(alloc, self.name())?,
+        })
+    }
+}
+
+/// The type at the cursor, which then stands behind it, under what the records before it in the table have taken. Takes no
+/// memory. `EmptyName`, `ValueOut`, `DuplicateValue` where it is primary and its value is taken, `BadNameByte` or
+/// `DuplicateName`.
+#[tactic(auto, unfolding(crate::specs::TypeRecord::type_at), using(pol_cursor::proofs::Facts::number_is))]
+pub fn read_type<'a>(
+    c: &mut Cursor<'a>,
+    taken: &Taken<'a>,
+    nprim: u32,
+) -> Result<TypeView<'a>, Fault>
+    ensures exact { Answers (λ t. t.value) result (type_at taken.now nprim) c.old c.new }
+    ensures stands { IfOk result (λ t. HasType c.old.bytes c.old.place × (t ≡ record { place = c.old.place; value = type_in c.old.bytes c.old.place })) }
+{
+    let bytes = c.bytes();
+    let first = c.place();
+    let len = read_symbol_length(c, TYPE, 1)?;
+    let value = read_value(c, TYPE, 2, nprim)?;
+    let place = c.place();
+    let field = Field { row: TYPE, part: 3 };
+    let properties = c.u32(field)?;
+    refuse(properties_cause(taken, value, properties), place, field)?;
+    read_bounds(c, TYPE, 4)?;
+    read_symbol_name(c, TYPE, 5, len, taken)?;
+    Ok(TypeView {
+        bytes,
+        place: first,
+    })
+}
