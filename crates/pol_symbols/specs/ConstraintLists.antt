@@ -1,0 +1,46 @@
+-- The constraints of a class, one behind the other (libsepol's read_cons_helper).
+use Rattle.std.specs.Prelude.{ℕ, ◌+◌, ◌*◌, Bool, Option, Some, None, List, length}
+use Rattle.std.specs.List.{sum_by}
+use Rattle.pol_cursor.specs.Outcome.{Reader}
+use Rattle.pol_cursor.specs.Parts.{records_at}
+use Rattle.pol_cursor.specs.References.{values_of}
+use Rattle.pol_cursor.specs.Runs.{run_in, run_end, HasRun}
+use Rattle.pol_expr.specs.declared.constraint_rec.ConstraintRec.{ConstraintRec}
+use Rattle.pol_expr.specs.declared.constraint_rec.ConstraintItem.{ConstraintItem}
+use Rattle.pol_expr.specs.declared.constraint_rec.NameSet.{NameSet}
+use Rattle.pol_expr.specs.declared.constraint_rec.TypeSet.{TypeSet}
+use Rattle.pol_expr.specs.ConstraintRecord.{constraint_at, constraint_in, constraint_end, HasConstraint}
+
+-- n constraints of a policy of a version, in which a third context is allowed or not
+abbrev pub constraints_at : ℕ → Bool → ℕ → Reader (List ConstraintRec)
+constraints_at version xtarget n = records_at (constraint_at version xtarget) n
+
+-- ---- the constraints that stand from a place on
+
+-- n of them
+abbrev pub constraints_in : ℕ → List ℕ → ℕ → ℕ → List ConstraintRec
+constraints_in version bytes place n = values_of (run_in (constraint_in version) (constraint_end version) bytes place n)
+
+-- the place behind them
+abbrev pub constraints_end : ℕ → List ℕ → ℕ → ℕ → ℕ
+constraints_end version = run_end (constraint_end version)
+
+-- they stand there
+abbrev pub HaveConstraints : ℕ → List ℕ → ℕ → ℕ → Type 0
+HaveConstraints version = HasRun (HasConstraint version) (constraint_end version)
+
+-- ---- how many bytes a constraint takes
+
+abbrev pub type_set_length : Option TypeSet → ℕ
+type_set_length None = 0
+type_set_length (Some set) = 28 + 12 * length set.types + 12 * length set.negated
+
+abbrev pub name_set_length : Option NameSet → ℕ
+name_set_length None = 0
+name_set_length (Some set) = 12 + 12 * length set.names + type_set_length set.written
+
+abbrev pub item_length : ConstraintItem → ℕ
+item_length item = 12 + name_set_length item.set
+
+abbrev pub constraint_length : ConstraintRec → ℕ
+constraint_length constraint = 8 + sum_by item_length constraint.items

@@ -1,0 +1,22 @@
+use pol_bitmap::Set;
+use pol_cursor::{ByteList, OwnedList};
+use pol_mls::{LevelRec, RangeRec};
+
+/// A user, owned.
+#[derive(Drop)]
+pub struct UserRec {
+    /// From 1 to the table's nprim.
+    pub value: u32,
+    /// The value of the user that bounds it, or 0.
+    pub bounds: u32,
+    /// One byte or more, from 0x21 to 0x7E.
+    pub name: ByteList,
+    /// Its roles: bit v - 1 stands for the value v.
+    pub roles: Set,
+    /// The levels that it may have.
+    pub range: RangeRec,
+    /// The level that it has by default.
+    pub level: LevelRec,
+}
+
+pub type UserRecList = OwnedList<UserRec>;
