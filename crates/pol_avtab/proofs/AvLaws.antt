@@ -1,0 +1,169 @@
+-- The two laws of access vectors, of their table, of conditional nodes and of the list of them.
+use Rattle.std.proofs.Common.{◌≡◌, ℕ, zero, suc, ◌∷◌, ◌<◌, ◌^◌, Bool, true, false, Option, None, List, [], length, refl, sym, ap, append_assoc}
+use Rattle.std.specs.List.{flat_map, AllByRecursion}
+use Rattle.std.proofs.lemmas.List.{append-nil}
+use Rattle.pol_cursor.specs.Outcome.{Reader, Outcome, Got, Bad, and_then, field}
+use Rattle.pol_cursor.specs.Contexts.{records_after}
+use Rattle.pol_cursor.specs.Parts.{number, list_of, records_at, counted, spell_counted, CountedFits}
+use Rattle.pol_cursor.specs.References.{Placed, placed, without_places}
+use Rattle.pol_cursor.specs.Laws.{Again, Reads, IsSpelling, IsReadAgain, IsReadFromSpelling}
+use Rattle.pol_cursor.proofs.Laws.{Reads-done, Reads-part, Reads-as, Reads-number, Reads-number_if, Reads-string, Reads-list_of, Again-done, Again-part, Again-as, Again-number, Again-number_if, Again-string-of, Again-list_of, records_spelled, records_again, counted_spelled, counted_again}
+use Rattle.pol_cursor.proofs.Lists.{records_unplaced}
+use Rattle.pol_cursor.proofs.ContextLists.{records_after_unplaced}
+use Rattle.pol_expr.proofs.ConditionLaws.{condition_spelled, condition_again}
+use Rattle.pol_avtab.specs.declared.av_key.AvKey.{AvKey}
+use Rattle.pol_avtab.specs.declared.av_rec.AvRec.{AvRec}
+use Rattle.pol_avtab.specs.declared.av_rec.AvPart.{AvPart}
+use Rattle.pol_avtab.specs.declared.av_rec.AvPart.TheVariants.{Data, Extended}
+use Rattle.pol_avtab.specs.declared.av_kind.AvContext.{AvContext}
+use Rattle.pol_avtab.specs.declared.condnode_rec.CondNodeRec.{CondNodeRec}
+use Rattle.pol_avtab.specs.AvRecord.{is_extended, extended_at, data_at, part_at, av_at, spell_part, spell_av, PartFits, AvFits}
+use Rattle.pol_avtab.specs.CondNodeRecord.{conditional_rules_at, condnode_at, spell_condnode, CondNodeFits}
+use Rattle.pol_avtab.specs.AvTables.{rule_at, after_rule, no_rules, placed_rules_at, table_at, rules_at, plain_table_at, spell_table, TableFits, conditionals_at, plain_conditionals_at, spell_conditionals, ConditionalsFit}
+
+-- ---- the last part
+
+extended_spelled : IsReadFromSpelling extended_at spell_part (PartFits true)
+unfolding extended_at
+extended_spelled =
+    Reads-part (Reads-number_if (field 16 5) 1) λ xkind xkind-fits.
+    Reads-part (Reads-number (field 16 6) 1) λ driver driver-fits.
+    Reads-part (Reads-string (field 16 7) 32) λ bits bits-fit.
+    Reads-done _ (Extended xkind driver bits) (record { same = simp (append_assoc, append-nil); fitting = (refl, xkind-fits.0, driver-fits, bits-fit) })
+
+data_spelled : IsReadFromSpelling data_at spell_part (PartFits false)
+unfolding data_at
+data_spelled =
+    Reads-part (Reads-number (field 16 8) 4) λ mask mask-fits.
+    Reads-done _ (Data mask) (record { same = simp append-nil; fitting = (refl, mask-fits) })
+
+part_spelled : (extended : Bool) → IsReadFromSpelling (part_at extended) spell_part (PartFits extended)
+unfolding part_at
+part_spelled true = extended_spelled
+part_spelled false = data_spelled
+
+part_again : (extended : Bool) → IsReadAgain (part_at extended) spell_part (PartFits extended)
+unfolding part_at extended_at data_at
+part_again true (Extended xkind driver bits) fits =
+    Again-as
+    (Again-part _ (Again-number_if (field 16 5) 1 xkind _ fits.1)
+    (Again-part _ (Again-number (field 16 6) 1 driver fits.2)
+    (Again-part _ (Again-string-of (field 16 7) 32 bits fits.3)
+    (Again-done (Extended xkind driver bits)))))
+    (simp (append_assoc, append-nil))
+part_again true (Data mask) fits = absurd (let e = fits.0 in cc)
+part_again false (Extended xkind driver bits) fits = absurd (let e = fits.0 in cc)
+part_again false (Data mask) fits = Again-as (Again-part _ (Again-number (field 16 8) 4 mask fits.1) (Again-done (Data mask))) (simp append-nil)
+
+-- ---- access vectors
+
+pub av_spelled : (version : ℕ) (earlier : Option (List AvKey)) → IsReadFromSpelling (av_at version earlier) spell_av AvFits
+unfolding av_at
+av_spelled version earlier =
+    Reads-part (Reads-number (field 16 1) 2) λ source source-fits.
+    Reads-part (Reads-number (field 16 2) 2) λ target target-fits.
+    Reads-part (Reads-number (field 16 3) 2) λ class class-fits.
+    Reads-part (Reads-number_if (field 16 4) 2) λ specified specified-fits.
+    Reads-part (part_spelled (is_extended specified)) λ part part-fits.
+    Reads-done _ (record { source = source; target = target; class = class; specified = specified; part = part }) (record {
+      same = simp (append_assoc, append-nil);
+      fitting = record { source = source-fits; target = target-fits; class = class-fits; specified = specified-fits.0; part = part-fits };
+    })
+
+pub av_again : (version : ℕ) (earlier : Option (List AvKey)) → IsReadAgain (av_at version earlier) spell_av AvFits
+unfolding av_at
+av_again version earlier av fits =
+    Again-as
+    (Again-part _ (Again-number (field 16 1) 2 av.source fits.source)
+    (Again-part _ (Again-number (field 16 2) 2 av.target fits.target)
+    (Again-part _ (Again-number (field 16 3) 2 av.class fits.class)
+    (Again-part _ (Again-number_if (field 16 4) 2 av.specified _ fits.specified)
+    (Again-part _ (part_again (is_extended av.specified) av.part fits.part)
+    (Again-done av))))))
+    (simp (append_assoc, append-nil))
+
+-- ---- the table
+
+rules_spelled : (version n : ℕ) → Reads (rules_at version n) (IsSpelling (flat_map spell_av) (λ rules. (length rules ≡ n) × AllByRecursion AvFits rules))
+unfolding rules_at
+rules_spelled version n = Reads-list_of (λ left context. rule_at context) after_rule spell_av AvFits (λ left context. av_spelled context.version _) n (no_rules version)
+
+rules_again : (version : ℕ) (rules : List AvRec) → AllByRecursion AvFits rules → Again (rules_at version (length rules)) rules (flat_map spell_av rules)
+unfolding rules_at
+rules_again version rules fits = Again-list_of (λ left context. rule_at context) after_rule spell_av AvFits (λ left context. av_again context.version _) rules (no_rules version) fits
+
+pub table_spelled : (version : ℕ) → IsReadFromSpelling (plain_table_at version) spell_table TableFits
+unfolding plain_table_at
+table_spelled version = counted_spelled (field 17 1) (rules_at version) spell_av AvFits (rules_spelled version)
+
+pub table_again : (version : ℕ) → IsReadAgain (plain_table_at version) spell_table TableFits
+unfolding plain_table_at
+table_again version = counted_again (field 17 1) (rules_at version) spell_av AvFits (rules_again version)
+
+-- a counted list that is read with places
+unplaced_counted : {A : Type 0} (bytes : List ℕ) (placed_at : ℕ → Reader (List (Placed A))) (plain_at : ℕ → Reader (List A)) → ((n next : ℕ) → without_places (placed_at n bytes next) ≡ plain_at n bytes next)
+    → (o : Outcome ℕ) → without_places (and_then o (λ n next. placed_at n bytes next)) ≡ and_then o (λ n next. plain_at n bytes next)
+unplaced_counted bytes placed_at plain_at each (Got n next) = each n next
+unplaced_counted bytes placed_at plain_at each (Bad f) = refl
+
+pub table_unplaced : (version : ℕ) (bytes : List ℕ) (place : ℕ) → without_places (table_at version bytes place) ≡ plain_table_at version bytes place
+unfolding table_at plain_table_at placed_rules_at rules_at
+table_unplaced version bytes place =
+    unplaced_counted bytes (placed_rules_at version) (rules_at version) (λ n next. records_after_unplaced rule_at after_rule n (no_rules version) bytes next) (number (field 17 1) 4 bytes place)
+
+-- ---- conditional nodes
+
+conditional_rules_spelled : (version part : ℕ) → IsReadFromSpelling (counted (field 19 part) (conditional_rules_at version)) (spell_counted spell_av) (CountedFits AvFits)
+conditional_rules_spelled version part = counted_spelled (field 19 part) (conditional_rules_at version) spell_av AvFits (records_spelled (av_at version None) spell_av AvFits (av_spelled version None))
+
+conditional_rules_again : (version part : ℕ) → IsReadAgain (counted (field 19 part) (conditional_rules_at version)) (spell_counted spell_av) (CountedFits AvFits)
+conditional_rules_again version part = counted_again (field 19 part) (conditional_rules_at version) spell_av AvFits (records_again (av_at version None) spell_av AvFits (av_again version None))
+
+pub condnode_spelled : (version : ℕ) → IsReadFromSpelling (condnode_at version) spell_condnode CondNodeFits
+unfolding condnode_at
+condnode_spelled version =
+    Reads-part condition_spelled λ condition condition-fits.
+    Reads-part (conditional_rules_spelled version 5) λ true_rules true_rules-fit.
+    Reads-part (conditional_rules_spelled version 6) λ false_rules false_rules-fit.
+    Reads-done _ (record { condition = condition; true_rules = true_rules; false_rules = false_rules }) (record {
+      same = simp (append_assoc, append-nil);
+      fitting = record { condition = condition-fits; true_rules = true_rules-fit; false_rules = false_rules-fit };
+    })
+
+pub condnode_again : (version : ℕ) → IsReadAgain (condnode_at version) spell_condnode CondNodeFits
+unfolding condnode_at
+condnode_again version node fits =
+    Again-as
+    (Again-part _ (condition_again node.condition fits.condition)
+    (Again-part _ (conditional_rules_again version 5 node.true_rules fits.true_rules)
+    (Again-part _ (conditional_rules_again version 6 node.false_rules fits.false_rules)
+    (Again-done node))))
+    (simp (append_assoc, append-nil))
+
+-- ---- the list of conditional nodes
+
+pub conditionals_spelled : (version : ℕ) → IsReadFromSpelling (plain_conditionals_at version) spell_conditionals ConditionalsFit
+unfolding plain_conditionals_at
+conditionals_spelled version = counted_spelled (field 18 1) (records_at (condnode_at version)) spell_condnode CondNodeFits (records_spelled (condnode_at version) spell_condnode CondNodeFits (condnode_spelled version))
+
+pub conditionals_again : (version : ℕ) → IsReadAgain (plain_conditionals_at version) spell_conditionals ConditionalsFit
+unfolding plain_conditionals_at
+conditionals_again version = counted_again (field 18 1) (records_at (condnode_at version)) spell_condnode CondNodeFits (records_again (condnode_at version) spell_condnode CondNodeFits (condnode_again version))
+
+pub conditionals_unplaced : (version : ℕ) (bytes : List ℕ) (place : ℕ) → without_places (conditionals_at version bytes place) ≡ plain_conditionals_at version bytes place
+unfolding conditionals_at plain_conditionals_at
+conditionals_unplaced version bytes place =
+    unplaced_counted bytes (records_at (placed (condnode_at version))) (records_at (condnode_at version)) (λ n next. records_unplaced (condnode_at version) n bytes next) (number (field 18 1) 4 bytes place)
+
+-- ---- a context that stays
+
+first_then : {A B : Type 0} (o : Outcome A) (f g : A → ℕ → Outcome B) → ((x : A) (next : ℕ) → f x next ≡ g x next) → and_then o f ≡ and_then o g
+first_then (Got x next) f g same = same x next
+first_then (Bad e) f g same = refl
+
+-- Records that all are read under the same context are read alone.
+pub records_alone : {S A : Type 0} (record_at : S → Reader A) (n : ℕ) (context : S) (bytes : List ℕ) (place : ℕ) → records_after record_at (λ s x. s) n context bytes place ≡ records_at (placed (record_at context)) n bytes place
+unfolding records_after records_at list_of
+records_alone record_at zero context bytes place = refl
+records_alone record_at (suc n) context bytes place =
+    first_then (placed (record_at context) bytes place) _ _ (λ r next. ap (λ (o : Outcome (List (Placed _))). and_then o (λ rs k. Got (r ∷ rs) k)) (records_alone record_at n context bytes next))

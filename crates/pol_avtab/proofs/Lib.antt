@@ -1,0 +1,6 @@
+pub mod Places
+pub mod AvReading
+pub mod HeldNumbers
+pub mod AvLaws
+pub mod RulePlaces
+pub mod Groups

@@ -1,0 +1,61 @@
+-- Record 17, the table of access vectors (libsepol's avtab_read), and record 18, the list of conditional nodes (cond_read_list).
+use Rattle.std.specs.Prelude.{ℕ, Some, List, []}
+use Rattle.pol_cursor.specs.Outcome.{Reader, field}
+use Rattle.pol_cursor.specs.Parts.{list_of, counted, records_at, spell_counted, CountedFits}
+use Rattle.pol_cursor.specs.Contexts.{records_after}
+use Rattle.pol_cursor.specs.References.{Placed, placed}
+use Rattle.pol_avtab.specs.declared.av_rec.AvRec.{AvRec}
+use Rattle.pol_avtab.specs.declared.av_kind.AvContext.{AvContext}
+use Rattle.pol_avtab.specs.declared.condnode_rec.CondNodeRec.{CondNodeRec}
+use Rattle.pol_avtab.specs.AvKeys.{key_of, with_key}
+use Rattle.pol_avtab.specs.AvRecord.{av_at, spell_av, AvFits}
+use Rattle.pol_avtab.specs.CondNodeRecord.{condnode_at, spell_condnode, CondNodeFits}
+
+-- ---- the table
+
+-- a rule behind the others
+abbrev pub rule_at : AvContext → Reader AvRec
+rule_at context = av_at context.version (Some context.keys)
+
+-- what it is read under from then on
+abbrev pub after_rule : AvContext → AvRec → AvContext
+after_rule context av = record { version = context.version; keys = with_key context.keys (key_of av) }
+
+-- the same before the first rule
+abbrev pub no_rules : ℕ → AvContext
+no_rules version = record { version = version; keys = [] }
+
+-- n rules, each with its place
+unfoldable pub placed_rules_at : ℕ → ℕ → Reader (List (Placed AvRec))
+placed_rules_at version n = records_after rule_at after_rule n (no_rules version)
+
+unfoldable pub table_at : ℕ → Reader (List (Placed AvRec))
+table_at version = counted (field 17 1) (placed_rules_at version)
+
+-- the same without the places
+unfoldable pub rules_at : ℕ → ℕ → Reader (List AvRec)
+rules_at version n = list_of (λ left context. rule_at context) after_rule n (no_rules version)
+
+unfoldable pub plain_table_at : ℕ → Reader (List AvRec)
+plain_table_at version = counted (field 17 1) (rules_at version)
+
+abbrev pub spell_table : List AvRec → List ℕ
+spell_table rules = spell_counted spell_av rules
+
+abbrev pub TableFits : List AvRec → Type 0
+TableFits rules = CountedFits AvFits rules
+
+-- ---- the list of conditional nodes
+
+unfoldable pub conditionals_at : ℕ → Reader (List (Placed CondNodeRec))
+conditionals_at version = counted (field 18 1) (records_at (placed (condnode_at version)))
+
+-- the same without the places
+unfoldable pub plain_conditionals_at : ℕ → Reader (List CondNodeRec)
+plain_conditionals_at version = counted (field 18 1) (records_at (condnode_at version))
+
+abbrev pub spell_conditionals : List CondNodeRec → List ℕ
+spell_conditionals nodes = spell_counted spell_condnode nodes
+
+abbrev pub ConditionalsFit : List CondNodeRec → Type 0
+ConditionalsFit nodes = CountedFits CondNodeFits nodes

@@ -1,0 +1,30 @@
+/// An access vector, owned: one rule of a policy.
+#[derive(Drop)]
+pub struct AvRec {
+    /// The value of a type or an attribute.
+    pub source: u16,
+    /// The value of a type or an attribute.
+    pub target: u16,
+    /// The value of a class.
+    pub class: u16,
+    /// The kind of the rule, and the mark 0x8000, which is kept and has no meaning.
+    pub specified: u16,
+    /// What it grants, audits or makes.
+    pub part: AvPart,
+}
+
+/// The last part of an access vector.
+#[derive(Clone, Copy, Debug, PartialEq, Eq, Drop)]
+pub enum AvPart {
+    /// The permissions by their bits, or the value of a default type.
+    Data(u32),
+    /// The ioctl numbers of an extended rule.
+    Extended {
+        /// 1 for numbers of one driver, 2 for whole drivers.
+        xkind: u8,
+        /// The driver, which is the high byte of the numbers. It is kept for kind 2 and has no meaning there.
+        driver: u8,
+        /// Bit b is bit b mod 8 of byte b / 8.
+        bits: [u8; 32],
+    },
+}

@@ -1,0 +1,306 @@
+ghost use Rattle.std.specs.Prelude.{◌≡◌, ◌+◌, ◌≤◌, true, false, IfOk, OnOk, Ok, Some, None, option_map, length, if◌then◌else◌};
+ghost use Rattle.pol_cursor.specs.Outcome.{Answers};
+ghost use Rattle.pol_cursor.specs.References.{dangling_of};
+ghost use Rattle.pol_avtab.specs.AvKeys.{key_of};
+ghost use Rattle.pol_avtab.specs.AvRecord.{extended_at, data_at, part_at, av_at, av_in, part_in, av_length, av_end, HasAv, av_references, part_references, is_default};
+ghost use Rattle.pol_avtab.specs.XPerms.{mask_of, xperms_of};
+
+use crate::av_key::AvKey;
+use crate::av_keys::AvKeys;
+use crate::av_rec::{AvPart, AvRec};
+use crate::causes::{is_default, is_extended, kind_of, specified_cause, xkind_cause};
+use crate::parts::{bits_in, u8_in};
+use crate::xperms::XPerms;
+use pol_cursor::{
+    Cursor, Fault, Field, Mention, Names, TableKind, dangling, first_dangling, refuse, u16_in,
+    u32_in,
+};
+use std::alloc::{AllocError, Global};
+use std::marker::Model;
+
+// The code of an access vector's record.
+const AV: u8 = 16;
+
+/// An access vector in the buffer. Contracts see it with its place.
+#[derive(Drop)]
+pub struct AvView<'a> {
+    bytes: &'a [u8],
+    place: u32,
+}
+
+impl<'a> Model for AvView<'a> {
+    ghost use Rattle.pol_cursor.specs.References.{Placed};
+    ghost use Rattle.pol_avtab.specs.declared.av_rec.AvRec.{AvRec};
+    ghost use Rattle.pol_avtab.specs.AvRecord.{av_in, HasAv};
+
+    ghost Value = { Placed AvRec };
+
+    ghost view = { λ v. record { place = v.place; value = av_in v.bytes.now v.place } };
+
+    ghost invariant = { λ v. HasAv v.bytes.now v.place };
+}
+
+impl<'a> AvView<'a> {
+    /// The access vector at a place that has one.
+    pub fn at(bytes: &'a [u8], place: u32) -> AvView<'a>
+        requires { HasAv bytes.now place }
+        ensures { result ≡ record { place = place; value = av_in bytes.now place } }
+    {
+        AvView { bytes, place }
+    }
+
+    /// The place of its first byte in the policy.
+    pub fn place(&self) -> u32
+        ensures { result ≡ self.now.place }
+    {
+        self.place
+    }
+
+    /// The place behind its last byte.
+    pub fn end(&self) -> u32
+        ensures { result ≡ self.now.place + av_length self.now.value.specified }
+    {
+        if is_extended(self.specified()) {
+            self.place + 42
+        } else {
+            self.place + 12
+        }
+    }
+
+    /// The value of the source, a type or an attribute.
+    pub fn source(&self) -> u16
+        ensures { result ≡ self.now.value.source }
+    {
+        u16_in(self.bytes, self.place as usize)
+    }
+
+    /// The value of the target, a type or an attribute.
+    pub fn target(&self) -> u16
+        ensures { result ≡ self.now.value.target }
+    {
+        u16_in(self.bytes, self.place as usize + 2)
+    }
+
+    /// The value of the class.
+    pub fn class(&self) -> u16
+        ensures { result ≡ self.now.value.class }
+    {
+        u16_in(self.bytes, self.place as usize + 4)
+    }
+
+    /// The kind of the rule, and the mark 0x8000, which has no meaning.
+    pub fn specified(&self) -> u16
+        ensures { result ≡ self.now.value.specified }
+    {
+        u16_in(self.bytes, self.place as usize + 6)
+    }
+
+    /// What tells it from the other rules of a table.
+    pub fn key(&self) -> AvKey
+        ensures { result ≡ key_of self.now.value }
+    {
+        AvKey {
+            source: self.source(),
+            target: self.target(),
+            class: self.class(),
+            specified: kind_of(self.specified()),
+        }
+    }
+
+    /// The permissions by their bits, or the value of a default type, where it is not extended.
+    pub fn mask(&self) -> Option<u32>
+        ensures { result ≡ mask_of self.now.value.part }
+    {
+        if is_extended(self.specified()) {
+            None
+        } else {
+            Some(u32_in(self.bytes, self.place as usize + 8))
+        }
+    }
+
+    /// Its ioctl numbers, where it is extended.
+    pub fn xperms(&self) -> Option<XPerms<'a>>
+        ensures { result ≡ xperms_of self.now.value.part }
+    {
+        if is_extended(self.specified()) {
+            Some(XPerms::at(self.bytes, self.place + 8))
+        } else {
+            None
+        }
+    }
+
+    /// 1 for numbers of one driver, 2 for whole drivers, where it is extended.
+    pub fn xkind(&self) -> Option<u8>
+        ensures { result ≡ option_map (λ x. x.xkind) (xperms_of self.now.value.part) }
+    {
+        match self.xperms() {
+            None => None,
+            Some(xperms) => Some(xperms.xkind()),
+        }
+    }
+
+    /// The driver, where it is extended. It has no meaning where the kind is 2.
+    pub fn driver(&self) -> Option<u8>
+        ensures { result ≡ option_map (λ x. x.driver) (xperms_of self.now.value.part) }
+    {
+        match self.xperms() {
+            None => None,
+            Some(xperms) => Some(xperms.driver()),
+        }
+    }
+
+    /// The 32 bytes of the bits, where it is extended.
+    pub fn bits(&self) -> Option<[u8; 32]>
+        ensures { result ≡ option_map (λ x. x.bits) (xperms_of self.now.value.part) }
+    {
+        match self.xperms() {
+            None => None,
+            Some(xperms) => Some(xperms.bits()),
+        }
+    }
+
+    /// The first of source, target, class and default type that no primary record declares, as a fault at its field.
+    #[tactic(auto, using(crate::proofs::Places::dangling_none, crate::proofs::Places::dangling_some))]
+    pub fn dangling<N: Names>(&self, names: &N) -> Option<Fault>
+        ensures { result ≡ dangling_of (N.named names.now) (av_references self.now) }
+    {
+        let place = self.place;
+        let mentions = [
+            Mention::new(AV, 1, place, TableKind::Types, self.source() as u32),
+            Mention::new(AV, 2, place + 2, TableKind::Types, self.target() as u32),
+            Mention::new(AV, 3, place + 4, TableKind::Classes, self.class() as u32),
+        ];
+        match first_dangling(names, &mentions) {
+            Some(fault) => Some(fault),
+            None => self.dangling_default(names),
+        }
+    }
+
+    // The default type, where the data is one that no primary record declares.
+    fn dangling_default<N: Names>(&self, names: &N) -> Option<Fault>
+        ensures { result ≡ dangling_of (N.named names.now) (part_references (self.now.place + 8) (is_default self.now.value.specified) self.now.value.part) }
+    {
+        match self.mask() {
+            Some(mask) if is_default(self.specified()) => {
+                let field = Field { row: AV, part: 8 };
+                dangling(names, self.place + 8, field, TableKind::Types, mask)
+            }
+            _ => None,
+        }
+    }
+
+    /// The same access vector, owned. It takes no memory, and so there is no error.
+    pub fn rec(&self, _alloc: Global) -> Result<AvRec, AllocError>
+        ensures { result ≡ Ok self.now.value }
+    {
+        Ok(AvRec {
+            source: self.source(),
+            target: self.target(),
+            class: self.class(),
+            specified: self.specified(),
+            part: self.part(),
+        })
+    }
+
+    // Its last part.
+    fn part(&self) -> AvPart
+        ensures { result ≡ self.now.value.part }
+    {
+        let place = self.place as usize + 8;
+        if is_extended(self.specified()) {
+            AvPart::Extended {
+                xkind: u8_in(self.bytes, place),
+                driver: u8_in(self.bytes, place + 1),
+                bits: bits_in(self.bytes, place + 2),
+            }
+        } else {
+            AvPart::Data(u32_in(self.bytes, place))
+        }
+    }
+}
+
+/// The access vector at the cursor, which then stands behind it: one of a table, behind rules with these keys, or, with
+/// none, one under a condition. Takes no memory.
+///
+/// `BadSpecified` where a version has no such kind of rule; then `ExtendedInCondition` where an extended one stands under a
+/// condition below version 34, and `DuplicateRule` where an earlier rule of the table has its key and it is not extended;
+/// then `BadExtendedKind`.
+pub fn read_av<'a>(
+    c: &mut Cursor<'a>,
+    version: u32,
+    earlier: Option<&AvKeys>,
+) -> Result<AvView<'a>, Fault>
+    ensures exact { Answers (λ av. av.value) result (av_at version (option_map (λ keys. keys.now) earlier.entry)) c.old c.new }
+    ensures stands { IfOk result (λ av. HasAv c.old.bytes c.old.place × (av ≡ record { place = c.old.place; value = av_in c.old.bytes c.old.place })) }
+    ensures next { OnOk result (c.new.place ≡ av_end c.old.bytes c.old.place) }
+{
+    let bytes = c.bytes();
+    let place = c.place();
+    pass_av(c, version, earlier)?;
+    Ok(AvView { bytes, place })
+}
+
+// Passes over the access vector at the cursor.
+#[tactic(auto, unfolding(crate::specs::AvRecord::av_at))]
+fn pass_av(c: &mut Cursor<'_>, version: u32, earlier: Option<&AvKeys>) -> Result<(), Fault>
+    ensures exact { Answers (λ _. av_in c.old.bytes c.old.place) result (av_at version (option_map (λ keys. keys.now) earlier.entry)) c.old c.new }
+    ensures next { OnOk result (c.new.place ≡ av_end c.old.bytes c.old.place) }
+    ensures long { OnOk result (c.new.place ≤ length c.old.bytes) }
+{
+    let source = c.u16(Field { row: AV, part: 1 })?;
+    let target = c.u16(Field { row: AV, part: 2 })?;
+    let class = c.u16(Field { row: AV, part: 3 })?;
+    let place = c.place();
+    let field = Field { row: AV, part: 4 };
+    let specified = c.u16(field)?;
+    let key = AvKey {
+        source,
+        target,
+        class,
+        specified: kind_of(specified),
+    };
+    refuse(specified_cause(version, earlier, key), place, field)?;
+    pass_part(c, is_extended(specified))?;
+    Ok(())
+}
+
+// Passes over the part that has to be there.
+#[tactic(auto, unfolding(crate::specs::AvRecord::part_at))]
+fn pass_part(c: &mut Cursor<'_>, extended: bool) -> Result<(), Fault>
+    ensures exact { Answers (λ _. part_in extended c.old.bytes c.old.place) result (part_at extended) c.old c.new }
+    ensures next { OnOk result (c.new.place ≡ c.old.place + (if extended then 34 else 4)) }
+    ensures long { OnOk result (c.new.place ≤ length c.old.bytes) }
+{
+    if extended {
+        pass_extended(c)
+    } else {
+        pass_data(c)
+    }
+}
+
+// Passes over the extended part.
+#[tactic(auto, unfolding(crate::specs::AvRecord::extended_at), using(crate::proofs::AvReading::extended_read, pol_cursor::proofs::Facts::number_is, pol_cursor::proofs::Facts::string_is))]
+fn pass_extended(c: &mut Cursor<'_>) -> Result<(), Fault>
+    ensures exact { Answers (λ _. part_in true c.old.bytes c.old.place) result extended_at c.old c.new }
+    ensures next { OnOk result (c.new.place ≡ c.old.place + 34) }
+    ensures long { OnOk result (c.new.place ≤ length c.old.bytes) }
+{
+    let place = c.place();
+    let field = Field { row: AV, part: 5 };
+    let xkind = c.u8(field)?;
+    refuse(xkind_cause(xkind), place, field)?;
+    c.u8(Field { row: AV, part: 6 })?;
+    c.take(32, Field { row: AV, part: 7 })?;
+    Ok(())
+}
+
+// Passes over the data.
+#[tactic(auto, unfolding(crate::specs::AvRecord::data_at), using(pol_cursor::proofs::Facts::number_is))]
+fn pass_data(c: &mut Cursor<'_>) -> Result<(), Fault>
+    ensures exact { Answers (λ _. part_in false c.old.bytes c.old.place) result data_at c.old c.new }
+    ensures next { OnOk result (c.new.place ≡ c.old.place + 4) }
+    ensures long { OnOk result (c.new.place ≤ length c.old.bytes) }
+{
+    c.u32(Field { row: AV, part: 8 })?;
+    Ok(())
+}
