@@ -1,1 +1,1 @@
-pub mod HeaderLaws
+pub mod DanglingLists

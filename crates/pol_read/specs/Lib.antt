@@ -1,1 +1,2 @@
-pub mod HeaderRecord
+pub mod PolicyReferences
+pub mod TypeMapRows

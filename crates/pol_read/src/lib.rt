@@ -1,15 +1,10 @@
-//! The reader of policies. It reads the header.
+//! Parts of the reader of whole policies: the type map, and the references of the records of a list.
 #![tactic(auto)]
 
-mod causes;
-mod header_rec;
-mod header_view;
-mod header_write;
-mod record_laws;
+mod referring;
 #[cfg(test)]
 mod tests;
+mod type_map;
 
-pub use header_rec::HeaderRec;
-pub use header_view::{HeaderView, read_header};
-pub use header_write::write_header;
-pub use record_laws::headers_have_laws;
+pub use referring::{Referring, first_dangling_in};
+pub use type_map::{TypeMap, TypeMapRow, read_type_map, row_of};

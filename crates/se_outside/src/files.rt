@@ -42,4 +42,10 @@ pub trait Files {
         requires room { 0 < length into.old }
         ensures reads { Reads (state self.old) (state self.new) slot into.new result }
         ensures world { world self.new ≡ world self.old };
+
+    /// About how many bytes a slot has left, so that room can be made for them, and 0 where that is not known. It is a
+    /// hint: no answer rests on it.
+    fn size_hint(&self, _slot: Slot) -> u64 {
+        0
+    }
 }

@@ -7,6 +7,7 @@ ghost use Rattle.se_outside.specs.Real.{real_slot, real_state};
 
 use crate::counts::{counted, fault};
 use crate::{Failed, Files, Sink, Slot};
+use std::fs::OpenFile;
 use std::io::{self, Read, Write};
 use std::{fs, rt};
 
@@ -112,6 +113,25 @@ impl<'r, R: rt::Files> Files for RealFiles<'r, R> {
             Slot::Policy => self.policy.read(into),
             Slot::Map => self.map.read(into),
         }
+    }
+
+    /// The length of the slot's file, as the system tells it.
+    fn size_hint(&self, slot: Slot) -> u64 {
+        match slot {
+            Slot::Policy => length_told(&self.policy.file),
+            Slot::Map => length_told(&self.map.file),
+        }
+    }
+}
+
+// The length that the system tells of an open file, and 0 where it tells none.
+fn length_told<F: OpenFile>(file: &Option<F>) -> u64 {
+    let Some(file) = file else {
+        return 0;
+    };
+    match file.metadata() {
+        Ok(metadata) => metadata.len(),
+        Err(_) => 0,
     }
 }
 

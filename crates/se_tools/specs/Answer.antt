@@ -6,7 +6,7 @@ use Rattle.pol_cursor.specs.declared.Fault.{Fault}
 use Rattle.pol_bitmap.specs.Bitmap.{bitmap_at}
 use Rattle.pol_bitmap.specs.Nodes.{bits_of}
 use Rattle.pol_bitmap.specs.declared.Node.{Node}
-use Rattle.pol_read.specs.HeaderRecord.{header_at}
+use Rattle.pol_header.specs.HeaderRecord.{header_at}
 use Rattle.se_outside.specs.Outside.{Rose, SlotState, World, told, IsAsked}
 use Rattle.se_outside.specs.declared.Slot.{Slot}
 use Rattle.se_outside.specs.declared.Slot.TheVariants.{Policy, Map}

@@ -14,7 +14,7 @@ use crate::writing::WriteEnd;
 use crate::{Status, Words};
 use pol_bitmap::BitmapView;
 use pol_cursor::{Cursor, Fault};
-use pol_read::read_header;
+use pol_header::read_header;
 use se_outside::{Files, Sink, Slot};
 use std::alloc::Global;
 

@@ -19,7 +19,8 @@ pub enum ReadEnd {
     Memory,
 }
 
-/// Reads what a slot holds under a name, if that is at most `limit` bytes.
+/// Reads what a slot holds under a name, if that is at most `limit` bytes. Room is made at once for as many bytes as the
+/// files say are there, up to the limit.
 pub fn read_whole<F: Files>(
     alloc: Global,
     files: &mut F,
@@ -35,7 +36,10 @@ pub fn read_whole<F: Files>(
     let Ok(()) = files.open(slot, name) else {
         return Err(ReadEnd::Fault);
     };
-    let mut bytes = Vec::new(alloc);
+    let room = files.size_hint(slot).min(limit as u64) as usize;
+    let Ok(mut bytes) = Vec::with_capacity(alloc, room) else {
+        return Err(ReadEnd::Memory);
+    };
     let mut piece = [0; TURN];
     // Each turn but the last reads a byte at least, so one more than the limit and one for the end are enough.
     'turns: for _turn in 0..limit + 2 {

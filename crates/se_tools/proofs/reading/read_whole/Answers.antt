@@ -3,7 +3,7 @@ use Rattle.se_tools.proofs.Turns.{turns-start, turns-more}
 use Rattle.se_tools.proofs.reading.read_whole.Goals as goal
 
 pub turns-init : goal.turns-init
-turns-init g c = turns-start _ _ _ _ c.new-bytes.ensures.items c.in-Ok.ensures.opens.this.opened
+turns-init g c = turns-start _ _ _ _ c.in-Ok-with_capacity.ensures.items c.in-Ok.ensures.opens.this.opened
 
 pub turns-preserved : goal.turns-preserved
 turns-preserved g c =

@@ -1,5 +1,5 @@
-use Rattle.pol_read.proofs.HeaderLaws.{header_spelled, header_again}
-use Rattle.pol_read.proofs.record_laws.headers_have_laws.Goals as goal
+use Rattle.pol_header.proofs.HeaderLaws.{header_spelled, header_again}
+use Rattle.pol_header.proofs.record_laws.headers_have_laws.Goals as goal
 
 pub returns-clause-again : goal.returns-clause-again
 returns-clause-again c = header_again

@@ -1,7 +1,7 @@
 // The conditions of a header's fields: the first cause to refuse a value.
 ghost use Rattle.std.specs.Prelude.{◌≡◌};
 ghost use Rattle.pol_cursor.specs.Parts.{unless};
-ghost use Rattle.pol_read.specs.HeaderRecord.{magic_test, identity_length_test, identity_test, version_test, config_test, symbol_tables_test, context_tables, context_tables_test};
+ghost use Rattle.pol_header.specs.HeaderRecord.{magic_test, identity_length_test, identity_test, version_test, config_test, symbol_tables_test, context_tables, context_tables_test};
 
 use pol_cursor::Cause;
 

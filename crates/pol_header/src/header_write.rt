@@ -1,5 +1,5 @@
 ghost use Rattle.std.specs.Prelude.{◌≡◌, ◌++◌, OnOk};
-ghost use Rattle.pol_read.specs.HeaderRecord.{spell_header};
+ghost use Rattle.pol_header.specs.HeaderRecord.{spell_header};
 
 use crate::causes::{MAGIC, SYMBOL_TABLES, context_tables};
 use crate::header_rec::HeaderRec;

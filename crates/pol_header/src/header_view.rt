@@ -1,6 +1,6 @@
 ghost use Rattle.std.specs.Prelude.{◌≡◌, ◌≤◌, ◌+◌, IfOk, OnOk, length};
 ghost use Rattle.pol_cursor.specs.Outcome.{Answers};
-ghost use Rattle.pol_read.specs.HeaderRecord.{identity_at, counts_at, header_at, header_in, HasHeader};
+ghost use Rattle.pol_header.specs.HeaderRecord.{identity_at, counts_at, header_at, header_in, HasHeader};
 
 use crate::causes::{
     config_cause, context_tables_cause, identity_cause, identity_length_cause, magic_cause,
@@ -22,8 +22,8 @@ pub struct HeaderView<'a> {
 }
 
 impl<'a> Model for HeaderView<'a> {
-    ghost use Rattle.pol_read.specs.declared.header_rec.HeaderRec.{HeaderRec};
-    ghost use Rattle.pol_read.specs.HeaderRecord.{header_in, HasHeader};
+    ghost use Rattle.pol_header.specs.declared.header_rec.HeaderRec.{HeaderRec};
+    ghost use Rattle.pol_header.specs.HeaderRecord.{header_in, HasHeader};
 
     ghost Value = { HeaderRec };
 

@@ -7,7 +7,7 @@ use Rattle.pol_cursor.specs.Outcome.{field}
 use Rattle.pol_cursor.specs.Laws.{IsReadAgain, IsReadFromSpelling}
 use Rattle.pol_cursor.proofs.Facts.{unless_none, unless_is}
 use Rattle.pol_cursor.proofs.Laws.{Reads-done, Reads-part, Reads-number_if, Reads-string_if, Again-done, Again-part, Again-as, Again-number_if, Again-string_if}
-use Rattle.pol_read.specs.HeaderRecord.{policy_magic, identity, identity_test, context_tables, identity_at, counts_at, header_at, spell_identity, spell_counts, spell_header, HeaderFits}
+use Rattle.pol_header.specs.HeaderRecord.{policy_magic, identity, identity_test, context_tables, identity_at, counts_at, header_at, spell_identity, spell_counts, spell_header, HeaderFits}
 
 -- ---- the identity, which is spelled alike in every policy
 

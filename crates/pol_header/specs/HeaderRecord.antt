@@ -5,7 +5,7 @@ use Rattle.pol_cursor.specs.declared.Cause.TheVariants.{BadMagic, BadIdentity, U
 use Rattle.pol_cursor.specs.Outcome.{Reader, field, ◌>>=◌, done}
 use Rattle.pol_cursor.specs.Parts.{num, number_if, string_if, unless}
 use Rattle.pol_cursor.specs.Spelling.{bytes_of}
-use Rattle.pol_read.specs.declared.header_rec.HeaderRec.{HeaderRec}
+use Rattle.pol_header.specs.declared.header_rec.HeaderRec.{HeaderRec}
 
 -- ---- the conditions of its fields
 

@@ -1,0 +1,37 @@
+// The references of the records of a list.
+ghost use Rattle.std.specs.Prelude.{◌≡◌, List};
+ghost use Rattle.pol_cursor.specs.References.{Reference, dangling_of};
+ghost use Rattle.pol_read.specs.PolicyReferences.{references_in};
+
+use pol_cursor::{Fault, Names, RecordView, Records};
+
+/// A kind of record that refers to values of the symbol tables.
+pub trait Referring<'a>: RecordView<'a> {
+    ghost use Rattle.pol_cursor.specs.References.{Placed, Reference};
+
+    /// The references of a record, in file order.
+    ghost references: { Placed Self.Owned → List Reference };
+
+    /// The first of them whose value no primary record declares, as a fault at its field.
+    fn dangling<N: Names>(view: &Self::View, names: &N) -> Option<Fault>
+        ensures { result ≡ dangling_of (N.named names.now) (references (Self.shown view.now)) };
+}
+
+/// The first reference of the records of a list, in file order, whose value no primary record declares, as a fault at
+/// its field.
+pub fn first_dangling_in<'a, K: Referring<'a> + Drop, N: Names>(
+    records: &Records<'a, K>,
+    names: &N,
+) -> Option<Fault>
+where
+    K::View: Drop,
+    ensures { result ≡ dangling_of (N.named names.now) (references_in K.references records.now) }
+{
+    for i in 0..records.len() {
+        match K::dangling(&records.view(i), names) {
+            Some(fault) => return Some(fault),
+            None => {}
+        }
+    }
+    None
+}
