@@ -1,5 +1,5 @@
 -- The two laws of access vectors, of their table, of conditional nodes and of the list of them.
-use Rattle.std.proofs.Common.{◌≡◌, ℕ, zero, suc, ◌∷◌, ◌<◌, ◌^◌, Bool, true, false, Option, None, List, [], length, refl, sym, ap, append_assoc}
+use Rattle.std.proofs.Common.{◌≡◌, ℕ, zero, suc, ◌∷◌, Bool, true, false, Option, None, List, length, refl, ap, append_assoc}
 use Rattle.std.specs.List.{flat_map, AllByRecursion}
 use Rattle.std.proofs.lemmas.List.{append-nil}
 use Rattle.pol_cursor.specs.Outcome.{Reader, Outcome, Got, Bad, and_then, field}
@@ -7,16 +7,13 @@ use Rattle.pol_cursor.specs.Contexts.{records_after}
 use Rattle.pol_cursor.specs.Parts.{number, list_of, records_at, counted, spell_counted, CountedFits}
 use Rattle.pol_cursor.specs.References.{Placed, placed, without_places}
 use Rattle.pol_cursor.specs.Laws.{Again, Reads, IsSpelling, IsReadAgain, IsReadFromSpelling}
-use Rattle.pol_cursor.proofs.Laws.{Reads-done, Reads-part, Reads-as, Reads-number, Reads-number_if, Reads-string, Reads-list_of, Again-done, Again-part, Again-as, Again-number, Again-number_if, Again-string-of, Again-list_of, records_spelled, records_again, counted_spelled, counted_again}
+use Rattle.pol_cursor.proofs.Laws.{Reads-done, Reads-part, Reads-number, Reads-number_if, Reads-string, Reads-list_of, Again-done, Again-part, Again-as, Again-number, Again-number_if, Again-string-of, Again-list_of, records_spelled, records_again, counted_spelled, counted_again}
 use Rattle.pol_cursor.proofs.Lists.{records_unplaced}
 use Rattle.pol_cursor.proofs.ContextLists.{records_after_unplaced}
 use Rattle.pol_expr.proofs.ConditionLaws.{condition_spelled, condition_again}
 use Rattle.pol_avtab.specs.declared.av_key.AvKey.{AvKey}
 use Rattle.pol_avtab.specs.declared.av_rec.AvRec.{AvRec}
-use Rattle.pol_avtab.specs.declared.av_rec.AvPart.{AvPart}
 use Rattle.pol_avtab.specs.declared.av_rec.AvPart.TheVariants.{Data, Extended}
-use Rattle.pol_avtab.specs.declared.av_kind.AvContext.{AvContext}
-use Rattle.pol_avtab.specs.declared.condnode_rec.CondNodeRec.{CondNodeRec}
 use Rattle.pol_avtab.specs.AvRecord.{is_extended, extended_at, data_at, part_at, av_at, spell_part, spell_av, PartFits, AvFits}
 use Rattle.pol_avtab.specs.CondNodeRecord.{conditional_rules_at, condnode_at, spell_condnode, CondNodeFits}
 use Rattle.pol_avtab.specs.AvTables.{rule_at, after_rule, no_rules, placed_rules_at, table_at, rules_at, plain_table_at, spell_table, TableFits, conditionals_at, plain_conditionals_at, spell_conditionals, ConditionalsFit}

@@ -1,15 +1,13 @@
 -- The rules of a conditional node by where they stand.
-use Rattle.std.proofs.Common.{◌≡◌, ℕ, zero, suc, ◌+◌, ◌*◌, ◌≤◌, Bool, true, false, List, [], ◌∷◌, ◌++◌, length, refl, sym, ap, ◌∙◌, arith}
-use Rattle.std.specs.Prelude.{if◌then◌else◌}
+use Rattle.std.proofs.Common.{◌≡◌, ℕ, zero, suc, ◌+◌, true, false, List, [], ◌∷◌, refl, sym, ap, ◌∙◌, arith}
 use Rattle.pol_cursor.specs.Parts.{num}
 use Rattle.pol_cursor.specs.References.{Placed, values_of}
-use Rattle.pol_cursor.specs.Runs.{run_in, run_end, HasRun}
-use Rattle.pol_expr.specs.ConditionRecord.{items_in}
+use Rattle.pol_cursor.specs.Runs.{run_in, run_end}
 use Rattle.pol_expr.proofs.ItemPlaces.{length_items_in}
 use Rattle.pol_avtab.specs.declared.av_rec.AvRec.{AvRec}
 use Rattle.pol_avtab.specs.declared.condnode_rec.CondNodeRec.{CondNodeRec}
-use Rattle.pol_avtab.specs.AvRecord.{av_in, av_length, av_end, HasAv}
-use Rattle.pol_avtab.specs.CondNodeRecord.{rules_in, rules_end, true_count_place, false_count_place, condnode_in, placed_rules, rules_length, true_place, false_place, branch_rules}
+use Rattle.pol_avtab.specs.AvRecord.{av_in, av_length, av_end}
+use Rattle.pol_avtab.specs.CondNodeRecord.{rules_in, true_count_place, false_count_place, condnode_in, placed_rules, rules_length, true_place, false_place, branch_rules}
 
 -- rules that stand there are those of their values
 pub rules_placed : (bytes : List ℕ) (place n : ℕ) → placed_rules place (values_of (run_in av_in av_end bytes place n)) ≡ run_in av_in av_end bytes place n

@@ -1,5 +1,5 @@
 -- Record 16: an access vector, which is one rule (libsepol's avtab_read_item).
-use Rattle.std.specs.Prelude.{◌≡◌, ℕ, ◌+◌, ◌^◌, ◌<◌, ◌≤◌, Bool, true, false, not, ◌==◌, ◌&&◌, ◌||◌, Option, Some, None, List, [], ◌∷◌, ◌++◌, length, take, drop, bit_and, nat_le, nat_lt, if◌then◌else◌}
+use Rattle.std.specs.Prelude.{◌≡◌, ℕ, ◌+◌, ◌^◌, ◌<◌, ◌≤◌, Bool, true, false, not, ◌==◌, ◌&&◌, ◌||◌, Option, Some, None, List, [], ◌∷◌, ◌++◌, length, take, drop, bit_and, nat_le, option_map, if◌then◌else◌}
 use Rattle.pol_cursor.specs.declared.fault.Cause.{Cause}
 use Rattle.pol_cursor.specs.declared.fault.Cause.TheVariants.{BadSpecified, BadExtendedKind, ExtendedInCondition, DuplicateRule}
 use Rattle.pol_cursor.specs.declared.table_kind.TableKind.TheVariants.{Types, Classes}
@@ -11,7 +11,7 @@ use Rattle.pol_avtab.specs.declared.av_key.AvKey.{AvKey}
 use Rattle.pol_avtab.specs.declared.av_rec.AvRec.{AvRec}
 use Rattle.pol_avtab.specs.declared.av_rec.AvPart.{AvPart}
 use Rattle.pol_avtab.specs.declared.av_rec.AvPart.TheVariants.{Data, Extended}
-use Rattle.pol_avtab.specs.AvKeys.{kind_of, key_of, has_key}
+use Rattle.pol_avtab.specs.AvKeys.{kind_of, has_key}
 
 -- ---- what it specifies
 
@@ -31,22 +31,27 @@ is_kind version kind =
 
 -- ---- the conditions of its fields
 
--- In the table, behind these keys, no earlier rule has the key, unless it is extended.
-abbrev pub earlier_test : List AvKey → AvKey → Option Cause
-earlier_test keys key = unless (is_extended key.specified || not (has_key keys key)) DuplicateRule
+-- In the table no earlier rule has the key, unless it is extended.
+abbrev pub earlier_test : Bool → AvKey → Option Cause
+earlier_test has key = unless (is_extended key.specified || not has) DuplicateRule
 
 -- A rule under a condition is no extended one below version 34 (this project's profile).
 abbrev pub condition_test : ℕ → ℕ → Option Cause
 condition_test version kind = unless (nat_le 34 version || not (is_extended kind)) ExtendedInCondition
 
--- the conditions on where it stands: in the table behind these keys, or, with none, under a condition
-abbrev pub standing_test : ℕ → Option (List AvKey) → AvKey → Option Cause
+-- the conditions on where it stands: in the table, where an earlier rule has its key or none has, or under a condition
+abbrev pub standing_test : ℕ → Option Bool → AvKey → Option Cause
 standing_test version None key = condition_test version key.specified
-standing_test version (Some keys) key = earlier_test keys key
+standing_test version (Some has) key = earlier_test has key
 
--- the conditions on what it specifies, which is in the key without the mark
+-- the conditions on its kind
+abbrev pub kind_test : ℕ → Option Bool → AvKey → Option Cause
+kind_test version earlier key = if is_kind version key.specified then standing_test version earlier key else Some BadSpecified
+
+-- the conditions on what it specifies, which is in the key without the mark: in the table behind these keys, or, with none, under a
+-- condition
 abbrev pub specified_test : ℕ → Option (List AvKey) → AvKey → Option Cause
-specified_test version earlier key = if is_kind version key.specified then standing_test version earlier key else Some BadSpecified
+specified_test version earlier key = kind_test version (option_map (λ keys. has_key keys key) earlier) key
 
 -- Extended permissions are those of one driver, or whole drivers.
 abbrev pub xkind_test : ℕ → Option Cause

@@ -1,6 +1,6 @@
 -- Record 19: a conditional node, which is a condition and the rules that hold where it does and where it does not (libsepol's
 -- cond_read_node).
-use Rattle.std.specs.Prelude.{◌≡◌, ℕ, ◌+◌, ◌*◌, ◌≤◌, Bool, true, false, Option, Some, None, List, [], ◌∷◌, ◌++◌, length, slice_get, if◌then◌else◌}
+use Rattle.std.specs.Prelude.{ℕ, ◌+◌, ◌*◌, ◌≤◌, Bool, true, false, Option, Some, None, List, [], ◌∷◌, ◌++◌, length, slice_get, if◌then◌else◌}
 use Rattle.std.specs.List.{flat_map}
 use Rattle.pol_cursor.specs.Outcome.{Reader, field, ◌>>=◌, done}
 use Rattle.pol_cursor.specs.Parts.{num, counted, records_at, spell_counted, CountedFits}

@@ -1,4 +1,4 @@
-ghost use Rattle.std.specs.Prelude.{◌≡◌, [], OnOk, OnErr};
+ghost use Rattle.std.specs.Prelude.{◌≡◌, [], IfOk, OnOk, OnErr};
 ghost use Rattle.pol_avtab.specs.AvKeys.{key_of, has_key, with_key};
 
 use crate::av_key::AvKey;
@@ -44,7 +44,17 @@ impl AvKeys {
         ensures ok { OnOk result (self.new ≡ with_key self.old (key_of view.now.value)) }
         ensures err { OnErr result (self.new ≡ self.old) }
     {
-        self.keys.insert(view.key())?;
+        self.insert(view.key())?;
         Ok(())
+    }
+
+    // Adds a key, and answers whether a rule had it.
+    pub(crate) fn insert(&mut self, key: AvKey) -> Result<bool, AllocError>
+        ensures had { IfOk result (λ had. had ≡ has_key self.old key) }
+        ensures ok { OnOk result (self.new ≡ with_key self.old key) }
+        ensures err { OnErr result (self.new ≡ self.old) }
+    {
+        let (_, is_new) = self.keys.insert_full(key)?;
+        Ok(!is_new)
     }
 }

@@ -7,7 +7,7 @@ ghost use Rattle.pol_avtab.specs.AvTables.{rule_at, after_rule};
 
 use crate::av_keys::AvKeys;
 use crate::av_rec::AvRec;
-use crate::av_view::{AvView, read_av};
+use crate::av_view::{AvView, pass_rule, read_av};
 use pol_cursor::{Cursor, Fault, Inner, ReadAfter, ReadError, Record, RecordView};
 
 /// What a rule of the table is read under: the version, and the keys of the rules before it.
@@ -52,9 +52,9 @@ impl<'a> ReadAfter<'a> for Av {
         ensures stands { OnOk result (HasAv c.old.bytes c.old.place) }
         ensures after { IfOk result (λ context_new. context_new ≡ after_rule context (av_in c.old.bytes c.old.place)) }
     {
+        let _bytes = c.bytes();
         let mut context = context;
-        let view = read_av(c, context.version, Some(&context.keys))?;
-        context.keys.add(&view)?;
+        pass_rule(c, context.version, &mut context.keys)?;
         Ok(context)
     }
 }

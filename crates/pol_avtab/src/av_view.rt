@@ -1,19 +1,19 @@
 ghost use Rattle.std.specs.Prelude.{◌≡◌, ◌+◌, ◌≤◌, true, false, IfOk, OnOk, Ok, Some, None, option_map, length, if◌then◌else◌};
-ghost use Rattle.pol_cursor.specs.Outcome.{Answers};
+ghost use Rattle.pol_cursor.specs.Outcome.{Answers, Yields};
 ghost use Rattle.pol_cursor.specs.References.{dangling_of};
-ghost use Rattle.pol_avtab.specs.AvKeys.{key_of};
+ghost use Rattle.pol_avtab.specs.AvKeys.{key_of, has_key, with_key};
 ghost use Rattle.pol_avtab.specs.AvRecord.{extended_at, data_at, part_at, av_at, av_in, part_in, av_length, av_end, HasAv, av_references, part_references, is_default};
 ghost use Rattle.pol_avtab.specs.XPerms.{mask_of, xperms_of};
 
 use crate::av_key::AvKey;
 use crate::av_keys::AvKeys;
 use crate::av_rec::{AvPart, AvRec};
-use crate::causes::{is_default, is_extended, kind_of, specified_cause, xkind_cause};
+use crate::causes::{is_default, is_extended, kind_cause, kind_of, xkind_cause};
 use crate::parts::{bits_in, u8_in};
 use crate::xperms::XPerms;
 use pol_cursor::{
-    Cursor, Fault, Field, Mention, Names, TableKind, dangling, first_dangling, refuse, u16_in,
-    u32_in,
+    Cursor, Fault, Field, Mention, Names, ReadError, TableKind, dangling, first_dangling, refuse,
+    u16_in, u32_in,
 };
 use std::alloc::{AllocError, Global};
 use std::marker::Model;
@@ -259,7 +259,44 @@ fn pass_av(c: &mut Cursor<'_>, version: u32, earlier: Option<&AvKeys>) -> Result
         class,
         specified: kind_of(specified),
     };
-    refuse(specified_cause(version, earlier, key), place, field)?;
+    refuse(kind_cause(version, among(earlier, key), key), place, field)?;
+    pass_part(c, is_extended(specified))?;
+    Ok(())
+}
+
+// Whether a key is among those of earlier rules, where there is a table of them.
+fn among(earlier: Option<&AvKeys>, key: AvKey) -> Option<bool>
+    ensures { result ≡ option_map (λ keys. has_key keys key) (option_map (λ keys. keys.now) earlier.entry) }
+{
+    match earlier {
+        Some(keys) => Some(keys.has(key)),
+        None => None,
+    }
+}
+
+/// Passes over the rule of a table at the cursor, and adds its key to those of the rules before it.
+#[tactic(auto, unfolding(crate::specs::AvRecord::av_at))]
+pub fn pass_rule(c: &mut Cursor<'_>, version: u32, keys: &mut AvKeys) -> Result<(), ReadError>
+    ensures exact { Yields (λ _. av_in c.old.bytes c.old.place) result (av_at version (Some keys.old)) c.old c.new }
+    ensures next { OnOk result (c.new.place ≡ av_end c.old.bytes c.old.place) }
+    ensures long { OnOk result (c.new.place ≤ length c.old.bytes) }
+    ensures added { OnOk result (keys.new ≡ with_key keys.old (key_of (av_in c.old.bytes c.old.place))) }
+{
+    let source = c.u16(Field { row: AV, part: 1 })?;
+    let target = c.u16(Field { row: AV, part: 2 })?;
+    let class = c.u16(Field { row: AV, part: 3 })?;
+    let place = c.place();
+    let field = Field { row: AV, part: 4 };
+    let specified = c.u16(field)?;
+    let key = AvKey {
+        source,
+        target,
+        class,
+        specified: kind_of(specified),
+    };
+    // One look at the keys tells whether it is there and adds it.
+    let has = keys.insert(key)?;
+    refuse(kind_cause(version, Some(has), key), place, field)?;
     pass_part(c, is_extended(specified))?;
     Ok(())
 }

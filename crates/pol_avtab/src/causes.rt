@@ -1,11 +1,10 @@
 //! The conditions on the fields of an access vector: each gives the cause that refuses a value.
 
-ghost use Rattle.std.specs.Prelude.{◌≡◌, option_map};
+ghost use Rattle.std.specs.Prelude.{◌≡◌};
 ghost use Rattle.pol_avtab.specs.AvKeys.{kind_of};
-ghost use Rattle.pol_avtab.specs.AvRecord.{is_extended, is_default, is_kind, standing_test, specified_test, xkind_test};
+ghost use Rattle.pol_avtab.specs.AvRecord.{is_extended, is_default, is_kind, standing_test, kind_test, xkind_test};
 
 use crate::av_key::AvKey;
-use crate::av_keys::AvKeys;
 use pol_cursor::Cause;
 
 // All bits but libsepol's AVTAB_ENABLED_OLD.
@@ -47,9 +46,9 @@ fn is_kind(version: u32, kind: u16) -> bool
     }
 }
 
-// Whether a rule may stand where it stands: behind those of a table, or, with none, under a condition.
-fn standing_cause(version: u32, earlier: Option<&AvKeys>, key: AvKey) -> Option<Cause>
-    ensures { result ≡ standing_test version (option_map (λ keys. keys.now) earlier.entry) key }
+// Whether a rule may stand where it stands: in a table, where an earlier rule has its key or none has, or under a condition.
+fn standing_cause(version: u32, earlier: Option<bool>, key: AvKey) -> Option<Cause>
+    ensures { result ≡ standing_test version earlier key }
 {
     match earlier {
         None => {
@@ -59,8 +58,8 @@ fn standing_cause(version: u32, earlier: Option<&AvKeys>, key: AvKey) -> Option<
                 None
             }
         }
-        Some(keys) => {
-            if !is_extended(key.specified) && keys.has(key) {
+        Some(has) => {
+            if !is_extended(key.specified) && has {
                 Some(Cause::DuplicateRule)
             } else {
                 None
@@ -69,9 +68,10 @@ fn standing_cause(version: u32, earlier: Option<&AvKeys>, key: AvKey) -> Option<
     }
 }
 
-/// `BadSpecified` where a version has no such kind, and else the cause not to stand there.
-pub fn specified_cause(version: u32, earlier: Option<&AvKeys>, key: AvKey) -> Option<Cause>
-    ensures { result ≡ specified_test version (option_map (λ keys. keys.now) earlier.entry) key }
+/// `BadSpecified` where a version has no such kind, and else the cause not to stand there: in a table, where an earlier rule has
+/// the key or none has, or, with none, under a condition.
+pub fn kind_cause(version: u32, earlier: Option<bool>, key: AvKey) -> Option<Cause>
+    ensures { result ≡ kind_test version earlier key }
 {
     if is_kind(version, key.specified) {
         standing_cause(version, earlier, key)

@@ -16,8 +16,6 @@ mod condnode_write;
 mod parts;
 mod place_groups;
 mod record_laws;
-#[cfg(test)]
-mod tests;
 mod xnumbers;
 mod xperms;
 

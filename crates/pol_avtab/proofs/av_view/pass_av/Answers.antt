@@ -4,7 +4,7 @@ use Rattle.pol_avtab.proofs.av_view.pass_av.Goals as goal
 
 pub returns : goal.returns
 returns c =
-    let test = sym (rw c.kind_of.ensures at c.specified_cause.ensures) ∙ c.in_ok-refuse.ensures in
+    let test = sym (rw (c.among.ensures, c.kind_of.ensures) at c.kind_cause.ensures) ∙ c.in_ok-refuse.ensures in
     let read = av_read c.args.version (option_map (λ keys. keys.now) c.args.earlier) c.args.c.now c.u16.new.self c.u16-2.new.self c.u16-3.new.self c.u16-4.new.self c.pass_part.new.c
     c.in_ok-source.source c.in_ok-target.target c.in_ok-class.class c.in_ok-specified.specified
     c.in_ok-source.ensures.exact c.in_ok-target.ensures.exact c.in_ok-class.ensures.exact c.in_ok-specified.ensures.exact test

@@ -1,6 +1,5 @@
-use Rattle.std.specs.Prelude.{◌≡◌, ◌++◌, length, take}
+use Rattle.std.specs.Prelude.{◌≡◌, ◌++◌, take}
 use Rattle.std.specs.List.{flat_map}
-use Rattle.pol_cursor.specs.Spelling.{bytes_of}
 use Rattle.pol_avtab.specs.CondNodeRecord.{spell_condnode}
 use Rattle.pol_avtab.proofs.condnode_write.write_conditionals.Given as goal
 

@@ -1,4 +1,4 @@
-use Rattle.std.proofs.Common.{◌≡◌, ◌<◌, ◌∙◌, ℕ, List, length, get_or, sym, ap}
+use Rattle.std.proofs.Common.{ℕ, List, get_or, ap}
 use Rattle.pol_avtab.proofs.Groups.{rule_of_nodes}
 use Rattle.pol_avtab.proofs.conditionals.Conditionals.branch_view.Goals as goal
 

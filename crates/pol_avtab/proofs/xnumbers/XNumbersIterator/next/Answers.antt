@@ -1,4 +1,4 @@
-use Rattle.std.proofs.Common.{◌∙◌, sym, rules, arith}
+use Rattle.std.proofs.Common.{◌∙◌, sym, rules}
 use Rattle.pol_avtab.proofs.HeldNumbers.{numbers_past, numbers_none, numbers_first}
 use Rattle.pol_avtab.proofs.xnumbers.XNumbersIterator.next.Goals as goal
 

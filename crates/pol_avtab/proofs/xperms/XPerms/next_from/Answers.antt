@@ -1,4 +1,4 @@
-use Rattle.std.proofs.Common.{◌≡◌, ◌≢◌, ◌+◌, ◌*◌, ◌-◌, ◌∙◌, ap, sym, arith, ℕ}
+use Rattle.std.proofs.Common.{◌*◌, ◌∙◌, ap, sym, arith, ℕ}
 use Rattle.pol_avtab.proofs.HeldNumbers.{next_of_driver, none_of_driver, this_driver, next_driver, no_driver}
 use Rattle.pol_avtab.proofs.xperms.XPerms.next_from.Goals as goal
 
