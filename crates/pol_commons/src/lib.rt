@@ -12,8 +12,6 @@ mod permission_rec;
 mod permission_view;
 mod permission_write;
 mod record_laws;
-#[cfg(test)]
-mod tests;
 
 pub use causes::permission_count_cause;
 pub use common_rec::{CommonRec, CommonRecList};

@@ -34,8 +34,6 @@ mod sid_rec;
 mod sid_view;
 mod sid_write;
 mod tables;
-#[cfg(test)]
-mod tests;
 mod texts;
 
 pub use address_rec::AddressRec;

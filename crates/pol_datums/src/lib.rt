@@ -26,8 +26,6 @@ mod sensitivity_view;
 mod sensitivity_write;
 mod symbol_references;
 mod symbol_values;
-#[cfg(test)]
-mod tests;
 mod type_kind;
 mod type_rec;
 mod type_view;

@@ -22,8 +22,6 @@ mod constraint_write;
 mod operand;
 mod record_laws;
 mod symbol;
-#[cfg(test)]
-mod tests;
 
 pub use condition_rec::{ConditionItem, ConditionRec};
 pub use condition_view::{ConditionView, read_condition};

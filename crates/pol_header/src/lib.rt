@@ -6,8 +6,6 @@ mod header_rec;
 mod header_view;
 mod header_write;
 mod record_laws;
-#[cfg(test)]
-mod tests;
 
 pub use header_rec::HeaderRec;
 pub use header_view::{HeaderView, read_header};

@@ -11,8 +11,6 @@ mod range_write;
 mod record_laws;
 mod run;
 mod run_text;
-#[cfg(test)]
-mod tests;
 mod texts;
 
 pub use level_rec::LevelRec;

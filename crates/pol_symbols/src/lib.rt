@@ -11,11 +11,7 @@ mod class_write;
 mod constraint_length;
 mod constraint_list;
 mod record_laws;
-#[cfg(test)]
-mod symbol_tests;
 mod symbols;
-#[cfg(test)]
-mod tests;
 mod user_kind;
 mod user_rec;
 mod user_view;

@@ -10,8 +10,6 @@ mod symbol_laws;
 mod symbol_table;
 mod table_head;
 mod taken;
-#[cfg(test)]
-mod tests;
 mod value_index;
 
 pub use causes::{length_cause, name_cause, new_value_cause, primary_value_cause, value_cause};

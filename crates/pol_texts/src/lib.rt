@@ -6,8 +6,6 @@ mod hexadecimal;
 mod name_texts;
 mod number_names;
 mod number_texts;
-#[cfg(test)]
-mod tests;
 
 pub use address_texts::{push_groups_text, push_ipv4_text};
 pub use name_texts::push_name_text;

@@ -23,8 +23,6 @@ mod role_trans_rec;
 mod role_trans_view;
 mod role_trans_write;
 mod rows;
-#[cfg(test)]
-mod tests;
 
 pub use lists::{
     NameGroupList, NameTransList, RangeTransList, RoleAllowList, RoleTransList, read_range_trans,
