@@ -1,2 +1,10 @@
-pub mod PolicyReferences
 pub mod TypeMapRows
+pub mod PolicyParts
+pub mod PolicySpelling
+pub mod PolicyReferences
+pub mod Acceptance
+pub mod RunningSums
+pub mod StoredRules
+pub mod CutFiles
+pub mod RuleNumbers
+pub mod RuleOrder

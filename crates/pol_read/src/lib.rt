@@ -1,10 +1,26 @@
-//! Parts of the reader of whole policies: the type map, and the references of the records of a list.
+//! The reader of whole policies.
 #![tactic(auto)]
 
+mod cut_law;
+mod dangling;
+mod kinds;
+mod parts;
+mod policy;
+mod policy_laws;
+mod reading;
 mod referring;
-#[cfg(test)]
-mod tests;
+mod rule;
+mod rule_index;
+mod rule_order;
+mod rules;
+mod sorting;
+mod sums;
 mod type_map;
 
-pub use referring::{Referring, first_dangling_in};
-pub use type_map::{TypeMap, TypeMapRow, read_type_map, row_of};
+pub use cut_law::cut_files_have_law;
+pub use parts::{Front, LabelLists, Parts, RuleLists};
+pub use policy::{Policy, read};
+pub use policy_laws::policies_have_law;
+pub use referring::{Referring, first_dangling_in, first_dangling_in_table};
+pub use rule::{Condition, Rule, RuleKind, RulePart};
+pub use type_map::{TypeMap, TypeMapRow, row_of};

@@ -4,6 +4,7 @@ ghost use Rattle.pol_cursor.specs.References.{Reference, dangling_of};
 ghost use Rattle.pol_read.specs.PolicyReferences.{references_in};
 
 use pol_cursor::{Fault, Names, RecordView, Records};
+use pol_symtab::{Symbol, SymbolTable};
 
 /// A kind of record that refers to values of the symbol tables.
 pub trait Referring<'a>: RecordView<'a> {
@@ -29,6 +30,24 @@ where
 {
     for i in 0..records.len() {
         match K::dangling(&records.view(i), names) {
+            Some(fault) => return Some(fault),
+            None => {}
+        }
+    }
+    None
+}
+
+/// The same of the records of a symbol table.
+pub fn first_dangling_in_table<'a, K: Referring<'a> + Symbol<'a> + Drop, N: Names>(
+    table: &SymbolTable<'a, K>,
+    names: &N,
+) -> Option<Fault>
+where
+    K::View: Drop,
+    ensures { result ≡ dangling_of (N.named names.now) (references_in K.references table.now.records) }
+{
+    for i in 0..table.len() {
+        match K::dangling(&table.view(i), names) {
             Some(fault) => return Some(fault),
             None => {}
         }

@@ -1,0 +1,171 @@
+ghost use Rattle.std.specs.Prelude.{◌≡◌, ◌<◌, ◌≤◌, ◌-◌, Some, IfOk, option_map, slice_get, length};
+ghost use Rattle.pol_avtab.specs.CondNodeRecord.{node_condition};
+ghost use Rattle.pol_read.specs.Acceptance.{Accepts};
+
+use crate::dangling::first_undeclared;
+use crate::parts::Parts;
+use crate::reading::read_parts;
+use crate::rule_index::{RuleIndex, index_rules};
+use crate::type_map::row_of;
+use pol_avtab::{AvTable, Conditionals};
+use pol_bitmap::BitmapView;
+use pol_contexts::{Contexts, GenfsList};
+use pol_cursor::{Cursor, ReadError};
+use pol_expr::ConditionView;
+use pol_symbols::Symbols;
+use pol_trans::{NameTrans, RangeTransList, RoleAllowList, RoleTransList};
+use std::alloc::{AllocError, Global};
+use std::marker::Model;
+
+/// A policy that was accepted. Contracts see its parts.
+#[derive(Drop)]
+pub struct Policy<'a> {
+    pub(crate) parts: Parts<'a>,
+    // What finds a stored rule by its number.
+    pub(crate) index: RuleIndex,
+}
+
+impl<'a> Model for Policy<'a> {
+    ghost use Rattle.std.specs.Prelude.{◌≡◌, length};
+    ghost use Rattle.pol_read.specs.declared.parts.Parts.{Parts};
+    ghost use Rattle.pol_read.specs.RuleNumbers.{IsIndexOf};
+
+    ghost Value = { Parts };
+
+    ghost view = { λ p. p.parts };
+
+    ghost invariant = { λ p. (length p.parts.labels.type_map ≡ p.parts.symbols.types.nprim) × IsIndexOf p.parts p.index };
+}
+
+impl<'a> Policy<'a> {
+    /// The version of the format, 28 to 34.
+    pub fn version(&self) -> u32
+        ensures { result ≡ self.now.front.header.version }
+    {
+        self.parts.front.header.version()
+    }
+
+    /// Bit 0x1 is MLS, 0x2 refuses unknown classes and 0x4 allows them.
+    pub fn config(&self) -> u32
+        ensures { result ≡ self.now.front.header.config }
+    {
+        self.parts.front.header.config()
+    }
+
+    /// The numbers of the policy's capabilities are the bits.
+    pub fn capabilities(&self) -> &BitmapView<'a>
+        ensures { result.now ≡ self.now.front.capabilities }
+    {
+        &self.parts.front.capabilities
+    }
+
+    /// The types whose domains are permissive: bit t stands for the type value t.
+    pub fn permissive(&self) -> &BitmapView<'a>
+        ensures { result.now ≡ self.now.front.permissive }
+    {
+        &self.parts.front.permissive
+    }
+
+    /// The symbol tables.
+    pub fn symbols(&self) -> &Symbols<'a>
+        ensures { result.now ≡ self.now.symbols }
+    {
+        &self.parts.symbols
+    }
+
+    /// The row of the type map for a type value: bit v - 1 stands for the value v, of a type or an attribute that the type is.
+    pub fn row(&self, value: u32) -> BitmapView<'a>
+        requires least { 0 < value }
+        requires most { value ≤ self.now.symbols.types.nprim }
+        ensures { option_map (λ row. row.value) (slice_get self.now.labels.type_map (value - 1)) ≡ Some result }
+    {
+        row_of(&self.parts.labels.type_map, value)
+    }
+
+    /// The access vector table.
+    pub fn table(&self) -> &AvTable<'a>
+        ensures { result.now ≡ self.now.rules.table }
+    {
+        &self.parts.rules.table
+    }
+
+    /// The conditional nodes.
+    pub fn conditionals(&self) -> &Conditionals<'a>
+        ensures { result.now ≡ self.now.rules.conditionals }
+    {
+        &self.parts.rules.conditionals
+    }
+
+    /// The condition of the node of that number, from 0 on.
+    pub fn condition(&self, node: u32) -> ConditionView<'a>
+        requires { node < length self.now.rules.conditionals }
+        ensures { option_map node_condition (slice_get self.now.rules.conditionals node) ≡ Some result }
+    {
+        self.parts.rules.conditionals.condition(node)
+    }
+
+    pub fn role_trans(&self) -> &RoleTransList<'a>
+        ensures { result.now ≡ self.now.rules.role_trans }
+    {
+        &self.parts.rules.role_trans
+    }
+
+    pub fn role_allows(&self) -> &RoleAllowList<'a>
+        ensures { result.now ≡ self.now.rules.role_allows }
+    {
+        &self.parts.rules.role_allows
+    }
+
+    /// The file-name transitions.
+    pub fn name_trans(&self) -> &NameTrans<'a>
+        ensures { result.now ≡ self.now.rules.name_trans }
+    {
+        &self.parts.rules.name_trans
+    }
+
+    pub fn range_trans(&self) -> &RangeTransList<'a>
+        ensures { result.now ≡ self.now.labels.range_trans }
+    {
+        &self.parts.labels.range_trans
+    }
+
+    /// The contexts of objects.
+    pub fn contexts(&self) -> &Contexts<'a>
+        ensures { result.now ≡ self.now.labels.contexts }
+    {
+        &self.parts.labels.contexts
+    }
+
+    /// The contexts of the files of file systems that have no labels of their own.
+    pub fn genfs(&self) -> &GenfsList<'a>
+        ensures { result.now ≡ self.now.labels.genfs }
+    {
+        &self.parts.labels.genfs
+    }
+}
+
+/// Reads a policy of at most 64 MiB. Nothing is reserved by a count that the file claims.
+///
+/// The error is the first fault in file order; where there is none, it is the first reference whose value no primary record
+/// declares, as `Dangling`. A policy of more than 400,000,000 stored rules, which is more than 64 MiB hold, would be answered as
+/// want of memory.
+#[tactic(auto, unfolding(crate::specs::Acceptance::accept))]
+pub fn read<'a>(alloc: Global, bytes: &'a [u8]) -> Result<Policy<'a>, ReadError>
+    requires { length bytes.now ≤ 67108864 }
+    ensures { Accepts (λ policy. policy) result bytes.now }
+{
+    let parts = read_parts(alloc, &mut Cursor::new(bytes))?;
+    match first_undeclared(&parts) {
+        Some(fault) => Err(ReadError::Fault(fault)),
+        None => Ok(indexed(alloc, parts)?),
+    }
+}
+
+// The policy of these parts.
+fn indexed<'a>(alloc: Global, parts: Parts<'a>) -> Result<Policy<'a>, AllocError>
+    requires { length parts.labels.type_map ≡ parts.symbols.types.nprim }
+    ensures { IfOk result (λ policy. policy ≡ parts.entry) }
+{
+    let index = index_rules(alloc, &parts)?;
+    Ok(Policy { parts, index })
+}
