@@ -1,0 +1,5 @@
+pub mod Values
+pub mod Gains
+pub mod Listing
+pub mod Touching
+pub mod Remembering

@@ -1,0 +1,107 @@
+-- The declared values whose expansion shares a type with given ones.
+use Rattle.std.proofs.Common.{◌≡◌, inl, inr, ℕ, ◌+◌, ◌-◌, ◌<◌, ◌≤◌, Bool, true, false, List, [], ◌∷◌, length, refl, sym, ap, subst, ◌∙◌, Result, Ok, Err, IfOk, arith}
+use Rattle.std.specs.List.{Contains, filter, list_any, range_with_len}
+use Rattle.std.proofs.lemmas.Bool.{cond_both, and_from, and_parts, or_cases, or_left, or_right, false_from_ne_true}
+use Rattle.std.proofs.lemmas.List.Elements.{All-cons, All-nil, All-contains, Contains-get_or, Contains-append_right, Contains-append_cases, filter_passes}
+use Rattle.std.proofs.lemmas.List.FromFn.{length-range_with_len, get_or-range_with_len}
+use Rattle.pol_bitmap.specs.declared.node.Node.{Node}
+use Rattle.pol_bitmap.specs.Nodes.{bits_of, has_bit}
+use Rattle.pol_bitmap.specs.Sets.{ShareBit, IsCommon, IsUnion}
+use Rattle.pol_bitmap.proofs.BitLists.{bits-from_has_bit, has_bit-from_bits}
+use Rattle.pol_expand.specs.Expansion.{expansion_of, IsDeclared, IsTouching}
+use Rattle.pol_expand.specs.Inverting.{listed_all, touches, IsInversion}
+use Rattle.pol_expand.proofs.Listing.{listed_at, type_listed}
+
+-- ---- elements of lists
+
+contains_nothing : (x : ℕ) → Contains [] x → ⊥
+contains_nothing x h = omega (arith, h.1)
+
+contains_one : (x y : ℕ) → Contains (y ∷ []) x → y ≡ x
+contains_one x y h = All-contains (λ (z : ℕ). y ≡ z) (y ∷ []) x (All-cons (λ (z : ℕ). y ≡ z) y [] refl (All-nil (λ (z : ℕ). y ≡ z))) h
+
+contains_first : (x : ℕ) (xs : List ℕ) → Contains (x ∷ xs) x
+contains_first x xs = Contains-get_or (x ∷ xs) 0 x (omega arith)
+
+contains_kept : (p : ℕ → Bool) (xs : List ℕ) (x : ℕ) → p x ≡ true → Contains xs x → Contains (filter p xs) x
+contains_kept p [] x e h = absurd (contains_nothing x h)
+contains_kept p (y ∷ ys) x e h = elim (Contains-append_cases (y ∷ []) ys x h) [
+  | inl one ↦ let same : y ≡ x = contains_one x y one in
+      let passes : p y ≡ true = ap p same ∙ e in
+      rw passes (subst (λ (z : ℕ). Contains (z ∷ filter p ys) x) (sym same) (contains_first x (filter p ys)))
+  | inr rest ↦ cond_both (p y) (y ∷ filter p ys) (filter p ys) (λ (zs : List ℕ). Contains zs x) (λ t. Contains-append_right (y ∷ []) (filter p ys) x (contains_kept p ys x e rest)) (λ t. contains_kept p ys x e rest)
+]
+
+contains_range : (n value : ℕ) → 1 ≤ value → value ≤ n → Contains (range_with_len 1 n) value
+contains_range n value low high =
+    let within : value - 1 < n = omega arith in
+    let at : 1 + (value - 1) ≡ value = omega arith in
+    subst (Contains (range_with_len 1 n)) (get_or-range_with_len 1 n (value - 1) 0 within ∙ at) (Contains-get_or (range_with_len 1 n) (value - 1) 0 (omega (arith, length-range_with_len 1 n)))
+
+-- ---- some value of a set
+
+share_from_any : (xs : List ℕ) (given : List Node) → list_any (has_bit given) xs ≡ true → ShareBit xs (bits_of given)
+share_from_any [] given e = absurd cc
+share_from_any (x ∷ xs) given e = elim (or_cases (has_bit given x) (list_any (has_bit given) xs) e) [
+  | inl here ↦ record { bit = x; left = contains_first x xs; right = bits-from_has_bit given x here }
+  | inr there ↦ let s = share_from_any xs given there in record { bit = s.bit; left = Contains-append_right (x ∷ []) xs s.bit s.left; right = s.right }
+]
+
+any_from_bit : (xs : List ℕ) (given : List Node) (bit : ℕ) → Contains xs bit → has_bit given bit ≡ true → list_any (has_bit given) xs ≡ true
+any_from_bit [] given bit h e = absurd (contains_nothing bit h)
+any_from_bit (x ∷ xs) given bit h e = elim (Contains-append_cases (x ∷ []) xs bit h) [
+  | inl one ↦ or_left (has_bit given x) (list_any (has_bit given) xs) (ap (has_bit given) (contains_one bit x one) ∙ e)
+  | inr rest ↦ or_right (has_bit given x) (list_any (has_bit given) xs) (any_from_bit xs given bit rest e)
+]
+
+any_from_share : (xs : List ℕ) (given : List Node) → ShareBit xs (bits_of given) → list_any (has_bit given) xs ≡ true
+any_from_share xs given s = any_from_bit xs given s.bit s.left (has_bit-from_bits given s.bit s.right)
+
+-- ---- types and attributes
+
+-- a type expands to itself
+type_expands : (lists : List (List ℕ)) (attributes types : List Node) (value : ℕ) → IsInversion lists attributes types → Contains (bits_of types) value → expansion_of (listed_all attributes lists) value ≡ value ∷ []
+type_expands lists attributes types value h t =
+    let within = h.declared value (inr t) in
+    let not : has_bit attributes value ≡ false = false_from_ne_true (has_bit attributes value) (λ a. h.apart value a (has_bit-from_bits types value t)) in
+    listed_at attributes lists value within.0 within.1 ∙ sym (type_listed attributes lists value not)
+
+pub touching_is : (lists : List (List ℕ)) (attributes types given own rest all : List Node) → IsInversion lists attributes types
+    → IsCommon (bits_of types) (bits_of given) (bits_of own)
+    → bits_of rest ≡ filter (touches (listed_all attributes lists) attributes given) (range_with_len 1 (length lists))
+    → IsUnion (bits_of own) (bits_of rest) (bits_of all)
+    → IsTouching (listed_all attributes lists) attributes types given (bits_of all)
+touching_is lists attributes types given own rest all h common e union = record { each = λ value. (to value, from value) }
+  where
+    to : (value : ℕ) → Contains (bits_of all) value → IsDeclared attributes types value × ShareBit (expansion_of (listed_all attributes lists) value) (bits_of given)
+    to value m = elim ((union.each value).0 m) [
+      | inl one ↦ let both = (common.each value).0 one in
+          (inr both.0, subst (λ (xs : List ℕ). ShareBit xs (bits_of given)) (sym (type_expands lists attributes types value h both.0)) (record { bit = value; left = contains_first value []; right = both.1 }))
+      | inr one ↦
+          let there : Contains (filter (touches (listed_all attributes lists) attributes given) (range_with_len 1 (length lists))) value = subst (λ (xs : List ℕ). Contains xs value) e one in
+          let test : touches (listed_all attributes lists) attributes given value ≡ true = All-contains (λ (v : ℕ). touches (listed_all attributes lists) attributes given v ≡ true) _ value (filter_passes (touches (listed_all attributes lists) attributes given) (range_with_len 1 (length lists))) there in
+          let both = and_parts (has_bit attributes value) (list_any (has_bit given) (expansion_of (listed_all attributes lists) value)) test in
+          (inl (bits-from_has_bit attributes value both.0), share_from_any (expansion_of (listed_all attributes lists) value) given both.1)
+    ]
+
+    from : (value : ℕ) → IsDeclared attributes types value × ShareBit (expansion_of (listed_all attributes lists) value) (bits_of given) → Contains (bits_of all) value
+    from value both = elim both.0 [
+      | inl a ↦
+          let within = h.declared value both.0 in
+          let test : touches (listed_all attributes lists) attributes given value ≡ true = and_from (has_bit attributes value) _ (has_bit-from_bits attributes value a) (any_from_share (expansion_of (listed_all attributes lists) value) given both.1) in
+          let there = contains_kept (touches (listed_all attributes lists) attributes given) (range_with_len 1 (length lists)) value test (contains_range (length lists) value within.0 within.1) in
+          (union.each value).1 (inr (subst (λ (xs : List ℕ). Contains xs value) (sym e) there))
+      | inr t ↦
+          let s : ShareBit (value ∷ []) (bits_of given) = subst (λ (xs : List ℕ). ShareBit xs (bits_of given)) (type_expands lists attributes types value h t) both.1 in
+          let same : value ≡ s.bit = contains_one s.bit value s.left in
+          (union.each value).1 (inl ((common.each value).1 (t, subst (Contains (bits_of given)) (sym same) s.right)))
+    ]
+
+-- the same of the answer of a union
+pub touching_of : {E : Type 0} (lists : List (List ℕ)) (attributes types given own rest : List Node) (r : Result (List Node) E) → IsInversion lists attributes types
+    → IsCommon (bits_of types) (bits_of given) (bits_of own)
+    → bits_of rest ≡ filter (touches (listed_all attributes lists) attributes given) (range_with_len 1 (length lists))
+    → IfOk r (λ all. IsUnion (bits_of own) (bits_of rest) (bits_of all))
+    → IfOk r (λ all. IsTouching (listed_all attributes lists) attributes types given (bits_of all))
+touching_of lists attributes types given own rest (Ok all) h common e union = touching_is lists attributes types given own rest all h common e union
+touching_of lists attributes types given own rest (Err f) h common e union = tt

@@ -1,0 +1,139 @@
+ghost use Rattle.std.specs.Prelude.{◌≡◌, ◌≤◌, ◌<◌, ◌+◌, ◌-◌, [], IfOk, length};
+ghost use Rattle.std.specs.List.{filter, list_any, range_with_len};
+ghost use Rattle.std.specs.List.Sorted.{IsStrictlyIncreasing};
+ghost use Rattle.pol_bitmap.specs.Nodes.{bits_of, has_bit};
+ghost use Rattle.pol_bitmap.specs.Sets.{ShareBit};
+ghost use Rattle.pol_expand.specs.Expansion.{expand_all, expansion_of, HaveRows, IsDeclared, IsTouching};
+ghost use Rattle.pol_expand.specs.Inverting.{touches};
+
+use crate::building::{has_value, lists_of};
+use crate::type_list::TypeList;
+use pol_bitmap::{BitmapView, Set, SetError};
+use std::alloc::{AllocError, Global};
+use std::marker::Model;
+
+/// The map of types to attributes, turned round.
+#[derive(Drop)]
+pub struct Inverse {
+    attributes: Set,
+    types: Set,
+    lists: Vec<TypeList>,
+}
+
+impl Model for Inverse {
+    ghost use Rattle.std.specs.Prelude.{length};
+    ghost use Rattle.pol_expand.specs.Inverting.{Inversion, IsInversion, listed_all};
+
+    ghost Value = { Inversion };
+
+    ghost view = { λ m. record { expansions = listed_all m.attributes m.lists.items; attributes = m.attributes; types = m.types; count = length m.lists.items } };
+
+    ghost invariant = { λ m. IsInversion m.lists.items m.attributes m.types };
+}
+
+impl Inverse {
+    /// Turns the rows round, in one pass over them.
+    pub fn build(
+        alloc: Global,
+        rows: &[BitmapView<'_>],
+        attributes: &Set,
+        types: &Set,
+    ) -> Result<Inverse, AllocError>
+        requires few { length rows.now ≤ 65535 }
+        requires attributes { HaveRows rows.now attributes.now }
+        requires types { HaveRows rows.now types.now }
+        requires apart { ShareBit (bits_of attributes.now) (bits_of types.now) → ⊥ }
+        ensures { IfOk result (λ m. m ≡ record { expansions = expand_all rows.now attributes.now types.now; attributes = attributes.now; types = types.now; count = length rows.now }) }
+    {
+        let lists = lists_of(alloc, rows, attributes, types)?;
+        Ok(Inverse {
+            attributes: attributes.share()?,
+            types: types.share()?,
+            lists,
+        })
+    }
+
+    /// The place of a declared value, counted from 0.
+    pub fn place_of(&self, value: u32) -> usize
+        requires { IsDeclared self.now.attributes self.now.types value }
+        ensures place { result + 1 ≡ value }
+        ensures within { result < self.now.count }
+        ensures few { self.now.count ≤ 65535 }
+    {
+        let _ = &self.lists;
+        value as usize - 1
+    }
+
+    /// How many values there are.
+    pub fn count(&self) -> usize
+        ensures all { result ≡ self.now.count }
+        ensures few { result ≤ 65535 }
+    {
+        self.lists.len()
+    }
+
+    /// What a declared value expands to.
+    pub fn set_of(&self, alloc: Global, value: u32) -> Result<Set, AllocError>
+        requires { IsDeclared self.now.attributes self.now.types value }
+        ensures { IfOk result (λ set. bits_of set ≡ expansion_of self.now.expansions value) }
+    {
+        if has_value(&self.attributes, value) {
+            let place = self.place_of(value);
+            set_from(alloc, self.lists[place].as_slice())
+        } else {
+            set_from(alloc, &[value])
+        }
+    }
+
+    /// The declared values whose expansion shares a type with the given ones.
+    pub fn touching(&self, alloc: Global, given: &Set) -> Result<Set, AllocError>
+        ensures { IfOk result (λ set. IsTouching self.now.expansions self.now.attributes self.now.types given.now (bits_of set)) }
+    {
+        let types = self.types.common(alloc, given)?;
+        let values = self.touching_attributes(alloc, given)?;
+        let attributes = set_from(alloc, &values)?;
+        types.union(alloc, &attributes)
+    }
+
+    // The attributes that have one of the given types, rising.
+    fn touching_attributes(&self, alloc: Global, given: &Set) -> Result<Vec<u32>, AllocError>
+        ensures { IfOk result (λ values. values.items ≡ filter (touches self.now.expansions self.now.attributes given.now) (range_with_len 1 self.now.count)) }
+    {
+        let mut values = Vec::new(alloc);
+        for i in 0..self.count() {
+            let value = i as u32 + 1;
+            if self.touches(i, value, given) {
+                values.push(value)?;
+            }
+        }
+        Ok(values)
+    }
+
+    // Whether the value of a place is an attribute with one of the given types.
+    fn touches(&self, place: usize, value: u32, given: &Set) -> bool
+        requires place { place + 1 ≡ value }
+        requires within { place < self.now.count }
+        ensures { result ≡ touches self.now.expansions self.now.attributes given.now value }
+    {
+        has_value(&self.attributes, value) && has_any(self.lists[place].as_slice(), given)
+    }
+}
+
+// Whether one of the values is in a set.
+fn has_any(values: &[u32], set: &Set) -> bool
+    ensures { result ≡ list_any (has_bit set.now) values.now }
+{
+    values.iter().any(|value| has_value(set, *value))
+}
+
+// The set of values that rise.
+fn set_from(alloc: Global, values: &[u32]) -> Result<Set, AllocError>
+    requires { IsStrictlyIncreasing values.now }
+    ensures { IfOk result (λ set. bits_of set ≡ values.now) }
+{
+    match Set::from_bits(alloc, values) {
+        Ok(set) => Ok(set),
+        Err(SetError::Memory) => Err(AllocError),
+        Err(SetError::NotRising) => unreachable!(),
+    }
+}
