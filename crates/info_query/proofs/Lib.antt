@@ -1,0 +1,5 @@
+pub mod Placing
+pub mod Listed
+pub mod ListingLines
+pub mod OrderedNames
+pub mod GenfsEntries

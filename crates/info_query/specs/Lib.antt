@@ -1,0 +1,17 @@
+pub mod Lines
+pub mod NameOrder
+pub mod Placing
+pub mod SymbolLines
+pub mod SymbolListings
+pub mod Listings
+pub mod SidLines
+pub mod PortLines
+pub mod NetifLines
+pub mod FsUseLines
+pub mod NodeLines
+pub mod IbPkeyLines
+pub mod IbEndPortLines
+pub mod TypeListings
+pub mod PermissionSets
+pub mod ClassLines
+pub mod GenfsLines
