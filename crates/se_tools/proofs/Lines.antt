@@ -1,29 +1,30 @@
 -- The lines of a listing that go through a buffer.
-use Rattle.std.proofs.Common.{◌≡◌, ◌≤◌, ◌<◌, ◌+◌, ◌++◌, ◌∷◌, [], ℕ, suc, List, length, take, drop, get_or, Option, Ok, Err, codes, sym, ◌∙◌, ap, refl, append_assoc, drop-cons, add-one, arith}
+use Rattle.std.proofs.Common.{◌≡◌, Bool, ◌≤◌, ◌<◌, ◌+◌, ◌++◌, ◌∷◌, [], ℕ, suc, List, length, take, drop, get_or, Option, Ok, Err, codes, sym, ◌∙◌, ap, refl, append_assoc, drop-cons, add-one, arith}
 use Rattle.std.specs.List.{flat_map}
 use Rattle.std.proofs.lemmas.List.{take_more, take-append-drop}
-use Rattle.se_tools.specs.Listing.{PushesLine, PushesNext, line_text, heading_text, listing_text}
+use Rattle.info_query.specs.Lines.{PushesLine}
+use Rattle.se_tools.specs.Listing.{PushesNext, line_text, front_text, indent_of, listing_text}
 use Rattle.se_tools.specs.Writing.{Moves, Emits, Sends, Wrote}
 use Rattle.se_tools.specs.declared.writing.WriteEnd.{WriteEnd}
 use Rattle.se_tools.specs.declared.writing.WriteEnd.TheVariants.{Fault, Memory}
 use Rattle.se_tools.proofs.Gains.{list-more, list-part, list-part-then, spilled, spilled-part, moved-whole, moved-part}
 
 -- The next line stands in the buffer as in a listing.
-pub pushes-next : (old new : List (List ℕ)) (had first second has : List ℕ) (u : Unit {0})
-    → 0 < length old → first ≡ had ++ codes "   " → PushesLine old new first second (Ok u) → has ≡ second ++ codes "\n" → PushesNext old new had has
+pub pushes-next : (indent : List ℕ) (old new : List (List ℕ)) (had first second has : List ℕ) (u : Unit {0})
+    → 0 < length old → first ≡ had ++ indent → PushesLine old new first second (Ok u) → has ≡ second ++ codes "\n" → PushesNext indent old new had has
 unfolding line_text
-pushes-next [] new had first second has u some before pushes after = absurd (omega (arith, some))
-pushes-next (line ∷ lines) new had first second has u some before pushes after = record {
+pushes-next indent [] new had first second has u some before pushes after = absurd (omega (arith, some))
+pushes-next indent (line ∷ lines) new had first second has u some before pushes after = record {
   line = line;
   lines = ap (λ others. line ∷ others) (sym pushes.0);
-  text = rw (after, pushes.1, before) (ap (λ vs. vs ++ codes "\n") (append_assoc had (codes "   ") line) ∙ append_assoc had (codes "   " ++ line) (codes "\n"));
+  text = rw (after, pushes.1, before) (ap (λ vs. vs ++ codes "\n") (append_assoc had indent line) ∙ append_assoc had (indent ++ line) (codes "\n"));
 }
 
 -- Of all lines a number went on, and the others are left.
-pub record Lines (all left : List (List ℕ)) (number : ℕ) (old new : Option (List ℕ)) (before now : ℕ) (had has : List ℕ) : Type 0 where
+pub record Lines (indent : List ℕ) (all left : List (List ℕ)) (number : ℕ) (old new : Option (List ℕ)) (before now : ℕ) (had has : List ℕ) : Type 0 where
   pub others : left ≡ drop number all
   pub later : before ≤ now
-  pub moved : Moves old new had has (flat_map line_text (take number all))
+  pub moved : Moves old new had has (flat_map (line_text indent) (take number all))
 
 -- the line that is next
 record Next (all rest : List (List ℕ)) (number : ℕ) (line : List ℕ) : Type 0 where
@@ -42,44 +43,45 @@ next-of all left rest number line lt is next =
     }
 
 -- The next line was put into the buffer, which was then spilled.
-pub lines-next : {T : Type 0} (all left rest : List (List ℕ)) (number : ℕ) (old mid new : Option (List ℕ)) (before m now : ℕ) (had has put kept : List ℕ) (u : T)
-    → number < length all → Lines all left number old mid before m had has → PushesNext left rest has put → Emits mid new m now put kept [] (Ok u)
-    → Lines all rest (number + 1) old new before now had kept
-lines-next all left rest number old mid new before m now had has put kept u lt lines pushes spills =
+pub lines-next : {T : Type 0} (indent : List ℕ) (all left rest : List (List ℕ)) (number : ℕ) (old mid new : Option (List ℕ)) (before m now : ℕ) (had has put kept : List ℕ) (u : T)
+    → number < length all → Lines indent all left number old mid before m had has → PushesNext indent left rest has put → Emits mid new m now put kept [] (Ok u)
+    → Lines indent all rest (number + 1) old new before now had kept
+lines-next indent all left rest number old mid new before m now had has put kept u lt lines pushes spills =
     let next = next-of all left rest number pushes.line lt lines.others pushes.lines in
     record {
       others = next.back;
       later = omega (arith, lines.later, spills.later);
-      moved = rw next.front (list-more line_text (take number all) pushes.line old mid new had has kept lines.moved (spilled mid new has put kept (line_text pushes.line) pushes.text spills.whole));
+      moved = rw next.front (list-more (line_text indent) (take number all) pushes.line old mid new had has kept lines.moved (spilled mid new has put kept (line_text indent pushes.line) pushes.text spills.whole));
     }
 
 -- The next line was not put.
-pub lines-stop : {T : Type 0} (all left : List (List ℕ)) (number : ℕ) (old new : Option (List ℕ)) (before now : ℕ) (had has kept : List ℕ)
-    → Lines all left number old new before now had has → Emits {T = T} old new before now had kept (flat_map line_text all) (Err Memory)
-lines-stop all left number old new before now had has kept lines = record {
+pub lines-stop : {T : Type 0} (indent : List ℕ) (all left : List (List ℕ)) (number : ℕ) (old new : Option (List ℕ)) (before now : ℕ) (had has kept : List ℕ)
+    → Lines indent all left number old new before now had has → Emits {T = T} old new before now had kept (flat_map (line_text indent) all) (Err Memory)
+lines-stop indent all left number old new before now had has kept lines = record {
   later = lines.later;
   whole = tt;
-  part = rw (← take-append-drop number all) (list-part line_text (take number all) (drop number all) old new had has lines.moved);
+  part = rw (← take-append-drop number all) (list-part (line_text indent) (take number all) (drop number all) old new had has lines.moved);
   failed = λ h. absurd (cc h);
 }
 
 -- The buffer with the next line was spilled in part.
-pub lines-cut : {T : Type 0} (all left rest : List (List ℕ)) (number : ℕ) (old mid new : Option (List ℕ)) (before m now : ℕ) (had has put kept : List ℕ) (end : WriteEnd)
-    → number < length all → Lines all left number old mid before m had has → PushesNext left rest has put → Emits {T = T} mid new m now put kept [] (Err end)
-    → Emits {T = T} old new before now had kept (flat_map line_text all) (Err end)
-lines-cut all left rest number old mid new before m now had has put kept end lt lines pushes spills =
+pub lines-cut : {T : Type 0} (indent : List ℕ) (all left rest : List (List ℕ)) (number : ℕ) (old mid new : Option (List ℕ)) (before m now : ℕ) (had has put kept : List ℕ) (end : WriteEnd)
+    → number < length all → Lines indent all left number old mid before m had has → PushesNext indent left rest has put → Emits {T = T} mid new m now put kept [] (Err end)
+    → Emits {T = T} old new before now had kept (flat_map (line_text indent) all) (Err end)
+lines-cut indent all left rest number old mid new before m now had has put kept end lt lines pushes spills =
     let next = next-of all left rest number pushes.line lt lines.others pushes.lines in
     record {
       later = omega (arith, lines.later, spills.later);
       whole = tt;
-      part = rw next.whole (list-part-then line_text (take number all) pushes.line rest old mid new had has lines.moved (spilled-part mid new has put (line_text pushes.line) pushes.text spills.part));
+      part = rw next.whole (list-part-then (line_text indent) (take number all) pushes.line rest old mid new had has lines.moved (spilled-part mid new has put (line_text indent pushes.line) pushes.text spills.part));
       failed = λ h. omega (arith, lines.later, spills.failed h);
     }
 
--- A buffer that held nothing has the heading, and the lines after it make a listing.
-pub listing-is : (title : List ℕ) (lines : List (List ℕ)) (count : ℕ) (held put : List ℕ)
-    → held ≡ [] → count ≡ length lines → put ≡ held ++ heading_text title count → put ++ flat_map line_text lines ≡ listing_text title lines
-listing-is title lines count held put empty counted is = rw (is, empty, counted) refl
+-- A buffer that held nothing has what stands before the lines, and they make a listing with it.
+pub listing-is : (flat : Bool) (title : List ℕ) (lines : List (List ℕ)) (count : ℕ) (held put indent : List ℕ)
+    → held ≡ [] → count ≡ length lines → put ≡ held ++ front_text flat title count → indent ≡ indent_of flat
+    → put ++ flat_map (line_text indent) lines ≡ listing_text flat title lines
+listing-is flat title lines count held put indent empty counted is indented = rw (is, empty, counted, indented) refl
 
 -- A heading is in the buffer, and the lines after it were written in part.
 pub listing-cut : {T : Type 0} (old new : Option (List ℕ)) (before now : ℕ) (heading kept lines : List ℕ) (end : WriteEnd)

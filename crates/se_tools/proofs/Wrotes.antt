@@ -1,11 +1,13 @@
 -- Texts that are written one after the other.
-use Rattle.std.proofs.Common.{◌≡◌, ◌++◌, ◌+◌, ◌<◌, ◌≤◌, ◌∷◌, ℕ, suc, List, length, take, drop, get_or, Option, Result, Ok, Err, sym, ◌∙◌, ap, subst, arith, drop-cons}
+use Rattle.std.proofs.Common.{◌≡◌, ◌++◌, ◌+◌, ◌<◌, ◌≤◌, ◌∷◌, [], ℕ, suc, List, length, take, drop, get_or, Option, Result, Ok, Err, refl, sym, ◌∙◌, ap, subst, arith, drop-cons}
 use Rattle.std.specs.Io.KnownBytes.{Appends}
 use Rattle.std.specs.List.{flat_map}
 use Rattle.std.proofs.lemmas.Grind.{flat_map-append}
-use Rattle.std.proofs.lemmas.List.{take_more, take-append-drop}
-use Rattle.se_tools.specs.Writing.{Wrote, GainsPart}
-use Rattle.se_tools.proofs.Gains.{gains-then, part-after, part-wider, texts-more}
+use Rattle.std.proofs.lemmas.List.{take_all, take_more, take-append-drop}
+use Rattle.se_tools.specs.Writing.{Wrote, Sends, GainsPart}
+use Rattle.se_tools.specs.declared.writing.WriteEnd.{WriteEnd}
+use Rattle.se_tools.specs.declared.writing.WriteEnd.TheVariants.{Memory}
+use Rattle.se_tools.proofs.Gains.{gains-none, gains-then, part-after, part-wider, texts-more}
 
 pub wrote-then : {T U E : Type 0} (a b c : Option (List ℕ)) (f g h : ℕ) (s t : List ℕ) (x : T) (r : Result U E)
     → Wrote {E = E} a b f g s (Ok x) → Wrote b c g h t r → Wrote a c f h (s ++ t) r
@@ -36,3 +38,32 @@ texts-stop {A} f xs i d a b c lt so_far next =
 pub record Texts {A : Type 0} (f : A → List ℕ) (done : List A) (old new : Option (List ℕ)) (before now : ℕ) : Type 0 where
   pub later : before ≤ now
   pub gained : Appends old new (flat_map f done)
+
+-- Before anything was written memory was wanting.
+pub nothing_sent : {T : Type 0} (sink : Option (List ℕ)) (faults : ℕ) (text : List ℕ) → Sends {T = T} sink sink faults faults text (Err Memory)
+nothing_sent sink faults text = record {
+  later = omega arith;
+  whole = tt;
+  part = ([], text, refl, gains-none sink);
+  failed = λ h. absurd (cc h);
+}
+
+-- The texts of the items up to one were written, and its text in part.
+pub sends-stop : {A T : Type 0} (f : A → List ℕ) (xs : List A) (i : ℕ) (d : A) (a b c : Option (List ℕ)) (before m now : ℕ) (end : WriteEnd)
+    → i < length xs → Texts f (take i xs) a b before m → Sends {T = T} b c m now (f (get_or xs i d)) (Err end) → Sends {T = T} a c before now (flat_map f xs) (Err end)
+sends-stop f xs i d a b c before m now end lt texts next = record {
+  later = omega (arith, texts.later, next.later);
+  whole = tt;
+  part = texts-stop f xs i d a b c lt texts.gained next.part;
+  failed = λ h. omega (arith, texts.later, next.failed h);
+}
+
+-- The texts of all items were written.
+pub sends-all : {A T : Type 0} (f : A → List ℕ) (xs : List A) (i : ℕ) (a b : Option (List ℕ)) (before now : ℕ) (u : T)
+    → length xs ≤ i → Texts f (take i xs) a b before now → Sends a b before now (flat_map f xs) (Ok u)
+sends-all f xs i a b before now u le texts = record {
+  later = texts.later;
+  whole = rw (take_all i xs le) at texts.gained;
+  part = tt;
+  failed = λ h. absurd (cc h);
+}

@@ -1,6 +1,5 @@
 -- The names of a policy's capabilities, which a policy has as numbers (libsepol's polcaps.c).
-use Rattle.std.specs.Prelude.{ℕ, List, [], ◌∷◌, ◌++◌, decimal, codes, map, slice_get, unwrap_or}
-use Rattle.se_tools.specs.Listing.{listing_text}
+use Rattle.std.specs.Prelude.{ℕ, List, [], ◌∷◌, ◌++◌, decimal, codes, slice_get, unwrap_or}
 
 -- the names of the capabilities from 0 on
 abbrev pub known_names : List (List ℕ)
@@ -11,7 +10,3 @@ known_names =
 -- the name of a capability, which is its number where it has no name of its own
 unfoldable pub capability_name : ℕ → List ℕ
 capability_name number = unwrap_or (slice_get known_names number) (codes "capability_" ++ decimal number)
-
--- the listing of the capabilities with these numbers
-abbrev pub capability_listing : List ℕ → List ℕ
-capability_listing numbers = listing_text (codes "Policy Capabilities") (map capability_name numbers)

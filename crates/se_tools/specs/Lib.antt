@@ -1,4 +1,5 @@
 pub mod Word
+pub mod Options
 pub mod Request
 pub mod Writing
 pub mod Reading

@@ -1,27 +1,40 @@
 -- The text of a listing: an empty line, the title with the count of the lines, and each line after three spaces, as seinfo
--- of SETools prints them.
-use Rattle.std.specs.Prelude.{◌≡◌, ℕ, List, [], ◌∷◌, ◌++◌, length, flat_map, decimal, codes, Result, OnOk}
-use Rattle.std.specs.declared.alloc.AllocError.{AllocError}
+-- of SETools prints them. A flat listing is the lines alone.
+use Rattle.std.specs.Prelude.{◌≡◌, ℕ, List, [], ◌∷◌, ◌++◌, length, flat_map, filter, bytes_eq, decimal, codes, Bool, true, false, Option, Some, None}
 
--- one line of a listing
-unfoldable pub line_text : List ℕ → List ℕ
-line_text line = codes "   " ++ line ++ codes "\n"
+-- what stands before a line, in a flat listing nothing
+abbrev pub indent_of : Bool → List ℕ
+indent_of true = []
+indent_of false = codes "   "
+
+-- one line of a listing after its indent
+unfoldable pub line_text : List ℕ → List ℕ → List ℕ
+line_text indent line = indent ++ line ++ codes "\n"
 
 -- what stands before the lines
 unfoldable pub heading_text : List ℕ → ℕ → List ℕ
 heading_text title count = codes "\n" ++ title ++ codes ": " ++ decimal count ++ codes "\n"
 
--- a listing of these lines under a title
-abbrev pub listing_text : List ℕ → List (List ℕ) → List ℕ
-listing_text title lines = heading_text title (length lines) ++ flat_map line_text lines
+-- the same, and nothing in a flat listing
+abbrev pub front_text : Bool → List ℕ → ℕ → List ℕ
+front_text true title count = []
+front_text false title count = heading_text title count
 
--- The next of the lines that were left was added to a buffer, if there was one.
-abbrev pub PushesLine : List (List ℕ) → List (List ℕ) → List ℕ → List ℕ → Result (Unit {0}) AllocError → Type 0
-PushesLine [] new had has result = OnOk result ((new ≡ []) × (has ≡ had))
-PushesLine (line ∷ lines) new had has result = OnOk result ((new ≡ lines) × (has ≡ had ++ line))
+-- a listing of these lines, flat or under a title
+abbrev pub listing_text : Bool → List ℕ → List (List ℕ) → List ℕ
+listing_text flat title lines = front_text flat title (length lines) ++ flat_map (line_text (indent_of flat)) lines
 
--- The same as it stands in a listing, where one was left.
-pub record PushesNext (old new : List (List ℕ)) (had has : List ℕ) : Type 0 where
+-- a line is this name
+abbrev pub is_name : List ℕ → List ℕ → Bool
+is_name name line = bytes_eq line name
+
+-- the lines that are this name, or all of them where there is none
+abbrev pub chosen : Option (List ℕ) → List (List ℕ) → List (List ℕ)
+chosen None lines = lines
+chosen (Some name) lines = filter (is_name name) lines
+
+-- The next of the lines that were left was added to a buffer, as it stands in a listing.
+pub record PushesNext (indent : List ℕ) (old new : List (List ℕ)) (had has : List ℕ) : Type 0 where
   pub line : List ℕ
   pub lines : old ≡ line ∷ new
-  pub text : has ≡ had ++ line_text line
+  pub text : has ≡ had ++ line_text indent line

@@ -10,7 +10,7 @@ use Rattle.se_outside.specs.declared.Slot.TheVariants.{Policy, Map}
 use Rattle.se_tools.specs.declared.report.Part.{Part}
 use Rattle.se_tools.specs.declared.report.Part.TheVariants.{Text, Number}
 use Rattle.se_tools.specs.declared.status.Status.{Status}
-use Rattle.se_tools.specs.declared.status.Status.TheVariants.{Done, Usage, ReadFault, TooLarge, BadPolicy, WriteFault, Memory}
+use Rattle.se_tools.specs.declared.status.Status.TheVariants.{Done, Usage, ReadFault, TooLarge, BadPolicy, UnknownName, WriteFault, Memory}
 
 -- what a slot is called
 abbrev pub slot_word : Slot → List ℕ
@@ -33,6 +33,7 @@ message_of (Usage word) = said (codes "word " ∷ decimal word ∷ codes " does 
 message_of (ReadFault slot) = said (slot_word slot ∷ codes ": read failed" ∷ [])
 message_of (TooLarge slot) = said (slot_word slot ∷ codes ": too large" ∷ [])
 message_of (BadPolicy fault) = said (codes "policy: place " ∷ decimal fault.place ∷ codes ", field " ∷ field_word fault.field ∷ codes ": " ∷ cause_parts fault.cause)
+message_of (UnknownName word) = said (codes "word " ∷ decimal word ∷ codes ": unknown name" ∷ [])
 message_of WriteFault = said (codes "write failed" ∷ [])
 message_of Memory = said (codes "out of memory" ∷ [])
 

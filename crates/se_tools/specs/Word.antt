@@ -1,5 +1,5 @@
 -- A word of a command line: its text, or that it is none.
-use Rattle.std.specs.Prelude.{ℕ, List, [], ◌∷◌, string_bytes, bytes_eq, ◌==◌, Bool, false, not, Option, Some, None}
+use Rattle.std.specs.Prelude.{ℕ, List, [], ◌∷◌, string_bytes, bytes_eq, ◌==◌, Bool, false, Option, Some, None}
 use Rattle.se_tools.specs.declared.words.Word.{Word}
 use Rattle.se_tools.specs.declared.words.Word.TheVariants.{Text, NotText}
 
@@ -17,8 +17,3 @@ is_word text None = false
 abbrev pub begins_with_dash : List ℕ → Bool
 begins_with_dash [] = false
 begins_with_dash (byte ∷ bytes) = byte == 45
-
--- a word is a text that is no option
-abbrev pub is_positional : Option (List ℕ) → Bool
-is_positional (Some word) = not (begins_with_dash word)
-is_positional None = false

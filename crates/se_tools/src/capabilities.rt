@@ -1,11 +1,13 @@
 // The listing of a policy's capabilities.
 ghost use Rattle.std.specs.Prelude.{◌≡◌, ◌++◌, OnOk, codes, decimal, length, map, option_map, slice_get};
 ghost use Rattle.pol_bitmap.specs.Nodes.{bits_of};
-ghost use Rattle.se_tools.specs.Capability.{known_names, capability_name, capability_listing};
+ghost use Rattle.se_tools.specs.Capability.{known_names, capability_name};
+ghost use Rattle.se_tools.specs.Listing.{chosen, listing_text};
 ghost use Rattle.se_tools.specs.Writing.{Sends};
 
-use crate::listing::{Lines, write_listing};
+use crate::listing::write_chosen;
 use crate::writing::WriteEnd;
+use info_query::Lines;
 use itoa::Buffer;
 use pol_bitmap::{BitmapView, Bits};
 use se_outside::Sink;
@@ -37,20 +39,23 @@ impl<'a> Lines for CapabilityLines<'a> {
     }
 }
 
-/// Writes the listing of the capabilities with the bits of a bitmap.
+/// Writes the listing of the capabilities with the bits of a bitmap: of those of that name, or of all.
 pub fn write_capabilities<S: Sink>(
     alloc: Global,
     capabilities: &BitmapView<'_>,
+    name: Option<&str>,
+    flat: bool,
     out: &mut S,
 ) -> Result<(), WriteEnd>
     ensures { Sends (S.written out.old) (S.written out.new) (S.faults out.old) (S.faults out.new)
-        (capability_listing (bits_of capabilities.now)) result }
+        (listing_text flat (codes "Policy Capabilities")
+        (chosen (option_map (λ name. name.now) name.entry) (map capability_name (bits_of capabilities.now)))) result }
 {
     let mut lines = CapabilityLines {
         count: capabilities.count(),
         numbers: capabilities.bits(),
     };
-    write_listing(alloc, b"Policy Capabilities", &mut lines, out)
+    write_chosen(alloc, b"Policy Capabilities", &mut lines, name, flat, out)
 }
 
 // Adds the name of a capability to a buffer.

@@ -4,13 +4,20 @@
 
 mod answer;
 mod capabilities;
+mod context_lines;
+mod file_lines;
 mod listing;
+mod name_lines;
+#[cfg(test)]
+mod name_tests;
+mod options;
 mod reading;
 mod report;
 mod request;
 mod status;
 #[cfg(test)]
 mod tests;
+mod unknown;
 mod words;
 mod writing;
 

@@ -39,6 +39,14 @@ pub fn report<E: Sink>(status: &Status, err: &mut E) -> Result<(), Failed>
             err,
         ),
         Status::BadPolicy(fault) => say_fault(&fault, err),
+        Status::UnknownName(word) => say(
+            &[
+                Part::Text("word "),
+                Part::Number(word),
+                Part::Text(": unknown name"),
+            ],
+            err,
+        ),
         Status::WriteFault => say(&[Part::Text("write failed")], err),
         Status::Memory => say(&[Part::Text("out of memory")], err),
     }

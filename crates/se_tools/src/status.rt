@@ -15,6 +15,8 @@ pub enum Status {
     TooLarge(Slot),
     /// The policy is none: its first fault.
     BadPolicy(Fault),
+    /// The name of the word of that number is one that the policy does not have.
+    UnknownName(u64),
     /// The answer was not written, or not whole.
     WriteFault,
     /// Memory was wanting.
@@ -31,7 +33,7 @@ impl Status {
     {
         match self {
             Status::Done => 0,
-            Status::TooLarge(_) | Status::BadPolicy(_) => 1,
+            Status::TooLarge(_) | Status::BadPolicy(_) | Status::UnknownName(_) => 1,
             Status::Usage(_) => 2,
             Status::ReadFault(_) | Status::WriteFault => 3,
             Status::Memory => 5,

@@ -2,6 +2,8 @@
 ghost use Rattle.std.specs.Prelude.{◌<◌};
 ghost use Rattle.se_outside.specs.Outside.{NoneAsked};
 
+use crate::options::{Named, OptionRow, Takes, cut, last_value};
+use crate::request::WordsError;
 use crate::{Words, run};
 use se_outside::{Files, MemFiles, MemSink, SureFiles};
 use std::alloc::{AllocError, Global};
@@ -41,21 +43,21 @@ fn words_of(alloc: Global, texts: &[&str]) -> Result<Words, AllocError> {
 
 // Sinks that take at most that many bytes a write, and a write of each that fails, counted from 1.
 #[derive(Clone, Copy)]
-struct Sinks {
+pub(crate) struct Sinks {
     most: usize,
     out_fails: u64,
     err_fails: u64,
     ghost takes: { 0 < most },
 }
 
-const SOUND: Sinks = Sinks {
+pub(crate) const SOUND: Sinks = Sinks {
     most: 100,
     out_fails: 0,
     err_fails: 0,
 };
 
 // Whether a run ends with this code and these texts.
-fn gives<F: Files>(
+pub(crate) fn gives<F: Files>(
     alloc: Global,
     words: &Words,
     files: &mut F,
@@ -79,7 +81,13 @@ fn gives<F: Files>(
 fn answers_by_bytes(rt: HostRuntime) -> Result<(), Fail> {
     let rows: [(Changes, u8, &str, &str); 9] = [
         (&[], 0, LISTING, ""),
-        (&[(16, 28), (28, 7)], 0, LISTING, ""),
+        // A policy of version 28 ends after its seven tables of contexts.
+        (
+            &[(16, 28), (28, 7)],
+            1,
+            "",
+            "setools: policy: place 188, field end.end: Trailing\n",
+        ),
         (
             &[(48, 1), (49, 1)],
             0,
@@ -133,28 +141,89 @@ fn answers_by_bytes(rt: HostRuntime) -> Result<(), Fail> {
     Ok(())
 }
 
+// The smallest policy with one rule in its table, `allow` from the type 9 to the type 9, and bytes behind its end.
+fn policy_with_a_rule(alloc: Global, behind: &[u8]) -> Result<Vec<u8>, AllocError> {
+    let mut bytes = Vec::from_slice(alloc, &FRONT)?;
+    bytes.extend_from_slice(&[0; 64])?;
+    bytes.extend_from_slice(&[1, 0, 0, 0, 9, 0, 9, 0, 1, 0, 1, 0, 0, 0, 0, 0])?;
+    bytes.extend_from_slice(&[0; 60])?;
+    bytes.extend_from_slice(behind)?;
+    Ok(bytes)
+}
+
+// A fault of the file comes before a reference that dangles.
+#[test]
+fn answers_over_the_whole_file(rt: HostRuntime) -> Result<(), Fail> {
+    let words = words_of(rt.alloc(), &["seinfo", "p", "--polcap"])?;
+    for (behind, said) in [
+        (
+            b"\0".as_slice(),
+            "setools: policy: place 208, field end.end: Trailing\n",
+        ),
+        (
+            b"",
+            "setools: policy: place 136, field av.source: Dangling types 9\n",
+        ),
+    ] {
+        let bytes = policy_with_a_rule(rt.alloc(), behind)?;
+        let mut files = SureFiles::new(&bytes, b"");
+        let met = gives(rt.alloc(), &words, &mut files, &SOUND, (1, "", said))?;
+        assert!(rt; met, "{said}");
+    }
+    Ok(())
+}
+
+// Words after `seinfo`, and what they give of the smallest policy, whose name is p.
 #[test]
 fn answers_by_words(rt: HostRuntime) -> Result<(), Fail> {
-    let rows: [(&[&str], u8, &str); 9] = [
-        (&[], 2, "setools: word 1 does not fit\n"),
-        (&["sesearch"], 2, "setools: word 1 does not fit\n"),
-        (&["seinfo"], 2, "setools: word 2 does not fit\n"),
+    let rows: [(&[&str], &str); 16] = [
+        (&["p", "--polcap"], LISTING),
+        (&["--polcap", "--", "p"], LISTING),
+        (&["--polcap", "--flat", "p"], "open_perms\n"),
+        (&["p", "--flat", "--polcap", "--flat"], "open_perms\n"),
+        (&["--polcap", "open_perms", "p"], LISTING),
+        (&["p", "--polcap=open_perms"], LISTING),
+        (&["p", "--polcap", "nosuch"], "\nPolicy Capabilities: 0\n"),
         (
-            &["seinfo", "-p", "--polcap"],
-            2,
-            "setools: word 2 does not fit\n",
+            &["p", "--polcap", "open_perm"],
+            "\nPolicy Capabilities: 0\n",
         ),
-        (&["seinfo", "p"], 2, "setools: word 3 does not fit\n"),
+        (&["p", "--polcap="], "\nPolicy Capabilities: 0\n"),
+        (&["p", "--polcap=-x"], "\nPolicy Capabilities: 0\n"),
+        (&["p", "--polcap", "a=b"], "\nPolicy Capabilities: 0\n"),
+        (&["p", "--polcap=a=b", "--flat"], ""),
+        (&["p", "--polcap", "a", "--polcap"], LISTING),
+        (&["--portcon", "p", "--flat", "--polcap"], "open_perms\n"),
         (
-            &["seinfo", "p", "--type"],
-            2,
-            "setools: word 3 does not fit\n",
+            &[
+                "--polcap",
+                "--ibendportcon",
+                "--ibpkeycon",
+                "p",
+                "--portcon",
+                "--nodecon",
+            ],
+            "\nNodecon: 0\n\nPortcon: 0\n\nIbpkeycon: 0\n\nIbendportcon: 0\n\nPolicy Capabilities: 1\n   open_perms\n",
         ),
-        (
-            &["seinfo", "p", "--polcap", "p"],
-            2,
-            "setools: word 4 does not fit\n",
-        ),
+        (&["p", "--polcap", "a", "--polcap", "open_perms"], LISTING),
+    ];
+    let bytes = policy(rt.alloc(), &[])?;
+    for (texts, text) in rows {
+        let mut words = words_of(rt.alloc(), &["seinfo"])?;
+        for text in texts {
+            words.push(text)?;
+        }
+        let mut files = MemFiles::new(rt.alloc());
+        files.add("p", &bytes)?;
+        let met = gives(rt.alloc(), &words, &mut files, &SOUND, (0, text, ""))?;
+        assert!(rt; met, "{text}");
+    }
+    Ok(())
+}
+
+#[test]
+fn answers_to_other_files(rt: HostRuntime) -> Result<(), Fail> {
+    let rows: [(&[&str], u8, &str); 4] = [
         (
             &["seinfo", "q", "--polcap"],
             3,
@@ -165,14 +234,141 @@ fn answers_by_words(rt: HostRuntime) -> Result<(), Fail> {
             1,
             "setools: policy: place 0, field header.magic: Short\n",
         ),
+        (
+            &["seinfo", "--polcap", "--", "-p"],
+            1,
+            "setools: policy: place 0, field header.magic: Short\n",
+        ),
+        (
+            &["seinfo", "--polcap", "--", "--"],
+            3,
+            "setools: policy: read failed\n",
+        ),
     ];
     for (texts, code, said) in rows {
         let words = words_of(rt.alloc(), texts)?;
         let mut files = MemFiles::new(rt.alloc());
         files.add("", b"")?;
-        files.add("p", b"")?;
+        files.add("-p", b"")?;
         let met = gives(rt.alloc(), &words, &mut files, &SOUND, (code, "", said))?;
         assert!(rt; met, "{code} {said}");
+    }
+    Ok(())
+}
+
+// Words, and the number of the first that does not fit.
+#[test]
+fn refuses_words(rt: HostRuntime) -> Result<(), Fail> {
+    let rows: [(&[&str], &str); 22] = [
+        (&[], "1"),
+        (&["sesearch", "p", "--polcap"], "1"),
+        (&["seinfo"], "2"),
+        (&["seinfo", "p"], "3"),
+        (&["seinfo", "p", "--flat"], "4"),
+        (&["seinfo", "--polcap", "p"], "4"),
+        (&["seinfo", "--polcap"], "3"),
+        (&["seinfo", "p", "--polcap", "--", "q"], "5"),
+        (&["seinfo", "p", "--polcap", "--", "--"], "5"),
+        (&["seinfo", "p", "--flat=x", "--polcap"], "3"),
+        (&["seinfo", "p", "--flat=", "--polcap"], "3"),
+        (&["seinfo", "p", "--flat", "x", "--polcap"], "4"),
+        (&["seinfo", "--", "p", "--polcap"], "4"),
+        (&["seinfo", "p", "-"], "3"),
+        (&["seinfo", "-", "p", "--polcap"], "2"),
+        (&["seinfo", "p", "--polcap", "-"], "4"),
+        (&["seinfo", "p", "--polcap", "-x", "q"], "4"),
+        (&["seinfo", "p", "--portcon", "22"], "4"),
+        (&["seinfo", "p", "--portcon=22"], "3"),
+        (&["seinfo", "p", "--types"], "3"),
+        (&["seinfo", "p", "q", "--types"], "3"),
+        (&["seinfo", "p", "--polca", "--polcapx"], "3"),
+    ];
+    for (texts, number) in rows {
+        let words = words_of(rt.alloc(), texts)?;
+        let mut files = MemFiles::new(rt.alloc());
+        let said = format!(in rt.alloc(); "setools: word {number} does not fit\n")?;
+        let met = gives(
+            rt.alloc(),
+            &words,
+            &mut files,
+            &SOUND,
+            (2, "", said.as_str()),
+        )?;
+        assert!(rt; met, "{said}");
+    }
+    Ok(())
+}
+
+// A table with what seinfo's has not: short forms, and an option that needs a value.
+const ROWS: [OptionRow; 2] = [
+    OptionRow {
+        short: Some(b't'),
+        long: "--type",
+        takes: Takes::Value,
+    },
+    OptionRow {
+        short: Some(b'x'),
+        long: "--expand",
+        takes: Takes::Nothing,
+    },
+];
+
+// The value of `--type` in groups that were cut, or why they were not.
+fn type_in<'w>(alloc: Global, words: &'w Words) -> Result<Option<Named<'w>>, WordsError> {
+    let groups = cut(alloc, &ROWS, 0, words.as_slice())?;
+    Ok(last_value(&groups, "--type").unwrap_or(None))
+}
+
+// Whether the words are cut, and `--type` has that value from that word.
+fn has_type(alloc: Global, words: &Words, text: &str, word: u64) -> bool {
+    match type_in(alloc, words) {
+        Ok(Some(name)) => name.text == text && name.word == word,
+        _ => false,
+    }
+}
+
+#[test]
+fn cuts_by_a_table(rt: HostRuntime) -> Result<(), Fail> {
+    let rows: [(&[&str], &str, u64); 8] = [
+        (&["-t", "a"], "a", 3),
+        (&["-x", "--type", "a", "-x"], "a", 4),
+        (&["--type=a", "-t", "b"], "b", 4),
+        (&["-t", "a", "--type=-b", "--expand"], "-b", 4),
+        (&["--type=", "-x"], "", 2),
+        (&["--type", "a", "--"], "a", 3),
+        (&["-x", "-t", "="], "=", 4),
+        (&["-t", ""], "", 3),
+    ];
+    for (texts, text, word) in rows {
+        let words = words_of(rt.alloc(), texts)?;
+        assert!(rt; has_type(rt.alloc(), &words, text, word), "{text} {word}");
+    }
+    Ok(())
+}
+
+#[test]
+fn refuses_by_a_table(rt: HostRuntime) -> Result<(), Fail> {
+    let rows: [(&[&str], u64); 12] = [
+        (&["-t"], 3),
+        (&["--type"], 3),
+        (&["-x", "-t"], 4),
+        (&["-t", "-x"], 3),
+        (&["-t", "--", "a"], 3),
+        (&["-t", "-"], 3),
+        (&["-ta"], 2),
+        (&["-t=a"], 2),
+        (&["-xt", "a"], 2),
+        (&["-x", "-x=", "-y"], 3),
+        (&["-t", "a", "b"], 4),
+        (&["--", "-x"], 3),
+    ];
+    for (texts, number) in rows {
+        let words = words_of(rt.alloc(), texts)?;
+        let met = match type_in(rt.alloc(), &words) {
+            Err(WordsError::Usage(misfit)) => misfit == number,
+            _ => false,
+        };
+        assert!(rt; met, "{number}");
     }
     Ok(())
 }
@@ -234,16 +430,19 @@ fn answers_by_outside(rt: HostRuntime) -> Result<(), Fail> {
 #[test]
 fn refuses_large_files(rt: HostRuntime) -> Result<(), Fail> {
     let words = words_of(rt.alloc(), &["seinfo", "p", "--polcap"])?;
-    let bytes = vec![in rt.alloc(); 0; 67_108_865]?;
-    let mut files = SureFiles::new(&bytes, b"");
-    let met = gives(
-        rt.alloc(),
-        &words,
-        &mut files,
-        &SOUND,
-        (1, "", "setools: policy: too large\n"),
-    )?;
-    assert!(rt; met);
+    for (size, said) in [
+        (
+            67_108_864,
+            "setools: policy: place 196, field end.end: Trailing\n",
+        ),
+        (67_108_865, "setools: policy: too large\n"),
+    ] {
+        let mut bytes = policy(rt.alloc(), &[])?;
+        bytes.resize(size, 0)?;
+        let mut files = SureFiles::new(&bytes, b"");
+        let met = gives(rt.alloc(), &words, &mut files, &SOUND, (1, "", said))?;
+        assert!(rt; met, "{said}");
+    }
     Ok(())
 }
 

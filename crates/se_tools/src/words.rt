@@ -1,5 +1,5 @@
 // The words of a command line.
-ghost use Rattle.std.specs.Prelude.{◌≡◌, ◌++◌, ◌∷◌, [], None, Some, OnOk, OnErr, option_map};
+ghost use Rattle.std.specs.Prelude.{◌≡◌, ◌++◌, ◌∷◌, [], None, Some, OnOk, OnErr};
 
 use std::alloc::{AllocError, Global};
 use std::marker::Model;
@@ -69,7 +69,7 @@ impl Words {
 }
 
 impl Word {
-    ghost use Rattle.se_tools.specs.Word.{text_of, is_word, is_positional};
+    ghost use Rattle.se_tools.specs.Word.{text_of, is_word};
 
     /// Whether it is that text.
     pub fn is(&self, text: &str) -> bool
@@ -77,16 +77,6 @@ impl Word {
     {
         match self {
             Word::Text(word) => word.as_str() == text,
-            Word::NotText => false,
-        }
-    }
-
-    /// Whether it is a text that does not begin with `-`.
-    pub fn is_positional(&self) -> bool
-        ensures { result ≡ is_positional (text_of self.now) }
-    {
-        match self {
-            Word::Text(word) => word.as_bytes().first() != Some(&b'-'),
             Word::NotText => false,
         }
     }

@@ -6,12 +6,12 @@ use Rattle.se_tools.proofs.listing.write_lines.Goals as goal
 pub returns-in_err-push_next : goal.returns-in_err-push_next
 returns-in_err-push_next g c =
     let p = err_from_is_err_and c.from_residual.result c.from_residual.ensures.1 in
-    rw (p.1, p.2) (lines-stop (g.L.Lines.left c.args.lines.now) _ _ _ _ _ _ _ _ _ c.lines.invariant)
+    rw (p.1, p.2) (lines-stop c.args.indent.now (g.L.Lines.left c.args.lines.now) _ _ _ _ _ _ _ _ _ c.lines.invariant)
 
 pub returns-in_err-spill : goal.returns-in_err-spill
 returns-in_err-spill g c =
     let p = err_from_is_err_and c.from_residual-in_err-spill.result c.from_residual-in_err-spill.ensures.1 in
-    rw (p.1, p.2) (lines-cut (g.L.Lines.left c.args.lines.now) _ _ _ _ _ _ _ _ _ _ _ _ _ _ (omega (arith, c.requires)) c.lines.invariant c.in_ok-push_next.ensures c.in_err-spill.ensures.emits)
+    rw (p.1, p.2) (lines-cut c.args.indent.now (g.L.Lines.left c.args.lines.now) _ _ _ _ _ _ _ _ _ _ _ _ _ _ (omega (arith, c.requires)) c.lines.invariant c.in_ok-push_next.ensures c.in_err-spill.ensures.emits)
 
 pub lines-preserved : goal.lines-preserved
-lines-preserved g c = lines-next (g.L.Lines.left c.args.lines.now) _ _ _ _ _ _ _ _ _ _ _ _ _ _ (omega (arith, c.requires)) c.lines.invariant c.in_ok-push_next.ensures c.in_ok-spill.ensures.emits
+lines-preserved g c = lines-next c.args.indent.now (g.L.Lines.left c.args.lines.now) _ _ _ _ _ _ _ _ _ _ _ _ _ _ (omega (arith, c.requires)) c.lines.invariant c.in_ok-push_next.ensures c.in_ok-spill.ensures.emits
