@@ -1,0 +1,5 @@
+pub mod ReadValues
+pub mod ShapedParts
+pub mod ShapedRecords
+pub mod ShapedTables
+pub mod ShapedPolicy

@@ -1,0 +1,4 @@
+pub mod OptionalParts
+pub mod RecordShapes
+pub mod TableShapes
+pub mod PolicyShape

@@ -1,0 +1,40 @@
+-- The first wrong optional part of the tables of a policy, in the order of the file.
+use Rattle.std.specs.Prelude.{ℕ, nat_le, Bool, not, Option, [], ◌∷◌}
+use Rattle.pol_cursor.specs.declared.Field.{Field}
+use Rattle.pol_cursor.specs.Outcome.{field}
+use Rattle.pol_symbols.specs.declared.Symbols.{Symbols}
+use Rattle.pol_trans.specs.declared.NameTrans.{NameTrans}
+use Rattle.pol_trans.specs.declared.NameTrans.TheVariants.{Entries, Groups}
+use Rattle.pol_contexts.specs.declared.Contexts.{Contexts}
+use Rattle.pol_contexts.specs.ContextTables.{has_infiniband}
+use Rattle.pol_laws.specs.OptionalParts.{wrong_if, shape_of_list, first_of, first_placed}
+use Rattle.pol_laws.specs.RecordShapes.{shape_of_class, shape_of_user, shape_of_sid, shape_of_named, shape_of_port, shape_of_address, shape_of_fsuse, shape_of_ibpkey, shape_of_ibendport}
+
+-- classes and users; the records of the other symbol tables have no optional part
+unfoldable pub shape_of_symbols : Symbols → Option Field
+shape_of_symbols symbols = first_of (first_placed shape_of_class symbols.classes.records ∷ first_placed shape_of_user symbols.users.records ∷ [])
+
+-- file-name transitions are groups from version 33 on, and stand one by one below it (libsepol's filename_trans_write)
+abbrev pub has_groups : ℕ → Bool
+has_groups version = nat_le 33 version
+
+unfoldable pub shape_of_name_transitions : Bool → NameTrans → Option Field
+shape_of_name_transitions grouped (Entries entries) = wrong_if grouped (field 22 1)
+shape_of_name_transitions grouped (Groups groups) = wrong_if (not grouped) (field 23 1)
+
+-- the tables of contexts; those of InfiniBand are empty in the versions that do not have them (libsepol's ocontext_write_selinux)
+unfoldable pub shape_of_contexts : ℕ → Contexts → Option Field
+shape_of_contexts version contexts =
+    first_of (
+    first_placed shape_of_sid contexts.sid
+    ∷ first_placed shape_of_named contexts.fs
+    ∷ first_placed shape_of_port contexts.port
+    ∷ first_placed shape_of_named contexts.netif
+    ∷ first_placed shape_of_address contexts.node
+    ∷ first_placed shape_of_fsuse contexts.fsuse
+    ∷ first_placed shape_of_address contexts.node6
+    ∷ shape_of_list (has_infiniband version) contexts.ibpkey (field 32 1)
+    ∷ first_placed shape_of_ibpkey contexts.ibpkey
+    ∷ shape_of_list (has_infiniband version) contexts.ibendport (field 33 1)
+    ∷ first_placed shape_of_ibendport contexts.ibendport
+    ∷ [])
