@@ -1,5 +1,1 @@
-pub mod Placing
-pub mod Listed
-pub mod ListingLines
-pub mod OrderedNames
-pub mod GenfsEntries
+pub mod CapabilityNumbers

@@ -1,5 +1,5 @@
 -- From a file that was read whole to the answer about it.
-use Rattle.std.proofs.Common.{◌≡◌, ◌≢◌, ◌≤◌, ℕ, List, length, false, Option, Ok, Vec, nat_lt, refl, arith}
+use Rattle.std.proofs.Common.{◌≡◌, ◌≢◌, ◌≤◌, ℕ, List, length, true, false, Option, Ok, Vec, nat_lt, refl, arith}
 use Rattle.std.specs.Global.{Global}
 use Rattle.std.proofs.lemmas.Bool.{ltb-true}
 use Rattle.se_outside.specs.Outside.{SlotState, World}
@@ -8,14 +8,14 @@ use Rattle.se_outside.specs.declared.Slot.TheVariants.{Policy, Map}
 use Rattle.se_tools.specs.declared.status.Status.{Status}
 use Rattle.se_tools.specs.declared.status.Status.TheVariants.{Done, Usage, ReadFault, TooLarge, BadPolicy, UnknownName, WriteFault, Memory}
 use Rattle.pol_read.specs.Acceptance.{accept}
-use Rattle.se_tools.specs.Answer.{Answers, Concludes, IsAbout, IsOfPolicy, info_answer, policy_answer, file_limit}
+use Rattle.se_tools.specs.Answer.{Answers, Concludes, IsAbout, IsAskedFor, IsOfPolicy, info_answer, policy_answer, file_limit}
 use Rattle.se_tools.specs.Reading.{ReadsWhole}
-use Rattle.se_tools.specs.Request.{Info, InfoAsks}
+use Rattle.se_words.specs.Request.{Info, InfoAsks}
 
 below : (a b : ℕ) → b ≤ a → nat_lt a b ≡ false
 below a b le = grind (arith, ltb-true)
 
-pub info-within : (asks : InfoAsks) (bytes : List ℕ) → length bytes ≤ file_limit → info_answer asks bytes ≡ policy_answer asks.listings asks.flat (accept bytes)
+pub info-within : (asks : InfoAsks) (bytes : List ℕ) → length bytes ≤ file_limit → info_answer asks bytes ≡ policy_answer asks (accept bytes)
 info-within asks bytes le = rw (below file_limit (length bytes) le) refl
 
 other-map : Map ≢ Policy
@@ -41,9 +41,19 @@ no-fault slot (UnknownName word) h e = cc
 no-fault slot WriteFault h e = cc
 no-fault slot Memory h e = cc
 
+opened-by : (asks : InfoAsks) (status : Status) (slot : SlotState) → slot.asked ≡ true → IsAskedFor (Ok (Info asks)) status slot
+opened-by asks Done slot h = h
+opened-by asks (Usage word) slot h = h
+opened-by asks (ReadFault other) slot h = h
+opened-by asks (TooLarge other) slot h = h
+opened-by asks (BadPolicy fault) slot h = h
+opened-by asks (UnknownName word) slot h = h
+opened-by asks WriteFault slot h = h
+opened-by asks Memory slot h = tt
+
 pub answers-within : (asks : InfoAsks) (world : World) (files_old files_new : Slot → SlotState) (old new : Option (List ℕ)) (before now : ℕ) (v : Vec ℕ Global) (status : Status)
     → ReadsWhole world files_old files_new Policy asks.policy.text file_limit (Ok v)
-    → Concludes (policy_answer asks.listings asks.flat (accept v.items)) old new before now status
+    → Concludes (policy_answer asks (accept v.items)) old new before now status
     → Answers (Ok (Info asks)) world files_old files_new old new before now status
 answers-within asks world files_old files_new old new before now v status reads concludes =
     record {
@@ -53,6 +63,7 @@ answers-within asks world files_old files_new old new before now v status reads 
       about = about-policy asks status concludes.about;
       silent = concludes.silent;
       asked = (λ asked. reads.named, reads.others Map other-map);
+      opened = opened-by asks status (files_new Policy) reads.asked;
       turns = reads.turns;
       read = λ slot e. absurd (no-fault slot status concludes.about e);
       wrote = concludes.wrote;

@@ -1,8 +1,5 @@
 pub mod Gains
-pub mod Cuts
-pub mod Chosen
 pub mod Lines
-pub mod FileOrder
 pub mod Wrotes
 pub mod Turns
 pub mod Causes

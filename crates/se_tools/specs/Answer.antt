@@ -1,25 +1,18 @@
 -- The answer to the words about a policy's bytes, and how a run may meet it.
-use Rattle.std.specs.Prelude.{◌≡◌, ◌≤◌, ◌+◌, ◌++◌, [], ◌∷◌, ℕ, List, length, codes, map, flat_map, min, Bool, true, false, is_some, option_map, unwrap_or, ⊤, Option, Some, None, Result, Ok, Err, IsOk, nat_lt, if◌then◌else◌}
+use Rattle.std.specs.Prelude.{◌≡◌, ◌≤◌, ◌+◌, [], ◌∷◌, ℕ, List, length, flat_map, min, Bool, true, false, is_some, option_map, unwrap_or, ⊤, Option, Some, None, Result, Ok, Err, IsOk, nat_lt, if◌then◌else◌}
 use Rattle.std.specs.Io.KnownBytes.{Appends}
 use Rattle.pol_cursor.specs.declared.Fault.{Fault}
-use Rattle.pol_bitmap.specs.Nodes.{bits_of}
 use Rattle.pol_read.specs.Acceptance.{accept}
 use Rattle.pol_read.specs.declared.Parts.{Parts}
-use Rattle.info_query.specs.SymbolListings.{class_listing, class_listing_named, common_listing, common_listing_named, role_listing, role_listing_named, user_listing, user_listing_named, boolean_listing, boolean_listing_named, sensitivity_listing, sensitivity_listing_named, category_listing, category_listing_named}
-use Rattle.info_query.specs.TypeListings.{type_listing, type_listing_named, attribute_listing, attribute_listing_named}
-use Rattle.info_query.specs.NodeLines.{node_listing, node6_listing}
-use Rattle.info_query.specs.PortLines.{port_listing}
-use Rattle.info_query.specs.IbPkeyLines.{ibpkey_listing}
-use Rattle.info_query.specs.IbEndPortLines.{ibendport_listing}
+use Rattle.info_lines.specs.Titles.{title_of}
+use Rattle.info_query.specs.Listings.{lines_of}
+use Rattle.info_summary.specs.Summary.{summary_lines}
 use Rattle.se_outside.specs.Outside.{Rose, SlotState, World, told, IsAsked}
 use Rattle.se_outside.specs.declared.Slot.{Slot}
 use Rattle.se_outside.specs.declared.Slot.TheVariants.{Policy, Map}
-use Rattle.se_tools.specs.Capability.{capability_name}
-use Rattle.se_tools.specs.Listing.{listing_text, chosen}
-use Rattle.se_tools.specs.Options.{Named}
-use Rattle.se_tools.specs.Request.{Asks, Info, InfoAsks, Wanted}
-use Rattle.se_tools.specs.declared.request.Listing.{Listing}
-use Rattle.se_tools.specs.declared.request.Listing.TheVariants.{Classes, Commons, Roles, Types, Attributes, Users, Booleans, Sensitivities, Categories, Nodecon, Portcon, Ibpkeycon, Ibendportcon, Capabilities}
+use Rattle.se_tools.specs.Listing.{line_text, listing_text}
+use Rattle.se_words.specs.Options.{Named}
+use Rattle.se_words.specs.Request.{Asks, Info, InfoAsks, Wanted}
 use Rattle.se_tools.specs.Writing.{GainsPart}
 use Rattle.se_tools.specs.declared.status.Status.{Status}
 use Rattle.se_tools.specs.declared.status.Status.TheVariants.{Done, Usage, ReadFault, TooLarge, BadPolicy, UnknownName, WriteFault, Memory}
@@ -37,61 +30,26 @@ refusal status = record { status = status; text = [] }
 abbrev pub file_limit : ℕ
 file_limit = 67108864
 
--- the title of a listing
-abbrev pub title_of : Listing → List ℕ
-title_of Classes = codes "Classes"
-title_of Commons = codes "Commons"
-title_of Roles = codes "Roles"
-title_of Types = codes "Types"
-title_of Attributes = codes "Type Attributes"
-title_of Users = codes "Users"
-title_of Booleans = codes "Booleans"
-title_of Sensitivities = codes "Sensitivities"
-title_of Categories = codes "Categories"
-title_of Nodecon = codes "Nodecon"
-title_of Portcon = codes "Portcon"
-title_of Ibpkeycon = codes "Ibpkeycon"
-title_of Ibendportcon = codes "Ibendportcon"
-title_of Capabilities = codes "Policy Capabilities"
-
--- all lines of a listing, or those of a name that is looked up
-abbrev pub looked_up : List (List ℕ) → (List ℕ → Option (List (List ℕ))) → Option (List ℕ) → Option (List (List ℕ))
-looked_up all named None = Some all
-looked_up all named (Some name) = named name
-
--- The lines of a listing: those of a name, or all. A name of a record is looked up, and where there is no such record it is
--- unknown. The contexts of objects are in file order, those of IPv4 addresses before those of IPv6.
-abbrev pub lines_of : Parts → Listing → Option (List ℕ) → Option (List (List ℕ))
-lines_of policy Classes name = looked_up (class_listing policy false) (class_listing_named policy false) name
-lines_of policy Commons name = looked_up (common_listing policy false) (common_listing_named policy false) name
-lines_of policy Roles name = looked_up (role_listing policy) (role_listing_named policy) name
-lines_of policy Types name = looked_up (type_listing policy) (type_listing_named policy) name
-lines_of policy Attributes name = looked_up (attribute_listing policy) (attribute_listing_named policy) name
-lines_of policy Users name = looked_up (user_listing policy) (user_listing_named policy) name
-lines_of policy Booleans name = looked_up (boolean_listing policy false) (boolean_listing_named policy false) name
-lines_of policy Sensitivities name = looked_up (sensitivity_listing policy) (sensitivity_listing_named policy) name
-lines_of policy Categories name = looked_up (category_listing policy) (category_listing_named policy) name
-lines_of policy Nodecon name = Some (chosen name (node_listing policy.symbols policy.labels.contexts.node ++ node6_listing policy.symbols policy.labels.contexts.node6))
-lines_of policy Portcon name = Some (chosen name (port_listing policy.symbols policy.labels.contexts.port))
-lines_of policy Ibpkeycon name = Some (chosen name (ibpkey_listing policy.symbols policy.labels.contexts.ibpkey))
-lines_of policy Ibendportcon name = Some (chosen name (ibendport_listing policy.symbols policy.labels.contexts.ibendport))
-lines_of policy Capabilities name = Some (chosen name (map capability_name (bits_of policy.front.capabilities)))
-
 -- the lines that are wanted, unless their name is unknown
-abbrev pub wanted_lines : Parts → Wanted → Option (List (List ℕ))
-wanted_lines policy wanted = lines_of policy wanted.listing (option_map (λ name. name.text) wanted.name)
+abbrev pub wanted_lines : Parts → Bool → Wanted → Option (List (List ℕ))
+wanted_lines policy expand wanted = lines_of policy expand wanted.listing (option_map (λ name. name.text) wanted.name)
 
 -- the text of a listing that is wanted
-abbrev pub wanted_text : Parts → Bool → Wanted → List ℕ
-wanted_text policy flat wanted = listing_text flat (title_of wanted.listing) (unwrap_or (wanted_lines policy wanted) [])
+abbrev pub wanted_text : Parts → Bool → Bool → Wanted → List ℕ
+wanted_text policy expand flat wanted = listing_text flat (title_of wanted.listing) (unwrap_or (wanted_lines policy expand wanted) [])
+
+-- the text of what is asked: that of the listings that are wanted, or where there are none, the lines of the summary
+abbrev pub info_text : Parts → InfoAsks → List Wanted → List ℕ
+info_text policy asks [] = flat_map (line_text []) (summary_lines policy)
+info_text policy asks (wanted ∷ others) = flat_map (wanted_text policy asks.expand asks.flat) (wanted ∷ others)
 
 -- the number of the word with the name, where that is unknown
 abbrev pub unknown_unless : Bool → Option Named → Option ℕ
 unknown_unless true name = None
 unknown_unless false name = option_map (λ name. name.word) name
 
-unfoldable pub unknown_in : Parts → Wanted → Option ℕ
-unknown_in policy wanted = unknown_unless (is_some (wanted_lines policy wanted)) wanted.name
+unfoldable pub unknown_in : Parts → Bool → Wanted → Option ℕ
+unknown_in policy expand wanted = unknown_unless (is_some (wanted_lines policy expand wanted)) wanted.name
 
 -- the least of two numbers that may be there
 abbrev pub least : Option ℕ → Option ℕ → Option ℕ
@@ -100,23 +58,23 @@ least (Some first) None = Some first
 least (Some first) (Some second) = Some (min first second)
 
 -- the least of a number and those of the words with names that are unknown
-unfoldable pub unknown_from : Parts → Option ℕ → List Wanted → Option ℕ
-unknown_from policy found [] = found
-unknown_from policy found (wanted ∷ others) = unknown_from policy (least found (unknown_in policy wanted)) others
+unfoldable pub unknown_from : Parts → Bool → Option ℕ → List Wanted → Option ℕ
+unknown_from policy expand found [] = found
+unknown_from policy expand found (wanted ∷ others) = unknown_from policy expand (least found (unknown_in policy expand wanted)) others
 
 -- a text, unless the name of this word is unknown
 abbrev pub text_unless : Option ℕ → List ℕ → Answer
 text_unless None text = record { status = Done; text = text }
 text_unless (Some word) text = refusal (UnknownName word)
 
--- the answer with listings of a policy, if it was accepted
-abbrev pub policy_answer : List Wanted → Bool → Result Parts Fault → Answer
-policy_answer listings flat (Ok policy) = text_unless (unknown_from policy None listings) (flat_map (wanted_text policy flat) listings)
-policy_answer listings flat (Err fault) = refusal (BadPolicy fault)
+-- the answer about a policy, if it was accepted
+abbrev pub policy_answer : InfoAsks → Result Parts Fault → Answer
+policy_answer asks (Ok policy) = text_unless (unknown_from policy asks.expand None asks.listings) (info_text policy asks asks.listings)
+policy_answer asks (Err fault) = refusal (BadPolicy fault)
 
 -- the answer of seinfo about the bytes of a policy
 abbrev pub info_answer : InfoAsks → List ℕ → Answer
-info_answer asks bytes = if nat_lt file_limit (length bytes) then refusal (TooLarge Policy) else policy_answer asks.listings asks.flat (accept bytes)
+info_answer asks bytes = if nat_lt file_limit (length bytes) then refusal (TooLarge Policy) else policy_answer asks (accept bytes)
 
 -- the answer to what the words ask, about the bytes of the policy
 abbrev pub answer_of : Result Asks ℕ → List ℕ → Answer
@@ -157,12 +115,19 @@ AsksOnly world (Err word) old new = (slot : Slot) → new slot ≡ old slot
 AsksOnly world (Ok (Info asks)) old new =
     ((new Policy).asked ≡ true → IsAsked (told world Policy asks.policy.text) (new Policy).name asks.policy.text) × (new Map ≡ old Map)
 
+-- The policy is asked for, unless the words do not fit or memory was wanting.
+abbrev pub IsAskedFor : Result Asks ℕ → Status → SlotState → Type 0
+IsAskedFor (Err word) status slot = ⊤
+IsAskedFor (Ok asks) Memory slot = ⊤
+IsAskedFor (Ok asks) status slot = slot.asked ≡ true
+
 -- How a run ends but for its message: what it does to the files and to the sink, and with which status.
 pub record Answers (request : Result Asks ℕ) (world : World) (files_old files_new : Slot → SlotState) (old new : Option (List ℕ)) (before now : ℕ) (status : Status) : Type 0 where
   pub meets : (bytes : List ℕ) → Tells world request bytes → Meets (answer_of request bytes) old new status
   pub about : IsAbout request status
   pub silent : WritesNothing old new status
   pub asked : AsksOnly world request files_old files_new
+  pub opened : IsAskedFor request status (files_new Policy)
   pub turns : (files_new Policy).turns ≤ (files_old Policy).turns + file_limit + 2
   pub read : (slot : Slot) → status ≡ ReadFault slot → Rose (files_old slot).faults (files_new slot).faults
   pub wrote : status ≡ WriteFault → Rose before now

@@ -1,10 +1,6 @@
-pub mod Word
-pub mod Options
-pub mod Request
 pub mod Writing
 pub mod Reading
 pub mod Listing
-pub mod Capability
 pub mod Status
 pub mod Message
 pub mod Answer

@@ -1,6 +1,6 @@
 -- The text of a listing: an empty line, the title with the count of the lines, and each line after three spaces, as seinfo
 -- of SETools prints them. A flat listing is the lines alone.
-use Rattle.std.specs.Prelude.{◌≡◌, ℕ, List, [], ◌∷◌, ◌++◌, length, flat_map, filter, bytes_eq, decimal, codes, Bool, true, false, Option, Some, None}
+use Rattle.std.specs.Prelude.{◌≡◌, ℕ, List, [], ◌∷◌, ◌++◌, length, flat_map, decimal, codes, Bool, true, false}
 
 -- what stands before a line, in a flat listing nothing
 abbrev pub indent_of : Bool → List ℕ
@@ -23,15 +23,6 @@ front_text false title count = heading_text title count
 -- a listing of these lines, flat or under a title
 abbrev pub listing_text : Bool → List ℕ → List (List ℕ) → List ℕ
 listing_text flat title lines = front_text flat title (length lines) ++ flat_map (line_text (indent_of flat)) lines
-
--- a line is this name
-abbrev pub is_name : List ℕ → List ℕ → Bool
-is_name name line = bytes_eq line name
-
--- the lines that are this name, or all of them where there is none
-abbrev pub chosen : Option (List ℕ) → List (List ℕ) → List (List ℕ)
-chosen None lines = lines
-chosen (Some name) lines = filter (is_name name) lines
 
 -- The next of the lines that were left was added to a buffer, as it stands in a listing.
 pub record PushesNext (indent : List ℕ) (old new : List (List ℕ)) (had has : List ℕ) : Type 0 where

@@ -1,7 +1,7 @@
 // The answers about a policy with tables.
-use crate::Words;
 use crate::tests::{SOUND, gives};
 use se_outside::MemFiles;
+use se_words::Words;
 use std::alloc::{AllocError, Global};
 use std::test::Fail;
 
@@ -19,10 +19,22 @@ fn info_words(alloc: Global, texts: &[&str]) -> Result<Words, AllocError> {
     Ok(words)
 }
 
+// The summary of the policy.
+const SUMMARY: &str =
+    "Policy version: 31\nUnknown classes: deny\nCommons: 0\nClasses: 2\nSensitivities: 1\nCategories: 2\nTypes: 5\nType attributes: 2\nUsers: 1\nRoles: 2\nBooleans: 2\nAllow: 7\nAuditallow: 0\nDontaudit: 1\nAllowxperm: 1\nAuditallowxperm: 0\nDontauditxperm: 0\nType_transition: 1\nType_change: 0\nType_member: 0\nRole_allow: 0\nRole_transition: 0\nRange_transition: 0\nConstraints: 0\nValidatetrans: 0\nInitial SIDs: 0\nFs_use: 0\nGenfscon: 0\nPortcon: 0\nNetifcon: 0\nNodecon: 0\nIbpkeycon: 0\nIbendportcon: 0\nPermissive types: 0\nPolicy capabilities: 1\n";
+
+// Whether words after `seinfo` give this code, text and message of the policy, whose name is p.
+fn answers(alloc: Global, texts: &[&str], want: (u8, &str, &str)) -> Result<bool, Fail> {
+    let words = info_words(alloc, texts)?;
+    let mut files = MemFiles::new(alloc);
+    files.add("p", SAMPLE)?;
+    Ok(gives(alloc, &words, &mut files, &SOUND, want)?)
+}
+
 // Words after `seinfo`, and the code, the text and the message that they give.
 #[test]
 fn answers_by_names(rt: HostRuntime) -> Result<(), Fail> {
-    let rows: [(&[&str], u8, &str, &str); 17] = [
+    let rows: [(&[&str], u8, &str, &str); 20] = [
         (
             &["p", "-t"],
             0,
@@ -69,6 +81,19 @@ fn answers_by_names(rt: HostRuntime) -> Result<(), Fail> {
             "",
             "word 5: unknown name",
         ),
+        (&["p", "--constrain", "no"], 1, "", "word 4: unknown name"),
+        (
+            &["p", "--permissive=domain", "--flat"],
+            1,
+            "",
+            "word 3: unknown name",
+        ),
+        (
+            &["p", "--all", "--default", "no"],
+            1,
+            "",
+            "word 5: unknown name",
+        ),
         (
             &["p", "--polcap", "no", "-u"],
             0,
@@ -77,17 +102,71 @@ fn answers_by_names(rt: HostRuntime) -> Result<(), Fail> {
         ),
     ];
     for (texts, code, text, message) in rows {
-        let words = info_words(rt.alloc(), texts)?;
-        let mut files = MemFiles::new(rt.alloc());
-        files.add("p", SAMPLE)?;
         let said = if message.is_empty() {
             format!(in rt.alloc(); "")?
         } else {
             format!(in rt.alloc(); "setools: {message}\n")?
         };
-        let want = (code, text, said.as_str());
-        let met = gives(rt.alloc(), &words, &mut files, &SOUND, want)?;
+        let met = answers(rt.alloc(), texts, (code, text, said.as_str()))?;
         assert!(rt; met, "{text} {message}");
+    }
+    Ok(())
+}
+
+// Words after `seinfo` with expanded lines, and the text that they give.
+#[test]
+fn answers_with_statements(rt: HostRuntime) -> Result<(), Fail> {
+    let rows: [(&[&str], &str); 13] = [
+        (
+            &["p", "-c", "-x", "--flat"],
+            "class file { entrypoint execute ioctl read write }\nclass process { setexec transition }\n",
+        ),
+        (
+            &["p", "-r", "-x", "--flat"],
+            "role object_r;\nrole system_r types { init_t log_t other_exec_t web_exec_t web_t };\n",
+        ),
+        (
+            &["p", "-t", "init_t", "-x"],
+            "\nTypes: 1\n   type init_t alias start_t, domain;\n",
+        ),
+        (
+            &["p", "-t", "--expand", "--flat"],
+            "type init_t alias start_t, domain;\ntype log_t;\ntype other_exec_t;\ntype web_exec_t;\ntype web_t, domain;\n",
+        ),
+        (
+            &["p", "-a", "-x"],
+            "\nType Attributes: 2\n   attribute domain { init_t web_t };\n   attribute empty_attr;\n",
+        ),
+        (
+            &["-x", "-a", "domain", "--flat", "--", "p"],
+            "attribute domain { init_t web_t };\n",
+        ),
+        (
+            &["p", "-u", "-x", "--flat"],
+            "user system_u roles system_r level s0 range s0;\n",
+        ),
+        (
+            &["p", "-b", "-x", "--flat"],
+            "bool a false;\nbool b true;\n",
+        ),
+        (
+            &["p", "--sensitivity", "s0", "-x", "--flat"],
+            "sensitivity s0; level s0:c0,c1;\n",
+        ),
+        (
+            &["p", "--category", "-x", "--flat"],
+            "category c0;\ncategory c1;\n",
+        ),
+        (
+            &["p", "--constrain=file", "--default", "file", "--permissive"],
+            "\nConstraints: 0\n\nDefault Rules: 0\n\nPermissive Types: 0\n",
+        ),
+        (&["p"], SUMMARY),
+        (&["p", "--flat", "-x"], SUMMARY),
+    ];
+    for (texts, text) in rows {
+        let met = answers(rt.alloc(), texts, (0, text, ""))?;
+        assert!(rt; met, "{text}");
     }
     Ok(())
 }

@@ -2,10 +2,9 @@
 ghost use Rattle.std.specs.Prelude.{◌<◌};
 ghost use Rattle.se_outside.specs.Outside.{NoneAsked};
 
-use crate::options::{Named, OptionRow, Takes, cut, last_value};
-use crate::request::WordsError;
-use crate::{Words, run};
+use crate::run;
 use se_outside::{Files, MemFiles, MemSink, SureFiles};
+use se_words::Words;
 use std::alloc::{AllocError, Global};
 use std::test::Fail;
 
@@ -15,6 +14,10 @@ const FRONT: [u8; 68] = [
     0, 1, 0, 0, 0, 8, 0, 0, 0, 9, 0, 0, 0, 64, 0, 0, 0, 64, 0, 0, 0, 1, 0, 0, 0, 0, 0, 0, 0, 2, 0,
     0, 0, 0, 0, 0, 0, 64, 0, 0, 0, 0, 0, 0, 0, 0, 0, 0, 0,
 ];
+
+// All listings of the smallest policy, where that of capabilities is of a name that none has.
+const ALL_BUT_A_NAME: &str =
+    "\nClasses: 0\n\nCommons: 0\n\nConstraints: 0\n\nValidatetrans: 0\n\nDefault Rules: 0\n\nRoles: 0\n\nTypes: 0\n\nType Attributes: 0\n\nUsers: 0\n\nBooleans: 0\n\nSensitivities: 0\n\nCategories: 0\n\nInitial SIDs: 0\n\nFs_use: 0\n\nGenfscon: 0\n\nNetifcon: 0\n\nNodecon: 0\n\nPortcon: 0\n\nIbpkeycon: 0\n\nIbendportcon: 0\n\nPermissive Types: 0\n\nPolicy Capabilities: 0\n\nTypebounds: 0\n";
 
 const LISTING: &str = "\nPolicy Capabilities: 1\n   open_perms\n";
 
@@ -66,10 +69,10 @@ pub(crate) fn gives<F: Files>(
 ) -> Result<bool, AllocError>
     requires { NoneAsked (F.state files.old) }
 {
-    let mut out = MemSink::new(alloc, 100)?;
+    let mut out = MemSink::new(alloc, 1000)?;
     out.fail(sinks.out_fails)?;
     out.most(sinks.most);
-    let mut err = MemSink::new(alloc, 100)?;
+    let mut err = MemSink::new(alloc, 1000)?;
     err.fail(sinks.err_fails)?;
     err.most(sinks.most);
     let status = run(alloc, words, files, &mut out, &mut err);
@@ -176,7 +179,7 @@ fn answers_over_the_whole_file(rt: HostRuntime) -> Result<(), Fail> {
 // Words after `seinfo`, and what they give of the smallest policy, whose name is p.
 #[test]
 fn answers_by_words(rt: HostRuntime) -> Result<(), Fail> {
-    let rows: [(&[&str], &str); 16] = [
+    let rows: [(&[&str], &str); 19] = [
         (&["p", "--polcap"], LISTING),
         (&["--polcap", "--", "p"], LISTING),
         (&["--polcap", "--flat", "p"], "open_perms\n"),
@@ -206,6 +209,15 @@ fn answers_by_words(rt: HostRuntime) -> Result<(), Fail> {
             "\nNodecon: 0\n\nPortcon: 0\n\nIbpkeycon: 0\n\nIbendportcon: 0\n\nPolicy Capabilities: 1\n   open_perms\n",
         ),
         (&["p", "--polcap", "a", "--polcap", "open_perms"], LISTING),
+        (
+            &["p", "-x", "--flat", "--polcap"],
+            "policycap open_perms;\n",
+        ),
+        (
+            &["p", "--all", "--flat", "--expand"],
+            "policycap open_perms;\n",
+        ),
+        (&["p", "--all", "--polcap", "no"], ALL_BUT_A_NAME),
     ];
     let bytes = policy(rt.alloc(), &[])?;
     for (texts, text) in rows {
@@ -259,12 +271,15 @@ fn answers_to_other_files(rt: HostRuntime) -> Result<(), Fail> {
 // Words, and the number of the first that does not fit.
 #[test]
 fn refuses_words(rt: HostRuntime) -> Result<(), Fail> {
-    let rows: [(&[&str], &str); 22] = [
+    let rows: [(&[&str], &str); 25] = [
         (&[], "1"),
         (&["sesearch", "p", "--polcap"], "1"),
         (&["seinfo"], "2"),
-        (&["seinfo", "p"], "3"),
-        (&["seinfo", "p", "--flat"], "4"),
+        (&["seinfo", "--flat"], "3"),
+        (&["seinfo", "--all", "-x"], "4"),
+        (&["seinfo", "p", "--all=x"], "3"),
+        (&["seinfo", "p", "-xt"], "3"),
+        (&["seinfo", "p", "--typebounds", "a_t"], "4"),
         (&["seinfo", "--polcap", "p"], "4"),
         (&["seinfo", "--polcap"], "3"),
         (&["seinfo", "p", "--polcap", "--", "q"], "5"),
@@ -276,7 +291,7 @@ fn refuses_words(rt: HostRuntime) -> Result<(), Fail> {
         (&["seinfo", "p", "-"], "3"),
         (&["seinfo", "-", "p", "--polcap"], "2"),
         (&["seinfo", "p", "--polcap", "-"], "4"),
-        (&["seinfo", "p", "--polcap", "-x", "q"], "4"),
+        (&["seinfo", "p", "--polcap", "-x", "q"], "5"),
         (&["seinfo", "p", "--portcon", "22"], "4"),
         (&["seinfo", "p", "--portcon=22"], "3"),
         (&["seinfo", "p", "--types"], "3"),
@@ -295,80 +310,6 @@ fn refuses_words(rt: HostRuntime) -> Result<(), Fail> {
             (2, "", said.as_str()),
         )?;
         assert!(rt; met, "{said}");
-    }
-    Ok(())
-}
-
-// A table with what seinfo's has not: short forms, and an option that needs a value.
-const ROWS: [OptionRow; 2] = [
-    OptionRow {
-        short: Some(b't'),
-        long: "--type",
-        takes: Takes::Value,
-    },
-    OptionRow {
-        short: Some(b'x'),
-        long: "--expand",
-        takes: Takes::Nothing,
-    },
-];
-
-// The value of `--type` in groups that were cut, or why they were not.
-fn type_in<'w>(alloc: Global, words: &'w Words) -> Result<Option<Named<'w>>, WordsError> {
-    let groups = cut(alloc, &ROWS, 0, words.as_slice())?;
-    Ok(last_value(&groups, "--type").unwrap_or(None))
-}
-
-// Whether the words are cut, and `--type` has that value from that word.
-fn has_type(alloc: Global, words: &Words, text: &str, word: u64) -> bool {
-    match type_in(alloc, words) {
-        Ok(Some(name)) => name.text == text && name.word == word,
-        _ => false,
-    }
-}
-
-#[test]
-fn cuts_by_a_table(rt: HostRuntime) -> Result<(), Fail> {
-    let rows: [(&[&str], &str, u64); 8] = [
-        (&["-t", "a"], "a", 3),
-        (&["-x", "--type", "a", "-x"], "a", 4),
-        (&["--type=a", "-t", "b"], "b", 4),
-        (&["-t", "a", "--type=-b", "--expand"], "-b", 4),
-        (&["--type=", "-x"], "", 2),
-        (&["--type", "a", "--"], "a", 3),
-        (&["-x", "-t", "="], "=", 4),
-        (&["-t", ""], "", 3),
-    ];
-    for (texts, text, word) in rows {
-        let words = words_of(rt.alloc(), texts)?;
-        assert!(rt; has_type(rt.alloc(), &words, text, word), "{text} {word}");
-    }
-    Ok(())
-}
-
-#[test]
-fn refuses_by_a_table(rt: HostRuntime) -> Result<(), Fail> {
-    let rows: [(&[&str], u64); 12] = [
-        (&["-t"], 3),
-        (&["--type"], 3),
-        (&["-x", "-t"], 4),
-        (&["-t", "-x"], 3),
-        (&["-t", "--", "a"], 3),
-        (&["-t", "-"], 3),
-        (&["-ta"], 2),
-        (&["-t=a"], 2),
-        (&["-xt", "a"], 2),
-        (&["-x", "-x=", "-y"], 3),
-        (&["-t", "a", "b"], 4),
-        (&["--", "-x"], 3),
-    ];
-    for (texts, number) in rows {
-        let words = words_of(rt.alloc(), texts)?;
-        let met = match type_in(rt.alloc(), &words) {
-            Err(WordsError::Usage(misfit)) => misfit == number,
-            _ => false,
-        };
-        assert!(rt; met, "{number}");
     }
     Ok(())
 }

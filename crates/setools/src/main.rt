@@ -2,7 +2,8 @@
 #![tactic(auto)]
 
 use se_outside::{RealFiles, RealSink};
-use se_tools::{Words, run};
+use se_tools::run;
+use se_words::Words;
 use std::alloc::AllocError;
 use std::env;
 use std::process::ExitCode;

@@ -1,0 +1,52 @@
+-- The primary records of types by their numbers.
+use Rattle.std.proofs.Common.{◌≡◌, ℕ, ◌≤◌, List, [], ◌∷◌, Option, Some, None, slice_get, refl, ap}
+use Rattle.std.specs.Prelude.{nat_eq}
+use Rattle.std.specs.List.{All, filter_map, cons_option, range_with_len}
+use Rattle.std.proofs.lemmas.Bool.{and_parts, eqb-true}
+use Rattle.std.proofs.lemmas.List.Elements.{All-nil, All-cons, All-contains}
+use Rattle.std.proofs.lemmas.Option.{option_and_then_some}
+use Rattle.pol_cursor.specs.References.{Placed}
+use Rattle.pol_cursor.specs.declared.TableKind.TheVariants.{Types}
+use Rattle.pol_symtab.specs.SymbolTables.{declares}
+use Rattle.pol_datums.specs.declared.TypeRec.{TypeRec}
+use Rattle.pol_datums.specs.TypeRecord.{is_primary_type, flavour_of}
+use Rattle.pol_symbols.specs.declared.symbols.Symbols.{Symbols}
+use Rattle.pol_symbols.specs.PolicySymbols.{index_in, rank_in, flavour_in, flavour_found}
+use Rattle.pol_symbols.proofs.SymbolSearch.{primary_found}
+use Rattle.info_lines.specs.NameOrder.{is_rank, value_of_rank, number_of_rank, primary_numbers}
+use Rattle.info_attributes.proofs.Declared.{found, range_within}
+
+-- A number is that of the primary record of a value from 1 to nprim.
+pub record IsPrimary (symbols : Symbols) (number : ℕ) : Type 0 where
+  pub value : ℕ
+  pub least : 1 ≤ value
+  pub most : value ≤ symbols.types.nprim
+  pub at : index_in symbols Types value ≡ Some number
+
+all_given-go : (P : ℕ → Type 0) (o : Option ℕ) (xs : List ℕ) → ((y : ℕ) → o ≡ Some y → P y) → All P xs → All P (cons_option o xs)
+all_given-go P None xs gives all = all
+all_given-go P (Some y) xs gives all = All-cons P y xs (gives y refl) all
+
+all_given : (P : ℕ → Type 0) (h : ℕ → Option ℕ) → ((x y : ℕ) → h x ≡ Some y → P y) → (xs : List ℕ) → All P (filter_map h xs)
+all_given P h gives [] = All-nil P
+all_given P h gives (x ∷ xs) = all_given-go P (h x) (filter_map h xs) (gives x) (all_given P h gives xs)
+
+one_primary : (symbols : Symbols) (rank number : ℕ) → number_of_rank symbols Types rank ≡ Some number → IsPrimary symbols number
+unfolding number_of_rank
+one_primary symbols rank number e = option_and_then_some (index_in symbols Types) (value_of_rank symbols Types rank) number e λ value is at.
+    let there = found (λ (value : ℕ). is_rank rank (rank_in symbols Types value)) (range_with_len 1 symbols.types.nprim) value is in
+    let within = All-contains (λ v. (1 ≤ v) × (v ≤ symbols.types.nprim)) (range_with_len 1 symbols.types.nprim) value (range_within symbols.types.nprim) there.0 in
+    record { value = value; least = within.0; most = within.1; at = at }
+
+-- all that are listed are
+pub all_primary : (symbols : Symbols) → All (IsPrimary symbols) (primary_numbers symbols Types)
+unfolding primary_numbers
+all_primary symbols = all_given (IsPrimary symbols) (number_of_rank symbols Types) (one_primary symbols) _
+
+-- what the primary record of a value says
+pub declared_by : (symbols : Symbols) (value number : ℕ) (t : Placed TypeRec) → index_in symbols Types value ≡ Some number → slice_get symbols.types.records number ≡ Some t
+    → (t.value.value ≡ value) × (flavour_in symbols value ≡ flavour_of t.value.properties)
+declared_by symbols value number t at is =
+    let finds = primary_found (λ (t : TypeRec). is_primary_type t.properties) (λ t. t.value) symbols.types.records value number t at is in
+    let passes = (found (declares (λ (t : TypeRec). is_primary_type t.properties) (λ t. t.value) value) symbols.types.records t finds).1 in
+    (eqb-true t.value.value value (and_parts (is_primary_type t.value.properties) (nat_eq t.value.value value) passes).1, ap flavour_found finds)

@@ -1,0 +1,2 @@
+pub mod PolicyMap
+pub mod AttributeLines

@@ -1,0 +1,83 @@
+//! The map of types to attributes of a policy, turned round.
+
+ghost use Rattle.std.specs.Prelude.{◌≡◌, IfOk};
+ghost use Rattle.std.specs.List.Sorted.{IsStrictlyIncreasing};
+ghost use Rattle.pol_bitmap.specs.Nodes.{bits_of};
+ghost use Rattle.info_attributes.specs.PolicyMap.{IsPolicyMap, HasNoSets, rows_of, values_of_flavour};
+
+use info_symbols::is_flavour;
+use pol_bitmap::{BitmapView, Set, SetError};
+use pol_cursor::TableKind;
+use pol_datums::Flavour;
+use pol_expand::TypeMap;
+use pol_read::Policy;
+use pol_symbols::Symbols;
+use std::alloc::{AllocError, Global};
+
+/// The map of types to attributes of a policy, turned round. It goes through the rows once.
+///
+/// A policy with more than 65,535 type values, which no accepted one has, would be answered as want of memory.
+pub fn type_map(alloc: Global, policy: &Policy<'_>) -> Result<TypeMap, AllocError>
+    ensures map { IfOk result (IsPolicyMap policy.now) }
+    ensures none { IfOk result HasNoSets }
+{
+    let symbols = policy.symbols();
+    if symbols.prims(TableKind::Types) > 65535 {
+        return Err(AllocError);
+    }
+    let rows = rows(alloc, policy)?;
+    let attributes = flavoured_set(alloc, symbols, Flavour::Attribute)?;
+    let types = flavoured_set(alloc, symbols, Flavour::Plain)?;
+    TypeMap::build(alloc, &rows, &attributes, &types)
+}
+
+// The rows of the map, that of the type value 1 first.
+#[tactic(auto, unfolding(crate::specs::PolicyMap::rows_of))]
+fn rows<'a>(alloc: Global, policy: &Policy<'a>) -> Result<Vec<BitmapView<'a>>, AllocError>
+    ensures { IfOk result (λ rows. rows.items ≡ rows_of policy.now) }
+{
+    let mut rows = Vec::new(alloc);
+    for i in 0..policy.symbols().prims(TableKind::Types) {
+        rows.push(policy.row(i + 1))?;
+    }
+    Ok(rows)
+}
+
+// The set of the type values that are declared with a flavour.
+#[tactic(auto, using(crate::proofs::PolicyMaps::flavour_rises))]
+fn flavoured_set(alloc: Global, symbols: &Symbols<'_>, flavour: Flavour) -> Result<Set, AllocError>
+    ensures { IfOk result (λ set. bits_of set ≡ values_of_flavour symbols.now flavour) }
+{
+    let values = flavoured_values(alloc, symbols, flavour)?;
+    set_from(alloc, &values)
+}
+
+// The set of values that rise.
+fn set_from(alloc: Global, values: &[u32]) -> Result<Set, AllocError>
+    requires { IsStrictlyIncreasing values.now }
+    ensures { IfOk result (λ set. bits_of set ≡ values.now) }
+{
+    match Set::from_bits(alloc, values) {
+        Ok(set) => Ok(set),
+        Err(SetError::Memory) => Err(AllocError),
+        Err(SetError::NotRising) => unreachable!(),
+    }
+}
+
+// The type values that are declared with a flavour, rising.
+#[tactic(auto, unfolding(crate::specs::PolicyMap::values_of_flavour))]
+fn flavoured_values(
+    alloc: Global,
+    symbols: &Symbols<'_>,
+    flavour: Flavour,
+) -> Result<Vec<u32>, AllocError>
+    ensures { IfOk result (λ values. values.items ≡ values_of_flavour symbols.now flavour) }
+{
+    let mut values = Vec::new(alloc);
+    for i in 0..symbols.prims(TableKind::Types) {
+        if is_flavour(flavour, symbols.flavour(i + 1)) {
+            values.push(i + 1)?;
+        }
+    }
+    Ok(values)
+}

@@ -1,0 +1,61 @@
+-- The text of a constraint is that of its items.
+use Rattle.std.proofs.Common.{◌≡◌, ℕ, false, Option, Some, None, List, [], ◌∷◌, ◌++◌, map, refl, sym, ap, ◌∙◌, arith}
+use Rattle.std.specs.Prelude.{MatchOption, nat_eq}
+use Rattle.std.proofs.lemmas.Bool.{ne_eqb}
+use Rattle.pol_cursor.specs.References.{Named}
+use Rattle.pol_bitmap.specs.Nodes.{bits_of}
+use Rattle.pol_expr.specs.declared.Symbol.{Symbol}
+use Rattle.pol_expr.specs.declared.Symbol.TheVariants as symbols
+use Rattle.pol_expr.specs.declared.Junction.{Junction}
+use Rattle.pol_expr.specs.declared.Junction.TheVariants.{And, Or}
+use Rattle.pol_expr.specs.declared.ConstraintItem.{ConstraintItem}
+use Rattle.pol_expr.specs.declared.NameSet.{NameSet}
+use Rattle.pol_expr.specs.Trees.{Leaf, Not, Binary, applied, postorder}
+use Rattle.pol_expr.specs.ConstraintRecord.{constraint_limit, IsExpression}
+use Rattle.pol_expr.specs.ConstraintMeaning.{ConstraintTree, left_word, right_word, side_word, side_table, op_word, names_of, set_text, IsSideText, IsSymbol, AreSymbols, IsConstraintText}
+use Rattle.pol_expr.proofs.Stacks.{after, after-postorder, IsMeaning, some_tree}
+use Rattle.pol_expr.proofs.ConstraintTexts.{symbols_postfix}
+use Rattle.info_lines.proofs.OrderedNames.{in_order_is}
+use Rattle.info_classes.specs.ConstraintTexts.{comparison_text, item_symbol, trees_after, tree_text, constraint_text}
+
+-- ---- symbols
+
+comparison_is : (named : Named) (item : ConstraintItem) (set : Option NameSet) (text : List ℕ)
+    → MatchOption set (text ≡ left_word item.attr ++ op_word item.op ++ right_word item.attr) (λ set. IsSideText named item set text) → text ≡ comparison_text named item set
+comparison_is named item None text h = h
+comparison_is named item (Some set) text h =
+    h.2 ∙ ap (λ (names : List ℕ). side_word item.attr ++ op_word item.op ++ names) (h.1.2 ∙ ap set_text (in_order_is (names_of named (side_table item.attr) (bits_of set.names)) h.1.0 h.1.1))
+
+symbol_is : (named : Named) (item : ConstraintItem) (s : Symbol (List ℕ) Junction) → IsSymbol named item s → s ≡ item_symbol named item
+symbol_is named item (symbols.Leaf text) h =
+    let one : nat_eq item.kind 1 ≡ false = ne_eqb item.kind 1 (λ e. omega (arith, e, h.0)) in
+    let two : nat_eq item.kind 2 ≡ false = ne_eqb item.kind 2 (λ e. omega (arith, e, h.0)) in
+    let three : nat_eq item.kind 3 ≡ false = ne_eqb item.kind 3 (λ e. omega (arith, e, h.0)) in
+    rw (one, two, three) (ap (λ (t : List ℕ). symbols.Leaf t) (comparison_is named item item.set text h.1))
+symbol_is named item symbols.Not h = rw h refl
+symbol_is named item (symbols.Binary And) h = rw h refl
+symbol_is named item (symbols.Binary Or) h = rw h refl
+
+symbols_are : (named : Named) (items : List ConstraintItem) (ss : List (Symbol (List ℕ) Junction)) → AreSymbols named items ss → ss ≡ map (item_symbol named) items
+symbols_are named [] ss are = are
+symbols_are named (item ∷ items) [] are = absurd are
+symbols_are named (item ∷ items) (s ∷ ss) are = rw (← symbol_is named item s are.0, ← symbols_are named items ss are.1) refl
+
+-- ---- their tree
+
+own_meaning : IsMeaning {V = List ℕ} {O = Junction} Leaf Not Binary (λ t. t)
+own_meaning = record { leaf_is = λ v. refl; not_is = λ t. refl; binary_is = λ o l r. refl }
+
+after_is : (ss : List (Symbol (List ℕ) Junction)) (ts : List ConstraintTree) → after Leaf Not Binary ss ts ≡ trees_after ss ts
+after_is [] ts = refl
+after_is (s ∷ ss) ts = after_is ss (applied Leaf Not Binary s ts)
+
+one_tree_left : (t : ConstraintTree) → trees_after (postorder t) [] ≡ t ∷ []
+one_tree_left t = sym (after_is (postorder t) []) ∙ after-postorder Leaf Not Binary (λ t. t) own_meaning t []
+
+pub text_is : (named : Named) (items : List ConstraintItem) (text : List ℕ) → IsExpression items → IsConstraintText named items text → text ≡ constraint_text named items
+unfolding constraint_text
+text_is named items text one h =
+    let tree = some_tree constraint_limit h.0 (symbols_postfix named constraint_limit 0 items h.0 one h.1) in
+    let left : trees_after (map (item_symbol named) items) [] ≡ tree.0 ∷ [] = ap (λ (ss : List (Symbol (List ℕ) Junction)). trees_after ss []) (sym (symbols_are named items h.0 h.1) ∙ sym tree.1) ∙ one_tree_left tree.0 in
+    h.2 tree.0 tree.1 ∙ ap tree_text (sym left)

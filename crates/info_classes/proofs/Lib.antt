@@ -1,0 +1,2 @@
+pub mod ConstraintTexts
+pub mod ListedRecords

@@ -1,0 +1,86 @@
+-- The lines of constraints, as seinfo of SETools prints them: those on permissions, and those on a change of context.
+use Rattle.std.specs.Prelude.{ℕ, ◌-◌, ◌==◌, ◌&&◌, nat_eq, Bool, if◌then◌else◌, Option, option_map, List, [], ◌∷◌, ◌++◌, map, codes}
+use Rattle.std.specs.List.{filter, flat_map, list_any}
+use Rattle.std.specs.Int.{bit_at}
+use Rattle.pol_cursor.specs.References.{Placed}
+use Rattle.pol_expr.specs.declared.ConstraintItem.{ConstraintItem}
+use Rattle.pol_expr.specs.declared.ConstraintRec.{ConstraintRec}
+use Rattle.pol_expr.specs.ConstraintMeaning.{set_text}
+use Rattle.pol_commons.specs.declared.PermissionRec.{PermissionRec}
+use Rattle.pol_symbols.specs.declared.ClassRec.{ClassRec}
+use Rattle.pol_symbols.specs.declared.symbols.Symbols.{Symbols}
+use Rattle.pol_symbols.specs.PolicySymbols.{name_in, permissions_of}
+use Rattle.info_lines.specs.NameLists.{in_order}
+use Rattle.info_classes.specs.declared.constraint_entry.ConstraintKind.{ConstraintKind}
+use Rattle.info_classes.specs.declared.constraint_entry.ConstraintKind.TheVariants.{OnPermissions, OnChange}
+use Rattle.info_classes.specs.declared.constraint_entry.ConstraintEntry.{ConstraintEntry}
+use Rattle.info_classes.specs.RecordOrder.{classes_in_order, class_named}
+use Rattle.info_classes.specs.ConstraintTexts.{constraint_text}
+
+-- ---- parts of a line
+
+-- what two sides are where they are levels: 32 l1l2, 64 l1h2, 128 h1l2, 256 h1h2, 512 l1h1, 1024 l2h2 (libsepol's CEXPR_L1L2 to CEXPR_L2H2)
+unfoldable pub is_level_pair : ℕ → Bool
+is_level_pair attr = list_any (nat_eq attr) (32 ∷ 64 ∷ 128 ∷ 256 ∷ 512 ∷ 1024 ∷ [])
+
+abbrev pub compares_levels : ConstraintItem → Bool
+compares_levels item = item.kind == 4 && is_level_pair item.attr
+
+-- a constraint that compares levels is one of MLS (checkpolicy's mlsconstrain and mlsvalidatetrans)
+abbrev pub mls_word : List ConstraintItem → List ℕ
+mls_word items = if list_any compares_levels items then codes "mls" else []
+
+-- bit v - 1 of a constraint's permissions stands for the permission of value v
+abbrev pub has_permission : ℕ → PermissionRec → Bool
+has_permission mask permission = bit_at mask (permission.value - 1) == 1
+
+-- the names of these permissions whose bits are set, as a set in the order of the names
+unfoldable pub permissions_text : ℕ → List PermissionRec → List ℕ
+permissions_text mask permissions = set_text (in_order (map (λ permission. permission.name) (filter (has_permission mask) permissions)))
+
+-- what a constraint is about: a class and permissions on it, or a class
+abbrev pub subject_text : Symbols → ConstraintKind → ConstraintEntry → List ℕ
+subject_text symbols OnPermissions entry =
+    codes "constrain " ++ entry.class.value.name ++ codes " " ++ permissions_text entry.constraint.permissions (permissions_of symbols entry.class.value)
+subject_text symbols OnChange entry = codes "validatetrans " ++ entry.class.value.name
+
+-- ---- a line
+
+-- constrain CLASS PERMISSIONS (EXPRESSION); or validatetrans CLASS (EXPRESSION);
+unfoldable pub constraint_line : Symbols → ConstraintKind → ConstraintEntry → List ℕ
+constraint_line symbols kind entry =
+    mls_word entry.constraint.items ++ subject_text symbols kind entry ++ codes " (" ++ constraint_text (name_in symbols) entry.constraint.items ++ codes ");"
+
+-- ---- the listings
+
+-- the constraints of a kind of a class, in file order
+abbrev pub constraints_of : ConstraintKind → ClassRec → List ConstraintRec
+constraints_of OnPermissions class = class.constraints
+constraints_of OnChange class = class.validatetrans
+
+-- each with its class
+abbrev pub entries_of : ConstraintKind → Placed ClassRec → List ConstraintEntry
+entries_of kind class = map (λ constraint. record { class = class; constraint = constraint }) (constraints_of kind class.value)
+
+abbrev pub entries_in : ConstraintKind → List (Placed ClassRec) → List ConstraintEntry
+entries_in kind classes = flat_map (entries_of kind) classes
+
+-- those of all classes, in the order of the classes' names
+abbrev pub kind_listing : Symbols → ConstraintKind → List (List ℕ)
+kind_listing symbols kind = map (constraint_line symbols kind) (entries_in kind (classes_in_order symbols))
+
+-- those of the class that a name finds
+abbrev pub kind_listing_named : Symbols → ConstraintKind → List ℕ → Option (List (List ℕ))
+kind_listing_named symbols kind name = option_map (λ class. map (constraint_line symbols kind) (entries_of kind class)) (class_named symbols name)
+
+unfoldable pub constraint_listing : Symbols → List (List ℕ)
+constraint_listing symbols = kind_listing symbols OnPermissions
+
+unfoldable pub constraint_listing_named : Symbols → List ℕ → Option (List (List ℕ))
+constraint_listing_named symbols name = kind_listing_named symbols OnPermissions name
+
+unfoldable pub validatetrans_listing : Symbols → List (List ℕ)
+validatetrans_listing symbols = kind_listing symbols OnChange
+
+unfoldable pub validatetrans_listing_named : Symbols → List ℕ → Option (List (List ℕ))
+validatetrans_listing_named symbols name = kind_listing_named symbols OnChange name

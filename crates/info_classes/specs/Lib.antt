@@ -1,0 +1,5 @@
+pub mod RecordOrder
+pub mod ConstraintTexts
+pub mod ConstraintLines
+pub mod DefaultLines
+pub mod BoundsLines

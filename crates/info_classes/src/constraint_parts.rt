@@ -1,0 +1,157 @@
+//! The parts of a constraint's line.
+
+ghost use Rattle.std.specs.Prelude.{◌≡◌, ◌≤◌, ◌-◌, ◌==◌, ◌++◌, IfOk, OnOk, map};
+ghost use Rattle.std.specs.Int.{bit_at};
+ghost use Rattle.std.specs.List.{filter, fold, list_any};
+ghost use Rattle.pol_expr.specs.ConstraintRecord.{IsExpression};
+ghost use Rattle.pol_symbols.specs.PolicySymbols.{name_in, permissions_of};
+ghost use Rattle.info_lines.specs.NameLists.{with_name, in_order};
+ghost use Rattle.info_classes.specs.ConstraintTexts.{constraint_text};
+ghost use Rattle.info_classes.specs.ConstraintLines.{is_level_pair, compares_levels, mls_word, has_permission, permissions_text, subject_text, constraint_line};
+
+use crate::constraint_entry::{ConstraintEntry, ConstraintKind};
+use info_lines::{insert_name, push_set};
+use pol_commons::{PermissionList, inherited_from};
+use pol_expr::{ConstraintItemView, ConstraintItems, ConstraintView};
+use pol_symbols::{ClassView, Symbols};
+use std::alloc::{AllocError, Global};
+
+/// Adds the line of a constraint of a kind.
+#[tactic(auto, unfolding(crate::specs::ConstraintLines::constraint_line))]
+pub(crate) fn push_constraint(
+    buffer: &mut Vec<u8>,
+    symbols: &Symbols<'_>,
+    kind: ConstraintKind,
+    entry: &ConstraintEntry<'_>,
+) -> Result<(), AllocError>
+    ensures { OnOk result (buffer.new.items ≡ buffer.old.items ++ constraint_line symbols.now kind entry.now) }
+{
+    push_mls_word(buffer, entry.constraint.items())?;
+    push_subject(buffer, symbols, kind, entry)?;
+    buffer.extend_from_slice(b" (")?;
+    let expression = expression_text(*buffer.allocator(), symbols, &entry.constraint)?;
+    buffer.extend_from_slice(&expression)?;
+    buffer.extend_from_slice(b");")
+}
+
+// Adds the word of MLS where an item compares levels.
+fn push_mls_word(buffer: &mut Vec<u8>, items: ConstraintItems<'_>) -> Result<(), AllocError>
+    ensures { OnOk result (buffer.new.items ≡ buffer.old.items ++ mls_word items.entry) }
+{
+    if some_compares_levels(items) {
+        buffer.extend_from_slice(b"mls")
+    } else {
+        Ok(())
+    }
+}
+
+// Whether one of these items compares levels.
+fn some_compares_levels(items: ConstraintItems<'_>) -> bool
+    ensures { result ≡ list_any compares_levels items.entry }
+{
+    for item in items {
+        if compares_levels(&item) {
+            return true;
+        }
+    }
+    false
+}
+
+// Whether an item compares levels.
+fn compares_levels(item: &ConstraintItemView<'_>) -> bool
+    ensures { result ≡ compares_levels item.now }
+{
+    item.kind() == 4 && is_level_pair(item.attr())
+}
+
+// Whether what two sides are is a level.
+#[tactic(auto, unfolding(crate::specs::ConstraintLines::is_level_pair))]
+fn is_level_pair(attr: u32) -> bool
+    ensures { result ≡ is_level_pair attr }
+{
+    match attr {
+        32 | 64 | 128 | 256 | 512 | 1024 => true,
+        _ => false,
+    }
+}
+
+// Adds what a constraint is about.
+fn push_subject(
+    buffer: &mut Vec<u8>,
+    symbols: &Symbols<'_>,
+    kind: ConstraintKind,
+    entry: &ConstraintEntry<'_>,
+) -> Result<(), AllocError>
+    ensures { OnOk result (buffer.new.items ≡ buffer.old.items ++ subject_text symbols.now kind entry.now) }
+{
+    match kind {
+        ConstraintKind::OnPermissions => {
+            buffer.extend_from_slice(b"constrain ")?;
+            buffer.extend_from_slice(entry.class.name())?;
+            buffer.extend_from_slice(b" ")?;
+            push_permissions(
+                buffer,
+                symbols,
+                &entry.class,
+                entry.constraint.permissions(),
+            )
+        }
+        ConstraintKind::OnChange => {
+            buffer.extend_from_slice(b"validatetrans ")?;
+            buffer.extend_from_slice(entry.class.name())
+        }
+    }
+}
+
+// Adds the set of the permissions of a class whose bits are set.
+#[tactic(auto, unfolding(crate::specs::ConstraintLines::permissions_text))]
+fn push_permissions(
+    buffer: &mut Vec<u8>,
+    symbols: &Symbols<'_>,
+    class: &ClassView<'_>,
+    mask: u32,
+) -> Result<(), AllocError>
+    ensures { OnOk result (buffer.new.items ≡ buffer.old.items ++ permissions_text mask (permissions_of symbols.now class.now.value)) }
+{
+    let inherited = inherited_from(&symbols.commons, class.common());
+    let mut names = Vec::new(*buffer.allocator());
+    insert_names(&mut names, class.permissions(), mask)?;
+    insert_names(&mut names, inherited, mask)?;
+    push_set(buffer, &names)
+}
+
+// Adds the names of those of these permissions whose bits are set, in order.
+fn insert_names<'a>(
+    names: &mut Vec<&'a [u8]>,
+    permissions: PermissionList<'a>,
+    mask: u32,
+) -> Result<(), AllocError>
+    ensures { OnOk result (map (λ name. name.now) names.new.items ≡ fold (λ sorted name. with_name name sorted) (map (λ name. name.now) names.old.items) (map (λ permission. permission.name) (filter (has_permission mask) permissions.entry))) }
+{
+    for permission in permissions {
+        if has_bit(mask, permission.value()) {
+            insert_name(names, permission.name())?;
+        }
+    }
+    Ok(())
+}
+
+// Whether the bit of a value, which is 1 to 32, is set.
+fn has_bit(mask: u32, value: u32) -> bool
+    requires { (1 ≤ value) × (value ≤ 32) }
+    ensures { result ≡ (bit_at mask (value - 1) == 1) }
+{
+    (mask >> (value - 1)) & 1 == 1
+}
+
+// The text of the expression of a constraint.
+fn expression_text(
+    alloc: Global,
+    symbols: &Symbols<'_>,
+    constraint: &ConstraintView<'_>,
+) -> Result<Vec<u8>, AllocError>
+    requires { IsExpression constraint.now.items }
+    ensures { IfOk result (λ text. text.items ≡ constraint_text (name_in symbols.now) constraint.now.items) }
+{
+    constraint.infix(alloc, symbols)
+}

@@ -1,0 +1,169 @@
+//! The listings of default rules.
+
+ghost use Rattle.std.specs.Prelude.{◌≡◌, ◌<◌, ◌++◌, IfOk, OnOk, length, map};
+ghost use Rattle.std.specs.List.{All};
+ghost use Rattle.info_lines.specs.Listings.{HasLine, line_of};
+ghost use Rattle.info_classes.specs.RecordOrder.{records_at};
+ghost use Rattle.info_classes.specs.DefaultLines.{default_word, end_word, range_words, choice_words, default_line, entries_in, default_listing, default_listing_named};
+
+use crate::default_entry::{DefaultEntry, DefaultKind, default_entries, default_of};
+use info_lines::{FileLines, LineText, number_named, primary_order};
+use pol_cursor::TableKind;
+use pol_read::Policy;
+use pol_symbols::Symbols;
+use std::alloc::{AllocError, Global};
+use std::marker::Model;
+
+/// The lines of default rules, by their numbers. Contracts see all of them.
+#[derive(Drop)]
+pub struct DefaultLines<'a> {
+    entries: Vec<DefaultEntry<'a>>,
+}
+
+impl<'a> Model for DefaultLines<'a> {
+    ghost use Rattle.std.specs.Prelude.{ℕ, ◌<◌, ◌^◌, List, map, length};
+    ghost use Rattle.info_classes.specs.DefaultLines.{default_line};
+
+    ghost Value = { List (List ℕ) };
+
+    ghost view = { λ l. map default_line l.entries.items };
+
+    ghost invariant = { λ l. length l.entries.items < 2 ^ 32 };
+}
+
+impl<'a> DefaultLines<'a> {
+    // Those of the classes of these numbers. So many that their numbers do not fit count as want of memory.
+    fn new(
+        alloc: Global,
+        symbols: &Symbols<'a>,
+        numbers: &[u32],
+    ) -> Result<DefaultLines<'a>, AllocError>
+        requires { All (λ n. n < length symbols.now.classes.records) numbers.now }
+        ensures { IfOk result (λ lines. lines ≡ map default_line (entries_in (records_at symbols.now.classes.records numbers.now))) }
+    {
+        let entries = default_entries(alloc, symbols, numbers)?;
+        if entries.len() > u32::MAX as usize {
+            return Err(AllocError);
+        }
+        Ok(DefaultLines { entries })
+    }
+
+    // How many there are.
+    fn len(&self) -> u32
+        ensures { result ≡ length self.now }
+    {
+        self.entries.len() as u32
+    }
+}
+
+impl<'a> LineText for DefaultLines<'a> {
+    ghost has = { HasLine };
+
+    ghost text = { line_of };
+
+    #[tactic(auto, using(info_lines::proofs::ListingLines::line_at))]
+    fn push_text(&self, number: u32, buffer: &mut Vec<u8>) -> Result<(), AllocError> {
+        push_default(buffer, &self.entries[number as usize])
+    }
+}
+
+// Adds the line of a default rule.
+#[tactic(auto, unfolding(crate::specs::DefaultLines::default_line))]
+fn push_default(buffer: &mut Vec<u8>, entry: &DefaultEntry<'_>) -> Result<(), AllocError>
+    ensures { OnOk result (buffer.new.items ≡ buffer.old.items ++ default_line entry.now) }
+{
+    buffer.extend_from_slice(default_word(entry.kind))?;
+    buffer.extend_from_slice(entry.class.name())?;
+    buffer.extend_from_slice(b" ")?;
+    let default = default_of(&entry.class, entry.kind);
+    buffer.extend_from_slice(choice_words(entry.kind, default))?;
+    buffer.extend_from_slice(b";")
+}
+
+fn default_word(kind: DefaultKind) -> &'static [u8]
+    ensures { result.now ≡ default_word kind }
+{
+    match kind {
+        DefaultKind::OfUser => b"default_user ",
+        DefaultKind::OfRole => b"default_role ",
+        DefaultKind::OfType => b"default_type ",
+        DefaultKind::OfRange => b"default_range ",
+    }
+}
+
+// The words of a default of a kind.
+fn choice_words(kind: DefaultKind, default: u32) -> &'static [u8]
+    ensures { result.now ≡ choice_words kind default }
+{
+    match kind {
+        DefaultKind::OfUser | DefaultKind::OfRole | DefaultKind::OfType => end_word(default),
+        DefaultKind::OfRange => range_words(default),
+    }
+}
+
+fn end_word(default: u32) -> &'static [u8]
+    ensures { result.now ≡ end_word default }
+{
+    if default == 1 { b"source" } else { b"target" }
+}
+
+fn range_words(default: u32) -> &'static [u8]
+    ensures { result.now ≡ range_words default }
+{
+    match default {
+        1 => b"source low",
+        2 => b"source high",
+        3 => b"source low-high",
+        4 => b"target low",
+        5 => b"target high",
+        6 => b"target low-high",
+        _ => b"glblub",
+    }
+}
+
+// Those of the classes of these numbers, one after the other.
+#[tactic(auto, using(info_lines::proofs::FileOrder::all_there, info_lines::proofs::FileOrder::all_lines))]
+fn lines_of_classes<'a>(
+    alloc: Global,
+    symbols: &Symbols<'a>,
+    numbers: &[u32],
+) -> Result<FileLines<DefaultLines<'a>>, AllocError>
+    requires { All (λ n. n < length symbols.now.classes.records) numbers.now }
+    ensures { IfOk result (λ lines. lines ≡ map default_line (entries_in (records_at symbols.now.classes.records numbers.now))) }
+{
+    let lines = DefaultLines::new(alloc, symbols, numbers)?;
+    let count = lines.len();
+    Ok(FileLines::new(lines, count))
+}
+
+/// The default rules of all classes, in the order of the classes' names.
+#[tactic(auto, unfolding(crate::specs::DefaultLines::default_listing))]
+pub fn default_lines<'a>(
+    alloc: Global,
+    policy: &Policy<'a>,
+) -> Result<FileLines<DefaultLines<'a>>, AllocError>
+    ensures { IfOk result (λ lines. lines ≡ default_listing policy.now.symbols) }
+{
+    let symbols = policy.symbols();
+    let numbers = primary_order(alloc, symbols, TableKind::Classes)?;
+    lines_of_classes(alloc, symbols, &numbers)
+}
+
+/// Those of the class that a name finds, or `None` where it finds none.
+#[tactic(auto, unfolding(crate::specs::DefaultLines::default_listing_named), using(info_lines::proofs::Placing::named_within))]
+pub fn default_lines_named<'a>(
+    alloc: Global,
+    policy: &Policy<'a>,
+    name: &[u8],
+) -> Result<Option<FileLines<DefaultLines<'a>>>, AllocError>
+    ensures { IfOk result (λ lines. lines ≡ default_listing_named policy.now.symbols name.now) }
+{
+    let symbols = policy.symbols();
+    match number_named(symbols, TableKind::Classes, name) {
+        Some(number) => {
+            let lines = lines_of_classes(alloc, symbols, &[number])?;
+            Ok(Some(lines))
+        }
+        None => Ok(None),
+    }
+}

@@ -1,0 +1,20 @@
+//! The listings that come from the records of classes, line by line: constraints and default rules. And the bounds of types.
+#![tactic(auto)]
+
+mod bounds;
+mod constraint_entry;
+mod constraint_parts;
+mod constraints;
+mod default_entry;
+mod defaults;
+#[cfg(test)]
+mod tests;
+
+pub use bounds::{BoundsLines, bounds_lines};
+pub use constraint_entry::{ConstraintEntry, ConstraintKind};
+pub use constraints::{
+    ConstraintLines, constraint_lines, constraint_lines_named, validatetrans_lines,
+    validatetrans_lines_named,
+};
+pub use default_entry::{DefaultEntry, DefaultKind};
+pub use defaults::{DefaultLines, default_lines, default_lines_named};

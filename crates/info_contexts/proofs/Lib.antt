@@ -1,0 +1,2 @@
+pub mod GenfsEntries
+pub mod NamedEntries

@@ -1,0 +1,9 @@
+pub mod NamedEntries
+pub mod SidLines
+pub mod FsUseLines
+pub mod GenfsLines
+pub mod PortLines
+pub mod NetifLines
+pub mod NodeLines
+pub mod IbPkeyLines
+pub mod IbEndPortLines

@@ -1,0 +1,144 @@
+// The lines of the contexts of objects.
+ghost use Rattle.std.specs.Prelude.{◌≡◌, ◌++◌, IfOk, option_map};
+ghost use Rattle.info_contexts.specs.SidLines.{sid_listing_of};
+ghost use Rattle.info_contexts.specs.FsUseLines.{fsuse_listing_of};
+ghost use Rattle.info_contexts.specs.GenfsLines.{genfs_listing_of};
+ghost use Rattle.info_contexts.specs.NetifLines.{netif_listing_of};
+ghost use Rattle.info_contexts.specs.NodeLines.{node_listing, node6_listing};
+ghost use Rattle.info_contexts.specs.PortLines.{port_listing};
+ghost use Rattle.info_contexts.specs.IbPkeyLines.{ibpkey_listing};
+ghost use Rattle.info_contexts.specs.IbEndPortLines.{ibendport_listing};
+
+use crate::entry_names::numbers_of_name;
+use crate::genfs_entry::genfs_entries;
+use crate::{
+    FsUseLines, GenfsLines, IbEndPortLines, IbPkeyLines, NetifLines, Node6Lines, NodeLines,
+    PortLines, SidLines,
+};
+use info_lines::{ChainedLines, FileLines, NumberedLines};
+use pol_read::Policy;
+use std::alloc::{AllocError, Global};
+
+/// Those of the initial SIDs that are printed with the name, or of all where none is given, with their contexts where they are
+/// expanded.
+#[tactic(auto, using(crate::proofs::NamedEntries::chosen_there, crate::proofs::NamedEntries::chosen_lines, info_lines::proofs::FileOrder::as_many))]
+pub fn sid_lines<'p, 'a>(
+    alloc: Global,
+    policy: &'p Policy<'a>,
+    expand: bool,
+    name: Option<&[u8]>,
+) -> Result<NumberedLines<SidLines<'p, 'a>>, AllocError>
+    ensures { IfOk result (λ lines. lines ≡ sid_listing_of expand policy.now.symbols (option_map (λ name. name.now) name.entry) policy.now.labels.contexts.sid) }
+{
+    let sids = &policy.contexts().sid;
+    let numbers = numbers_of_name(alloc, sids, sids.len(), name)?;
+    let lines = SidLines::new(sids, policy.symbols(), expand);
+    Ok(NumberedLines::new(lines, numbers))
+}
+
+/// Those of how the files of the file systems of the name get their contexts, or of all where none is given.
+#[tactic(auto, using(crate::proofs::NamedEntries::chosen_there, crate::proofs::NamedEntries::chosen_lines, info_lines::proofs::FileOrder::as_many))]
+pub fn fsuse_lines<'p, 'a>(
+    alloc: Global,
+    policy: &'p Policy<'a>,
+    name: Option<&[u8]>,
+) -> Result<NumberedLines<FsUseLines<'p, 'a>>, AllocError>
+    ensures { IfOk result (λ lines. lines ≡ fsuse_listing_of policy.now.symbols (option_map (λ name. name.now) name.entry) policy.now.labels.contexts.fsuse) }
+{
+    let entries = &policy.contexts().fsuse;
+    let numbers = numbers_of_name(alloc, entries, entries.len(), name)?;
+    let lines = FsUseLines::new(entries, policy.symbols());
+    Ok(NumberedLines::new(lines, numbers))
+}
+
+/// Those of the paths of the file systems of the name that have no labels of their own, or of all where none is given. So many
+/// paths that their numbers do not fit count as want of memory.
+#[tactic(auto, using(crate::proofs::NamedEntries::chosen_there, crate::proofs::NamedEntries::chosen_lines, info_lines::proofs::FileOrder::as_many))]
+pub fn genfs_lines<'p, 'a>(
+    alloc: Global,
+    policy: &'p Policy<'a>,
+    name: Option<&[u8]>,
+) -> Result<NumberedLines<GenfsLines<'p, 'a>>, AllocError>
+    ensures { IfOk result (λ lines. lines ≡ genfs_listing_of policy.now.symbols (option_map (λ name. name.now) name.entry) policy.now.labels.genfs) }
+{
+    let entries = genfs_entries(alloc, policy.genfs())?;
+    if entries.len() > u32::MAX as usize {
+        return Err(AllocError);
+    }
+    let numbers = numbers_of_name(alloc, &entries, entries.len() as u32, name)?;
+    let lines = GenfsLines::new(entries, policy.symbols());
+    Ok(NumberedLines::new(lines, numbers))
+}
+
+/// Those of the network interfaces of the name, or of all where none is given.
+#[tactic(auto, using(crate::proofs::NamedEntries::chosen_there, crate::proofs::NamedEntries::chosen_lines, info_lines::proofs::FileOrder::as_many))]
+pub fn netif_lines<'p, 'a>(
+    alloc: Global,
+    policy: &'p Policy<'a>,
+    name: Option<&[u8]>,
+) -> Result<NumberedLines<NetifLines<'p, 'a>>, AllocError>
+    ensures { IfOk result (λ lines. lines ≡ netif_listing_of policy.now.symbols (option_map (λ name. name.now) name.entry) policy.now.labels.contexts.netif) }
+{
+    let entries = &policy.contexts().netif;
+    let numbers = numbers_of_name(alloc, entries, entries.len(), name)?;
+    let lines = NetifLines::new(entries, policy.symbols());
+    Ok(NumberedLines::new(lines, numbers))
+}
+
+/// Those of IPv4 addresses, and then those of IPv6 addresses.
+pub fn node_lines<'p, 'a>(
+    policy: &'p Policy<'a>,
+) -> ChainedLines<NodeLines<'p, 'a>, Node6Lines<'p, 'a>>
+    ensures { result ≡ node_listing policy.now.symbols policy.now.labels.contexts.node
+        ++ node6_listing policy.now.symbols policy.now.labels.contexts.node6 }
+{
+    ChainedLines::new(ipv4_lines(policy), ipv6_lines(policy))
+}
+
+// Those of IPv4 addresses.
+#[tactic(auto, using(info_lines::proofs::FileOrder::all_there, info_lines::proofs::FileOrder::all_lines, info_lines::proofs::FileOrder::as_many))]
+fn ipv4_lines<'p, 'a>(policy: &'p Policy<'a>) -> FileLines<NodeLines<'p, 'a>>
+    ensures { result ≡ node_listing policy.now.symbols policy.now.labels.contexts.node }
+{
+    let entries = &policy.contexts().node;
+    FileLines::new(NodeLines::new(entries, policy.symbols()), entries.len())
+}
+
+// Those of IPv6 addresses.
+#[tactic(auto, using(info_lines::proofs::FileOrder::all_there, info_lines::proofs::FileOrder::all_lines, info_lines::proofs::FileOrder::as_many))]
+fn ipv6_lines<'p, 'a>(policy: &'p Policy<'a>) -> FileLines<Node6Lines<'p, 'a>>
+    ensures { result ≡ node6_listing policy.now.symbols policy.now.labels.contexts.node6 }
+{
+    let entries = &policy.contexts().node6;
+    FileLines::new(Node6Lines::new(entries, policy.symbols()), entries.len())
+}
+
+/// Those of ports.
+#[tactic(auto, using(info_lines::proofs::FileOrder::all_there, info_lines::proofs::FileOrder::all_lines, info_lines::proofs::FileOrder::as_many))]
+pub fn port_lines<'p, 'a>(policy: &'p Policy<'a>) -> FileLines<PortLines<'p, 'a>>
+    ensures { result ≡ port_listing policy.now.symbols policy.now.labels.contexts.port }
+{
+    let entries = &policy.contexts().port;
+    FileLines::new(PortLines::new(entries, policy.symbols()), entries.len())
+}
+
+/// Those of InfiniBand partition keys.
+#[tactic(auto, using(info_lines::proofs::FileOrder::all_there, info_lines::proofs::FileOrder::all_lines, info_lines::proofs::FileOrder::as_many))]
+pub fn ibpkey_lines<'p, 'a>(policy: &'p Policy<'a>) -> FileLines<IbPkeyLines<'p, 'a>>
+    ensures { result ≡ ibpkey_listing policy.now.symbols policy.now.labels.contexts.ibpkey }
+{
+    let entries = &policy.contexts().ibpkey;
+    FileLines::new(IbPkeyLines::new(entries, policy.symbols()), entries.len())
+}
+
+/// Those of InfiniBand devices at ports.
+#[tactic(auto, using(info_lines::proofs::FileOrder::all_there, info_lines::proofs::FileOrder::all_lines, info_lines::proofs::FileOrder::as_many))]
+pub fn ibendport_lines<'p, 'a>(policy: &'p Policy<'a>) -> FileLines<IbEndPortLines<'p, 'a>>
+    ensures { result ≡ ibendport_listing policy.now.symbols policy.now.labels.contexts.ibendport }
+{
+    let entries = &policy.contexts().ibendport;
+    FileLines::new(
+        IbEndPortLines::new(entries, policy.symbols()),
+        entries.len(),
+    )
+}

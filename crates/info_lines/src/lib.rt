@@ -1,0 +1,16 @@
+//! The kinds of listings, their lines, which are made one after the other, and the order of names.
+#![tactic(auto)]
+
+mod file_lines;
+mod lines;
+mod listing;
+mod name_lists;
+mod name_order;
+mod name_sets;
+
+pub use file_lines::{ChainedLines, FileLines};
+pub use lines::{LineText, Lines, NumberedLines};
+pub use listing::Listing;
+pub use name_lists::{insert_name, push_set};
+pub use name_order::{number_named, primary_order};
+pub use name_sets::{names_of_bits, names_of_values, values_of_bits};

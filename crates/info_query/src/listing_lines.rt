@@ -1,0 +1,298 @@
+// The lines of each listing, as they are asked for.
+ghost use Rattle.std.specs.Prelude.{◌≡◌, true, false, IfOk, option_map};
+ghost use Rattle.info_symbols.specs.SymbolListings.{symbol_listing, symbol_listing_named};
+ghost use Rattle.info_symbols.specs.TypeListings.{type_listing, type_listing_named, permissive_listing, permissive_listing_named};
+ghost use Rattle.info_classes.specs.ConstraintLines.{constraint_listing, constraint_listing_named, validatetrans_listing, validatetrans_listing_named};
+ghost use Rattle.info_classes.specs.DefaultLines.{default_listing, default_listing_named};
+ghost use Rattle.info_query.specs.Listings.{attribute_lines, attribute_lines_named, left_of, lines_of, looked_up};
+
+use crate::capabilities::{CapabilityLines, capability_lines};
+use info_attributes::{AttributeLines, attribute_statements, attribute_statements_named};
+use info_classes::{
+    BoundsLines, ConstraintLines, DefaultLines, bounds_lines, constraint_lines,
+    constraint_lines_named, default_lines, default_lines_named, validatetrans_lines,
+    validatetrans_lines_named,
+};
+use info_contexts::{
+    FsUseLines, GenfsLines, IbEndPortLines, IbPkeyLines, NetifLines, Node6Lines, NodeLines,
+    PortLines, SidLines, fsuse_lines, genfs_lines, ibendport_lines, ibpkey_lines, netif_lines,
+    node_lines, port_lines, sid_lines,
+};
+use info_lines::{ChainedLines, FileLines, Lines, Listing, NumberedLines};
+use info_symbols::{
+    SymbolLines, TypeLines, attribute_lines, attribute_lines_named, permissive_lines,
+    permissive_lines_named, symbol_lines, symbol_lines_named, type_lines, type_lines_named,
+};
+use pol_cursor::TableKind;
+use pol_read::Policy;
+use std::alloc::{AllocError, Global};
+
+/// The lines of a listing, by how they are made.
+#[derive(Drop)]
+pub enum ListingLines<'p, 'a> {
+    /// Those of classes, commons, roles, users, booleans, sensitivities and categories.
+    Symbols(NumberedLines<SymbolLines<'p, 'a>>),
+    /// Those of types, permissive types, and attributes by their names.
+    Types(NumberedLines<TypeLines<'p, 'a>>),
+    /// Those of attributes with their types.
+    Attributes(AttributeLines<'p, 'a>),
+    /// Those of both kinds of constraints.
+    Constraints(FileLines<ConstraintLines<'p, 'a>>),
+    Defaults(FileLines<DefaultLines<'a>>),
+    Typebounds(FileLines<BoundsLines<'p, 'a>>),
+    InitialSids(NumberedLines<SidLines<'p, 'a>>),
+    FsUses(NumberedLines<FsUseLines<'p, 'a>>),
+    Genfscons(NumberedLines<GenfsLines<'p, 'a>>),
+    Netifcons(NumberedLines<NetifLines<'p, 'a>>),
+    Nodecons(ChainedLines<NodeLines<'p, 'a>, Node6Lines<'p, 'a>>),
+    Portcons(FileLines<PortLines<'p, 'a>>),
+    Ibpkeycons(FileLines<IbPkeyLines<'p, 'a>>),
+    Ibendportcons(FileLines<IbEndPortLines<'p, 'a>>),
+    Capabilities(NumberedLines<CapabilityLines>),
+}
+
+impl<'p, 'a> Lines for ListingLines<'p, 'a> {
+    ghost left = { left_of };
+
+    fn count(&self) -> u64 {
+        match self {
+            ListingLines::Symbols(lines) => lines.count(),
+            ListingLines::Types(lines) => lines.count(),
+            ListingLines::Attributes(lines) => lines.count(),
+            ListingLines::Constraints(lines) => lines.count(),
+            ListingLines::Defaults(lines) => lines.count(),
+            ListingLines::Typebounds(lines) => lines.count(),
+            ListingLines::InitialSids(lines) => lines.count(),
+            ListingLines::FsUses(lines) => lines.count(),
+            ListingLines::Genfscons(lines) => lines.count(),
+            ListingLines::Netifcons(lines) => lines.count(),
+            ListingLines::Nodecons(lines) => lines.count(),
+            ListingLines::Portcons(lines) => lines.count(),
+            ListingLines::Ibpkeycons(lines) => lines.count(),
+            ListingLines::Ibendportcons(lines) => lines.count(),
+            ListingLines::Capabilities(lines) => lines.count(),
+        }
+    }
+
+    fn push_line(&mut self, buffer: &mut Vec<u8>) -> Result<(), AllocError> {
+        match self {
+            ListingLines::Symbols(lines) => lines.push_line(buffer),
+            ListingLines::Types(lines) => lines.push_line(buffer),
+            ListingLines::Attributes(lines) => lines.push_line(buffer),
+            ListingLines::Constraints(lines) => lines.push_line(buffer),
+            ListingLines::Defaults(lines) => lines.push_line(buffer),
+            ListingLines::Typebounds(lines) => lines.push_line(buffer),
+            ListingLines::InitialSids(lines) => lines.push_line(buffer),
+            ListingLines::FsUses(lines) => lines.push_line(buffer),
+            ListingLines::Genfscons(lines) => lines.push_line(buffer),
+            ListingLines::Netifcons(lines) => lines.push_line(buffer),
+            ListingLines::Nodecons(lines) => lines.push_line(buffer),
+            ListingLines::Portcons(lines) => lines.push_line(buffer),
+            ListingLines::Ibpkeycons(lines) => lines.push_line(buffer),
+            ListingLines::Ibendportcons(lines) => lines.push_line(buffer),
+            ListingLines::Capabilities(lines) => lines.push_line(buffer),
+        }
+    }
+}
+
+/// What was found of a listing: its lines, or `None` where its name is looked up and finds no record.
+type Found<'p, 'a> = Result<Option<ListingLines<'p, 'a>>, AllocError>;
+
+/// The lines of a listing of a policy, plain or expanded: those of a name, or all. Where the listing looks its name up and finds
+/// no record, `None`.
+///
+/// The contexts of addresses, ports and InfiniBand objects and the bounds of types do not look at the name.
+#[tactic(auto, unfolding(crate::specs::Listings::lines_of))]
+pub fn lines_of<'p, 'a>(
+    alloc: Global,
+    policy: &'p Policy<'a>,
+    expand: bool,
+    listing: Listing,
+    name: Option<&[u8]>,
+) -> Found<'p, 'a>
+    ensures { IfOk result (λ lines. option_map left_of lines ≡ lines_of policy.now expand listing (option_map (λ name. name.now) name.entry)) }
+{
+    match listing {
+        Listing::Classes => table_lines(alloc, policy, TableKind::Classes, expand, name),
+        Listing::Commons => table_lines(alloc, policy, TableKind::Commons, expand, name),
+        Listing::Constraints => constraints(alloc, policy, name),
+        Listing::Validatetrans => validatetrans(alloc, policy, name),
+        Listing::Defaults => defaults(alloc, policy, name),
+        Listing::Roles => table_lines(alloc, policy, TableKind::Roles, expand, name),
+        Listing::Types => types(alloc, policy, expand, name),
+        Listing::Attributes => attributes(alloc, policy, expand, name),
+        Listing::Users => table_lines(alloc, policy, TableKind::Users, expand, name),
+        Listing::Booleans => table_lines(alloc, policy, TableKind::Booleans, expand, name),
+        Listing::Sensitivities => table_lines(alloc, policy, TableKind::Levels, expand, name),
+        Listing::Categories => table_lines(alloc, policy, TableKind::Categories, expand, name),
+        Listing::InitialSids => Ok(Some(ListingLines::InitialSids(sid_lines(
+            alloc, policy, expand, name,
+        )?))),
+        Listing::FsUses => Ok(Some(ListingLines::FsUses(fsuse_lines(alloc, policy, name)?))),
+        Listing::Genfscons => Ok(Some(ListingLines::Genfscons(genfs_lines(alloc, policy, name)?))),
+        Listing::Netifcons => Ok(Some(ListingLines::Netifcons(netif_lines(alloc, policy, name)?))),
+        Listing::Nodecons => Ok(Some(ListingLines::Nodecons(node_lines(policy)))),
+        Listing::Portcons => Ok(Some(ListingLines::Portcons(port_lines(policy)))),
+        Listing::Ibpkeycons => Ok(Some(ListingLines::Ibpkeycons(ibpkey_lines(policy)))),
+        Listing::Ibendportcons => Ok(Some(ListingLines::Ibendportcons(ibendport_lines(policy)))),
+        Listing::Permissives => permissives(alloc, policy, expand, name),
+        Listing::Capabilities => Ok(Some(ListingLines::Capabilities(capability_lines(
+            alloc, policy, expand, name,
+        )?))),
+        Listing::Typebounds => Ok(Some(ListingLines::Typebounds(bounds_lines(alloc, policy)?))),
+    }
+}
+
+// Those of the records of a table.
+fn table_lines<'p, 'a>(
+    alloc: Global,
+    policy: &'p Policy<'a>,
+    table: TableKind,
+    expand: bool,
+    name: Option<&[u8]>,
+) -> Found<'p, 'a>
+    ensures { IfOk result (λ lines. option_map left_of lines ≡ looked_up (symbol_listing policy.now.symbols table expand)
+        (symbol_listing_named policy.now.symbols table expand) (option_map (λ name. name.now) name.entry)) }
+{
+    let symbols = policy.symbols();
+    match name {
+        None => Ok(Some(ListingLines::Symbols(symbol_lines(alloc, symbols, table, expand)?))),
+        Some(name) => match symbol_lines_named(alloc, symbols, table, expand, name)? {
+            Some(lines) => Ok(Some(ListingLines::Symbols(lines))),
+            None => Ok(None),
+        },
+    }
+}
+
+// Those of constraints on permissions.
+fn constraints<'p, 'a>(alloc: Global, policy: &'p Policy<'a>, name: Option<&[u8]>) -> Found<'p, 'a>
+    ensures { IfOk result (λ lines. option_map left_of lines ≡ looked_up (constraint_listing policy.now.symbols)
+        (constraint_listing_named policy.now.symbols) (option_map (λ name. name.now) name.entry)) }
+{
+    match name {
+        None => Ok(Some(ListingLines::Constraints(constraint_lines(alloc, policy)?))),
+        Some(name) => match constraint_lines_named(alloc, policy, name)? {
+            Some(lines) => Ok(Some(ListingLines::Constraints(lines))),
+            None => Ok(None),
+        },
+    }
+}
+
+// Those of constraints on a change of context.
+fn validatetrans<'p, 'a>(
+    alloc: Global,
+    policy: &'p Policy<'a>,
+    name: Option<&[u8]>,
+) -> Found<'p, 'a>
+    ensures { IfOk result (λ lines. option_map left_of lines ≡ looked_up (validatetrans_listing policy.now.symbols)
+        (validatetrans_listing_named policy.now.symbols) (option_map (λ name. name.now) name.entry)) }
+{
+    match name {
+        None => Ok(Some(ListingLines::Constraints(validatetrans_lines(alloc, policy)?))),
+        Some(name) => match validatetrans_lines_named(alloc, policy, name)? {
+            Some(lines) => Ok(Some(ListingLines::Constraints(lines))),
+            None => Ok(None),
+        },
+    }
+}
+
+// Those of default rules.
+fn defaults<'p, 'a>(alloc: Global, policy: &'p Policy<'a>, name: Option<&[u8]>) -> Found<'p, 'a>
+    ensures { IfOk result (λ lines. option_map left_of lines ≡ looked_up (default_listing policy.now.symbols)
+        (default_listing_named policy.now.symbols) (option_map (λ name. name.now) name.entry)) }
+{
+    match name {
+        None => Ok(Some(ListingLines::Defaults(default_lines(alloc, policy)?))),
+        Some(name) => match default_lines_named(alloc, policy, name)? {
+            Some(lines) => Ok(Some(ListingLines::Defaults(lines))),
+            None => Ok(None),
+        },
+    }
+}
+
+// Those of types that are no attributes.
+fn types<'p, 'a>(
+    alloc: Global,
+    policy: &'p Policy<'a>,
+    expand: bool,
+    name: Option<&[u8]>,
+) -> Found<'p, 'a>
+    ensures { IfOk result (λ lines. option_map left_of lines ≡ looked_up (type_listing policy.now expand)
+        (type_listing_named policy.now expand) (option_map (λ name. name.now) name.entry)) }
+{
+    match name {
+        None => Ok(Some(ListingLines::Types(type_lines(alloc, policy, expand)?))),
+        Some(name) => match type_lines_named(alloc, policy, expand, name)? {
+            Some(lines) => Ok(Some(ListingLines::Types(lines))),
+            None => Ok(None),
+        },
+    }
+}
+
+// Those of permissive types.
+fn permissives<'p, 'a>(
+    alloc: Global,
+    policy: &'p Policy<'a>,
+    expand: bool,
+    name: Option<&[u8]>,
+) -> Found<'p, 'a>
+    ensures { IfOk result (λ lines. option_map left_of lines ≡ looked_up (permissive_listing policy.now expand)
+        (permissive_listing_named policy.now expand) (option_map (λ name. name.now) name.entry)) }
+{
+    match name {
+        None => Ok(Some(ListingLines::Types(permissive_lines(alloc, policy, expand)?))),
+        Some(name) => match permissive_lines_named(alloc, policy, expand, name)? {
+            Some(lines) => Ok(Some(ListingLines::Types(lines))),
+            None => Ok(None),
+        },
+    }
+}
+
+// Those of attributes.
+fn attributes<'p, 'a>(
+    alloc: Global,
+    policy: &'p Policy<'a>,
+    expand: bool,
+    name: Option<&[u8]>,
+) -> Found<'p, 'a>
+    ensures { IfOk result (λ lines. option_map left_of lines ≡ looked_up (attribute_lines policy.now expand)
+        (attribute_lines_named policy.now expand) (option_map (λ name. name.now) name.entry)) }
+{
+    if expand {
+        statements(alloc, policy, name)
+    } else {
+        attribute_names(alloc, policy, name)
+    }
+}
+
+// Those of attributes with their types.
+fn statements<'p, 'a>(alloc: Global, policy: &'p Policy<'a>, name: Option<&[u8]>) -> Found<'p, 'a>
+    ensures { IfOk result (λ lines. option_map left_of lines ≡ looked_up (attribute_lines policy.now true)
+        (attribute_lines_named policy.now true) (option_map (λ name. name.now) name.entry)) }
+{
+    match name {
+        None => Ok(Some(ListingLines::Attributes(attribute_statements(alloc, policy)?))),
+        Some(name) => match attribute_statements_named(alloc, policy, name)? {
+            Some(lines) => Ok(Some(ListingLines::Attributes(lines))),
+            None => Ok(None),
+        },
+    }
+}
+
+// Those of attributes by their names.
+fn attribute_names<'p, 'a>(
+    alloc: Global,
+    policy: &'p Policy<'a>,
+    name: Option<&[u8]>,
+) -> Found<'p, 'a>
+    ensures { IfOk result (λ lines. option_map left_of lines ≡ looked_up (attribute_lines policy.now false)
+        (attribute_lines_named policy.now false) (option_map (λ name. name.now) name.entry)) }
+{
+    match name {
+        None => Ok(Some(ListingLines::Types(attribute_lines(alloc, policy)?))),
+        Some(name) => match attribute_lines_named(alloc, policy, name)? {
+            Some(lines) => Ok(Some(ListingLines::Types(lines))),
+            None => Ok(None),
+        },
+    }
+}

@@ -1,0 +1,4 @@
+pub mod SummaryLines
+pub mod RuleCounts
+pub mod Counts
+pub mod Summary

@@ -1,0 +1,13 @@
+//! The summary of a policy: its version, and how many it has of each thing.
+#![tactic(auto)]
+
+mod context_counts;
+mod entry;
+mod rule_counts;
+mod summary_text;
+mod symbol_counts;
+#[cfg(test)]
+mod tests;
+
+pub use entry::{Entry, Value};
+pub use summary_text::{SummaryLines, SummaryText, summary};

@@ -1,0 +1,12 @@
+pub mod SymbolLines
+pub mod SymbolListings
+pub mod TypeListings
+pub mod PermissionSets
+pub mod ClassLines
+pub mod Aliases
+pub mod AliasLists
+pub mod MlsLines
+pub mod Flavours
+pub mod TypeStatements
+pub mod RoleLines
+pub mod UserLines

@@ -1,0 +1,29 @@
+-- The lines of sensitivities and categories.
+use Rattle.std.specs.Prelude.{ℕ, ◌++◌, Bool, true, false, List, codes}
+use Rattle.pol_cursor.specs.declared.TableKind.TheVariants.{Levels, Categories}
+use Rattle.pol_mls.specs.declared.level_rec.LevelRec.{LevelRec}
+use Rattle.pol_mls.specs.MlsTexts.{level_text}
+use Rattle.pol_datums.specs.declared.SensitivityRec.{SensitivityRec}
+use Rattle.pol_datums.specs.declared.CategoryRec.{CategoryRec}
+use Rattle.pol_symbols.specs.declared.symbols.Symbols.{Symbols}
+use Rattle.pol_symbols.specs.PolicySymbols.{name_in}
+use Rattle.info_symbols.specs.Aliases.{alias_names, alias_text}
+
+-- the level of a sensitivity with all categories that go with it
+abbrev pub whole_level : SensitivityRec → LevelRec
+whole_level level = record { sens = level.sens; categories = level.categories }
+
+-- what is said of it behind the declaration
+unfoldable pub level_part : Symbols → SensitivityRec → List ℕ
+level_part symbols level = codes "; level " ++ level_text (name_in symbols) (whole_level level) ++ codes ";"
+
+-- expanded: sensitivity NAME alias ALIASES; level LEVEL;
+unfoldable pub sensitivity_line : Symbols → Bool → SensitivityRec → List ℕ
+sensitivity_line symbols false level = level.name
+sensitivity_line symbols true level =
+    codes "sensitivity " ++ level.name ++ alias_text (alias_names symbols Levels level.sens) ++ level_part symbols level
+
+-- expanded: category NAME alias ALIASES;
+unfoldable pub category_line : Symbols → Bool → CategoryRec → List ℕ
+category_line symbols false category = category.name
+category_line symbols true category = codes "category " ++ category.name ++ alias_text (alias_names symbols Categories category.value) ++ codes ";"

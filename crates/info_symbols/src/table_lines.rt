@@ -1,0 +1,174 @@
+//! The listings of symbol tables.
+
+ghost use Rattle.std.specs.Prelude.{◌≡◌, ◌∷◌, ◌++◌, [], IfOk, OnOk};
+ghost use Rattle.info_lines.specs.Listings.{HasLine, line_of};
+ghost use Rattle.info_symbols.specs.SymbolLines.{boolean_line, state_word, symbol_lines};
+ghost use Rattle.info_symbols.specs.SymbolListings.{symbol_listing, symbol_listing_named};
+
+use crate::aliases::Aliases;
+use crate::class_texts::{push_class, push_common};
+use crate::mls_texts::{push_category, push_sensitivity};
+use crate::role_text::push_role;
+use crate::user_text::push_user;
+use info_lines::{LineText, NumberedLines, number_named, primary_order};
+use pol_cursor::TableKind;
+use pol_datums::BooleanView;
+use pol_symbols::Symbols;
+use std::alloc::{AllocError, Global};
+use std::marker::Model;
+
+/// The lines of the records of a table, by their numbers. Contracts see those of all records, in the order of the table's list.
+#[derive(Drop)]
+pub struct SymbolLines<'p, 'a> {
+    symbols: &'p Symbols<'a>,
+    table: TableKind,
+    expand: bool,
+    // Those of the table where it is expanded.
+    aliases: Aliases<'a>,
+}
+
+impl<'p, 'a> Model for SymbolLines<'p, 'a> {
+    ghost use Rattle.std.specs.Prelude.{ℕ, List};
+    ghost use Rattle.info_symbols.specs.AliasLists.{AreAliases};
+    ghost use Rattle.info_symbols.specs.SymbolLines.{symbol_lines};
+
+    ghost Value = { List (List ℕ) };
+
+    ghost view = { λ lines. symbol_lines lines.symbols.now lines.table lines.expand };
+
+    ghost invariant = { λ lines. AreAliases lines.expand lines.symbols.now lines.table lines.aliases };
+}
+
+impl<'p, 'a> SymbolLines<'p, 'a> {
+    /// The lines of a table of these symbols, plain or expanded.
+    pub fn new(
+        alloc: Global,
+        symbols: &'p Symbols<'a>,
+        table: TableKind,
+        expand: bool,
+    ) -> Result<SymbolLines<'p, 'a>, AllocError>
+        ensures { IfOk result (λ lines. lines ≡ symbol_lines symbols.now table expand) }
+    {
+        let aliases = Aliases::new(alloc, symbols, table, expand)?;
+        Ok(SymbolLines {
+            symbols,
+            table,
+            expand,
+            aliases,
+        })
+    }
+}
+
+impl<'p, 'a> LineText for SymbolLines<'p, 'a> {
+    ghost has = { HasLine };
+
+    ghost text = { line_of };
+
+    #[tactic(auto, using(info_lines::proofs::ListingLines::line_at))]
+    fn push_text(&self, number: u32, buffer: &mut Vec<u8>) -> Result<(), AllocError> {
+        let symbols = self.symbols;
+        match self.table {
+            TableKind::Commons => push_common(buffer, &symbols.commons.view(number), self.expand),
+            TableKind::Classes => push_class(buffer, &symbols.classes.view(number), self.expand),
+            TableKind::Roles => {
+                push_role(buffer, symbols, &symbols.roles.view(number), self.expand)
+            }
+            TableKind::Types => buffer.extend_from_slice(symbols.types.view(number).name()),
+            TableKind::Users => {
+                push_user(buffer, symbols, &symbols.users.view(number), self.expand)
+            }
+            TableKind::Booleans => {
+                push_boolean(buffer, &symbols.booleans.view(number), self.expand)
+            }
+            TableKind::Levels => push_sensitivity(
+                buffer,
+                symbols,
+                &self.aliases,
+                &symbols.levels.view(number),
+                self.expand,
+            ),
+            TableKind::Categories => push_category(
+                buffer,
+                symbols,
+                &self.aliases,
+                &symbols.categories.view(number),
+                self.expand,
+            ),
+        }
+    }
+}
+
+// Adds the line of a boolean.
+#[tactic(auto, unfolding(crate::specs::SymbolLines::boolean_line))]
+fn push_boolean(
+    buffer: &mut Vec<u8>,
+    boolean: &BooleanView<'_>,
+    expand: bool,
+) -> Result<(), AllocError>
+    ensures { OnOk result (buffer.new.items ≡ buffer.old.items ++ boolean_line expand boolean.now.value) }
+{
+    if !expand {
+        return buffer.extend_from_slice(boolean.name());
+    }
+    buffer.extend_from_slice(b"bool ")?;
+    buffer.extend_from_slice(boolean.name())?;
+    buffer.extend_from_slice(b" ")?;
+    buffer.extend_from_slice(state_word(boolean.state()))?;
+    buffer.extend_from_slice(b";")
+}
+
+// The word of the state of a boolean.
+fn state_word(state: u32) -> &'static [u8]
+    ensures { result.now ≡ state_word state }
+{
+    if state == 1 { b"true" } else { b"false" }
+}
+
+/// The lines of the primary records of a table, in the order of their names.
+#[tactic(auto, using(crate::proofs::Listed::listed, crate::proofs::Listed::have_lines))]
+pub fn symbol_lines<'p, 'a>(
+    alloc: Global,
+    symbols: &'p Symbols<'a>,
+    table: TableKind,
+    expand: bool,
+) -> Result<NumberedLines<SymbolLines<'p, 'a>>, AllocError>
+    ensures { IfOk result (λ lines. lines ≡ symbol_listing symbols.now table expand) }
+{
+    let numbers = primary_order(alloc, symbols, table)?;
+    let lines = SymbolLines::new(alloc, symbols, table, expand)?;
+    Ok(NumberedLines::new(lines, numbers))
+}
+
+/// One line.
+pub(crate) fn one_line<T: LineText + Drop>(
+    alloc: Global,
+    texts: T,
+    number: u32,
+) -> Result<NumberedLines<T>, AllocError>
+    requires { T.has texts number }
+    ensures { IfOk result (λ lines. lines ≡ T.text texts number ∷ []) }
+{
+    let mut numbers = Vec::new(alloc);
+    numbers.push(number)?;
+    Ok(NumberedLines::new(texts, numbers))
+}
+
+/// The line of the primary record that a name finds in a table, or `None` where there is none.
+#[tactic(auto, using(crate::proofs::Listed::symbol_named, crate::proofs::Listed::symbol_unnamed, info_lines::proofs::Placing::named_within, crate::proofs::Listed::as_many))]
+pub fn symbol_lines_named<'p, 'a>(
+    alloc: Global,
+    symbols: &'p Symbols<'a>,
+    table: TableKind,
+    expand: bool,
+    name: &[u8],
+) -> Result<Option<NumberedLines<SymbolLines<'p, 'a>>>, AllocError>
+    ensures { IfOk result (λ lines. lines ≡ symbol_listing_named symbols.now table expand name.now) }
+{
+    match number_named(symbols, table, name) {
+        Some(number) => {
+            let lines = SymbolLines::new(alloc, symbols, table, expand)?;
+            Ok(Some(one_line(alloc, lines, number)?))
+        }
+        None => Ok(None),
+    }
+}
