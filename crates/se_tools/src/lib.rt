@@ -3,6 +3,8 @@
 #![tactic(auto)]
 
 mod answer;
+#[cfg(test)]
+mod edited_tests;
 mod listing;
 #[cfg(test)]
 mod name_tests;
