@@ -6,6 +6,7 @@ use se_tools::run;
 use se_words::Words;
 use std::alloc::AllocError;
 use std::env;
+use std::io::ErrorKind;
 use std::process::ExitCode;
 
 // The exit code where the words find no memory.
@@ -15,9 +16,13 @@ const NO_MEMORY: u8 = 5;
 // that is no text stands for all.
 fn words_of(rt: &HostRuntime) -> Result<Words, AllocError> {
     let mut words = Words::new(rt.alloc());
-    let Ok(args) = env::args(rt) else {
-        words.push_not_text()?;
-        return Ok(words);
+    let args = match env::args(rt) {
+        Ok(args) => args,
+        Err(error) if error.kind() == ErrorKind::OutOfMemory => return Err(AllocError),
+        Err(_) => {
+            words.push_not_text()?;
+            return Ok(words);
+        }
     };
     for word in args.skip(1) {
         words.push(word.as_str())?;
