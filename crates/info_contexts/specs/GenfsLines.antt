@@ -7,9 +7,9 @@ use Rattle.pol_mls.specs.MlsTexts.{name_of}
 use Rattle.pol_symbols.specs.declared.symbols.Symbols.{Symbols}
 use Rattle.pol_symbols.specs.PolicySymbols.{name_in}
 use Rattle.pol_texts.specs.NameTexts.{name_text}
-use Rattle.pol_contexts.specs.ContextText.{context_text}
-use Rattle.pol_contexts.specs.declared.genfs_rec.GenfsPathRec.{GenfsPathRec}
-use Rattle.pol_contexts.specs.declared.genfs_rec.GenfsRec.{GenfsRec}
+use Rattle.pol_context.specs.ContextText.{context_text}
+use Rattle.pol_genfs.specs.declared.genfs_rec.GenfsPathRec.{GenfsPathRec}
+use Rattle.pol_genfs.specs.declared.genfs_rec.GenfsRec.{GenfsRec}
 use Rattle.info_contexts.specs.NamedEntries.{of_name}
 
 -- a path of a file system, with the file system's name

@@ -3,7 +3,8 @@ ghost use Rattle.std.specs.Prelude.{◌≡◌, ◌++◌, IfOk, OnOk};
 ghost use Rattle.info_contexts.specs.GenfsLines.{entries_of, entries_in};
 
 use crate::entry_names::EntryNames;
-use pol_contexts::{ContextView, GenfsList, GenfsPathView, GenfsView};
+use pol_context::ContextView;
+use pol_genfs::{GenfsList, GenfsPathView, GenfsView};
 use std::alloc::{AllocError, Global};
 use std::marker::Model;
 

@@ -5,7 +5,8 @@ ghost use Rattle.info_summary.specs.Counts.{path_count, node_count};
 ghost use Rattle.info_summary.specs.Summary.{context_lines};
 
 use crate::entry::{Entry, count};
-use pol_contexts::{Contexts, GenfsList};
+use pol_contexts::Contexts;
+use pol_genfs::GenfsList;
 use pol_read::Policy;
 
 /// The counts of the contexts of objects.

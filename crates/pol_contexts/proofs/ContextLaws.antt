@@ -1,15 +1,12 @@
--- The two laws of contexts and of the records that hold them.
-use Rattle.std.proofs.Common.{ℕ, List, length, append_assoc}
+-- The two laws of the records that hold contexts.
+use Rattle.std.proofs.Common.{ℕ, length, append_assoc}
 use Rattle.std.proofs.lemmas.List.{append-nil}
-use Rattle.pol_cursor.specs.Outcome.{Reader, field}
-use Rattle.pol_cursor.specs.Parts.{spell_counted, CountedFits, records_at}
+use Rattle.pol_cursor.specs.Outcome.{field}
 use Rattle.pol_cursor.specs.Laws.{IsReadAgain, IsReadFromSpelling}
 use Rattle.pol_cursor.specs.FileNames.{name_length_at, name_bytes_at}
-use Rattle.pol_cursor.proofs.Laws.{Reads-done, Reads-part, Reads-number, Reads-number_if, Reads-string, Reads-string_if, Again-done, Again-part, Again-as, Again-number, Again-number_if, Again-string-of, Again-string_if, records_spelled, records_again, counted_spelled, counted_again}
+use Rattle.pol_cursor.proofs.Laws.{Reads-done, Reads-part, Reads-number, Reads-number_if, Reads-string, Reads-string_if, Again-done, Again-part, Again-as, Again-number, Again-number_if, Again-string-of, Again-string_if}
 use Rattle.pol_cursor.proofs.NameLaws.{name_spelled, name_again}
-use Rattle.pol_mls.proofs.MlsLaws.{range_spelled, range_again}
-use Rattle.pol_contexts.specs.EntryLists.{entries_at}
-use Rattle.pol_contexts.specs.ContextRecord.{context_at, spell_context, ContextFits}
+use Rattle.pol_context.proofs.ContextLaws.{context_spelled, context_again}
 use Rattle.pol_contexts.specs.SidRecord.{sid_at, spell_sid, SidFits}
 use Rattle.pol_contexts.specs.NamedRecord.{named_at, spell_named, NamedFits}
 use Rattle.pol_contexts.specs.PortRecord.{port_at, spell_port, PortFits}
@@ -17,31 +14,6 @@ use Rattle.pol_contexts.specs.AddressRecord.{address_at, spell_address, AddressF
 use Rattle.pol_contexts.specs.FsUseRecord.{behaviour_at, fsuse_at, spell_fsuse, FsUseFits}
 use Rattle.pol_contexts.specs.IbPkeyRecord.{ibpkey_at, spell_ibpkey, IbPkeyFits}
 use Rattle.pol_contexts.specs.IbEndPortRecord.{ibendport_at, spell_ibendport, IbEndPortFits}
-
--- ---- contexts
-
-pub context_spelled : IsReadFromSpelling context_at spell_context ContextFits
-unfolding context_at
-context_spelled =
-    Reads-part (Reads-number (field 24 1) 4) λ user user-fits.
-    Reads-part (Reads-number (field 24 2) 4) λ role role-fits.
-    Reads-part (Reads-number (field 24 3) 4) λ type_value type_value-fits.
-    Reads-part range_spelled λ range range-fits.
-    Reads-done _ (record { user = user; role = role; type_value = type_value; range = range }) (record {
-      same = simp (append_assoc, append-nil);
-      fitting = record { user = user-fits; role = role-fits; type_value = type_value-fits; range = range-fits };
-    })
-
-pub context_again : IsReadAgain context_at spell_context ContextFits
-unfolding context_at
-context_again context fits =
-    Again-as
-    (Again-part _ (Again-number (field 24 1) 4 context.user fits.user)
-    (Again-part _ (Again-number (field 24 2) 4 context.role fits.role)
-    (Again-part _ (Again-number (field 24 3) 4 context.type_value fits.type_value)
-    (Again-part _ (range_again context.range fits.range)
-    (Again-done context)))))
-    (simp (append_assoc, append-nil))
 
 -- ---- sid
 
@@ -207,11 +179,3 @@ ibendport_again entry fits =
     (Again-part _ (context_again entry.context fits.context)
     (Again-done entry)))))
     (simp (append_assoc, append-nil))
-
--- ---- lists of entries behind their count
-
-pub entries_spelled : {A : Type 0} (row : ℕ) (entry_at : Reader A) (spell : A → List ℕ) (fits : A → Type 0) → IsReadFromSpelling entry_at spell fits → IsReadFromSpelling (entries_at row entry_at) (spell_counted spell) (CountedFits fits)
-entries_spelled row entry_at spell fits each = counted_spelled (field row 1) (records_at entry_at) spell fits (records_spelled entry_at spell fits each)
-
-pub entries_again : {A : Type 0} (row : ℕ) (entry_at : Reader A) (spell : A → List ℕ) (fits : A → Type 0) → IsReadAgain entry_at spell fits → IsReadAgain (entries_at row entry_at) (spell_counted spell) (CountedFits fits)
-entries_again row entry_at spell fits each = counted_again (field row 1) (records_at entry_at) spell fits (records_again entry_at spell fits each)

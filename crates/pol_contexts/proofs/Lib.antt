@@ -1,3 +1,1 @@
 pub mod ContextLaws
-pub mod Places
-pub mod GenfsLaws

@@ -3,7 +3,7 @@ use Rattle.std.specs.Prelude.{ℕ, ◌+◌, ◌≡◌, List, ◌++◌, length, t
 use Rattle.pol_cursor.specs.Outcome.{Reader, field, ◌>>=◌, done}
 use Rattle.pol_cursor.specs.Parts.{string}
 use Rattle.pol_cursor.specs.References.{Placed, Reference}
-use Rattle.pol_contexts.specs.ContextRecord.{context_at, spell_context, ContextFits, context_in, HasContext, context_references}
+use Rattle.pol_context.specs.ContextRecord.{context_at, spell_context, ContextFits, context_in, HasContext, context_references}
 use Rattle.pol_contexts.specs.declared.address_rec.AddressRec.{AddressRec}
 
 -- ---- reading and spelling

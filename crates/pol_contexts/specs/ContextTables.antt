@@ -1,8 +1,7 @@
 -- Records 25 to 33: the tables that hold contexts (libsepol's ocontext_read_selinux).
 use Rattle.std.specs.Prelude.{ℕ, Bool, true, false, List, [], nat_le}
-use Rattle.pol_cursor.specs.Outcome.{Reader, field, ◌>>=◌, done}
-use Rattle.pol_cursor.specs.Parts.{counted, records_at}
-use Rattle.pol_cursor.specs.References.{Placed, placed}
+use Rattle.pol_cursor.specs.Outcome.{Reader, ◌>>=◌, done}
+use Rattle.pol_context.specs.EntryLists.{table_at}
 use Rattle.pol_contexts.specs.SidRecord.{sid_at}
 use Rattle.pol_contexts.specs.NamedRecord.{named_at}
 use Rattle.pol_contexts.specs.PortRecord.{port_at}
@@ -11,10 +10,6 @@ use Rattle.pol_contexts.specs.FsUseRecord.{fsuse_at}
 use Rattle.pol_contexts.specs.IbPkeyRecord.{ibpkey_at}
 use Rattle.pol_contexts.specs.IbEndPortRecord.{ibendport_at}
 use Rattle.pol_contexts.specs.declared.tables.Contexts.{Contexts}
-
--- the table of that code: a count and its entries, each with its place
-unfoldable pub table_at : {A : Type 0} → ℕ → Reader A → Reader (List (Placed A))
-table_at row entry_at = counted (field row 1) (records_at (placed entry_at))
 
 -- a table that is there or is empty
 unfoldable pub table_if : {A : Type 0} → Bool → Reader (List A) → Reader (List A)

@@ -1,4 +1,3 @@
-pub mod ContextRecord
 pub mod SidRecord
 pub mod NamedRecord
 pub mod PortRecord
@@ -7,7 +6,3 @@ pub mod FsUseRecord
 pub mod IbPkeyRecord
 pub mod IbEndPortRecord
 pub mod ContextTables
-pub mod EntryLists
-pub mod ContextText
-pub mod InnerPlaces
-pub mod GenfsRecord

@@ -2,7 +2,7 @@ ghost use Rattle.std.specs.Prelude.{◌≡◌, ◌++◌, OnOk};
 ghost use Rattle.pol_contexts.specs.AddressRecord.{spell_address};
 
 use crate::address_rec::AddressRec;
-use crate::context_write::write_context;
+use pol_context::write_context;
 use std::alloc::AllocError;
 
 /// Appends the bytes of an entry of the addresses, which are the same in each version.

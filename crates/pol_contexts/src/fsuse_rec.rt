@@ -1,4 +1,4 @@
-use crate::context_rec::ContextRec;
+use pol_context::ContextRec;
 use pol_cursor::ByteList;
 
 /// How the files of a file system get their contexts, owned.

@@ -5,9 +5,8 @@ ghost use Rattle.pol_cursor.specs.Parts.{num};
 ghost use Rattle.pol_contexts.specs.FsUseRecord.{fsuse_at, fsuse_in, HasFsUse, fsuse_references, behaviour_at};
 
 use crate::causes::behaviour_cause;
-use crate::context_view::{ContextView, read_context};
 use crate::fsuse_rec::FsUseRec;
-use crate::parts::{name_end, name_standing, owned};
+use pol_context::{ContextView, name_end, name_standing, owned, read_context};
 use pol_cursor::{
     Cursor, Fault, Field, Names, ReadAlone, Record, RecordView, read_name, refuse, u32_in,
 };
@@ -49,7 +48,7 @@ impl<'a> FsUseView<'a> {
     }
 
     /// Its context.
-    #[tactic(auto, using(crate::proofs::Places::length_part, crate::proofs::Places::context_ends))]
+    #[tactic(auto, using(pol_context::proofs::Places::length_part, pol_context::proofs::Places::context_ends))]
     pub fn context(&self) -> ContextView<'a>
         ensures { result ≡ record { place = self.now.place + 8 + length self.now.value.name; value = self.now.value.context } }
     {

@@ -1,8 +1,8 @@
 ghost use Rattle.std.specs.Prelude.{◌≡◌, ◌++◌, OnOk};
 ghost use Rattle.pol_contexts.specs.FsUseRecord.{spell_fsuse};
 
-use crate::context_write::write_context;
 use crate::fsuse_rec::FsUseRec;
+use pol_context::write_context;
 use pol_cursor::{push_number, write_name};
 use std::alloc::AllocError;
 

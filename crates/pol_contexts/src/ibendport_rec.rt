@@ -1,4 +1,4 @@
-use crate::context_rec::ContextRec;
+use pol_context::ContextRec;
 use pol_cursor::ByteList;
 
 /// The context of an InfiniBand device at a port, owned.

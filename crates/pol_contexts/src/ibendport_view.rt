@@ -4,9 +4,8 @@ ghost use Rattle.pol_cursor.specs.References.{dangling_of};
 ghost use Rattle.pol_cursor.specs.Parts.{num, number};
 ghost use Rattle.pol_contexts.specs.IbEndPortRecord.{ibendport_at, ibendport_in, HasIbEndPort, ibendport_references};
 
-use crate::context_view::{ContextView, read_context};
 use crate::ibendport_rec::IbEndPortRec;
-use crate::parts::owned;
+use pol_context::{ContextView, owned, read_context};
 use pol_cursor::{
     Cursor, Fault, Field, Names, ReadAlone, Record, RecordView, read_name_bytes, read_name_length,
     string_in, u32_in,
@@ -50,7 +49,7 @@ impl<'a> IbEndPortView<'a> {
     }
 
     /// Its context.
-    #[tactic(auto, using(crate::proofs::Places::length_part, crate::proofs::Places::context_ends))]
+    #[tactic(auto, using(pol_context::proofs::Places::length_part, pol_context::proofs::Places::context_ends))]
     pub fn context(&self) -> ContextView<'a>
         ensures { result ≡ record { place = self.now.place + 8 + length self.now.value.name; value = self.now.value.context } }
     {

@@ -1,8 +1,8 @@
 ghost use Rattle.std.specs.Prelude.{◌≡◌, ◌++◌, OnOk};
 ghost use Rattle.pol_contexts.specs.IbEndPortRecord.{spell_ibendport};
 
-use crate::context_write::write_context;
 use crate::ibendport_rec::IbEndPortRec;
+use pol_context::write_context;
 use pol_cursor::push_number;
 use std::alloc::AllocError;
 

@@ -1,8 +1,8 @@
 ghost use Rattle.std.specs.Prelude.{◌≡◌, ◌++◌, OnOk};
 ghost use Rattle.pol_contexts.specs.IbPkeyRecord.{spell_ibpkey};
 
-use crate::context_write::write_context;
 use crate::ibpkey_rec::IbPkeyRec;
+use pol_context::write_context;
 use pol_cursor::push_number;
 use std::alloc::AllocError;
 

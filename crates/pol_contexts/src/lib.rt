@@ -1,20 +1,13 @@
-//! Security contexts, and the tables of a policy that hold them.
+//! The nine tables of a policy that hold contexts.
 #![tactic(auto)]
 
 mod address_rec;
 mod address_view;
 mod address_write;
 mod causes;
-mod context_rec;
-mod context_view;
-mod context_write;
 mod fsuse_rec;
 mod fsuse_view;
 mod fsuse_write;
-mod genfs_path_view;
-mod genfs_rec;
-mod genfs_view;
-mod genfs_write;
 mod ibendport_rec;
 mod ibendport_view;
 mod ibendport_write;
@@ -34,20 +27,12 @@ mod sid_rec;
 mod sid_view;
 mod sid_write;
 mod tables;
-mod texts;
 
 pub use address_rec::AddressRec;
 pub use address_view::AddressView;
-pub use context_rec::ContextRec;
-pub use context_view::{ContextView, read_context};
-pub use context_write::write_context;
 pub use fsuse_rec::FsUseRec;
 pub use fsuse_view::{FsUse, FsUseView, read_fsuse_entry};
 pub use fsuse_write::write_fsuse;
-pub use genfs_path_view::{GenfsPath, GenfsPathView};
-pub use genfs_rec::{GenfsPathRec, GenfsPathRecList, GenfsRec, GenfsRecList};
-pub use genfs_view::{Genfs, GenfsView, read_genfs_entry};
-pub use genfs_write::write_genfs;
 pub use ibendport_rec::IbEndPortRec;
 pub use ibendport_view::{IbEndPort, IbEndPortView, read_ibendport_entry};
 pub use ibendport_write::write_ibendport;
@@ -65,16 +50,14 @@ pub use port_rec::PortRec;
 pub use port_view::{Port, PortView, read_port_entry};
 pub use port_write::write_port;
 pub use record_laws::{
-    behaviours_have_laws, contexts_have_laws, device_ports_have_laws, file_systems_have_laws,
-    genfs_have_laws, interfaces_have_laws, nodes_have_laws, nodes6_have_laws,
-    partition_keys_have_laws, ports_have_laws, sids_have_laws,
+    behaviours_have_laws, device_ports_have_laws, file_systems_have_laws, interfaces_have_laws,
+    nodes_have_laws, nodes6_have_laws, partition_keys_have_laws, ports_have_laws, sids_have_laws,
 };
 pub use sid_rec::SidRec;
 pub use sid_view::{Sid, SidView, read_sid_entry};
 pub use sid_write::write_sid;
 pub use tables::{
-    Contexts, FsList, FsRecList, FsUseList, FsUseRecList, GenfsList, IbEndPortList,
-    IbEndPortRecList, IbPkeyList, IbPkeyRecList, NetifList, NetifRecList, Node6List, Node6RecList,
-    NodeList, NodeRecList, PortList, PortRecList, SidList, SidRecList, read_contexts, read_genfs,
+    Contexts, FsList, FsRecList, FsUseList, FsUseRecList, IbEndPortList, IbEndPortRecList,
+    IbPkeyList, IbPkeyRecList, NetifList, NetifRecList, Node6List, Node6RecList, NodeList,
+    NodeRecList, PortList, PortRecList, SidList, SidRecList, read_contexts,
 };
-pub use texts::context_text;

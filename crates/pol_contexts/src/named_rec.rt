@@ -1,4 +1,4 @@
-use crate::context_rec::ContextRec;
+use pol_context::ContextRec;
 use pol_cursor::ByteList;
 
 /// The contexts of a file system or a network interface, owned.

@@ -1,8 +1,8 @@
 ghost use Rattle.std.specs.Prelude.{◌≡◌, ◌++◌, OnOk};
 ghost use Rattle.pol_contexts.specs.NamedRecord.{spell_named};
 
-use crate::context_write::write_context;
 use crate::named_rec::NamedRec;
+use pol_context::write_context;
 use pol_cursor::write_name;
 use std::alloc::AllocError;
 

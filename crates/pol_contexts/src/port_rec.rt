@@ -1,4 +1,4 @@
-use crate::context_rec::ContextRec;
+use pol_context::ContextRec;
 
 /// The context of a range of ports, owned.
 #[derive(Drop)]

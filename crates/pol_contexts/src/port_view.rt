@@ -3,8 +3,8 @@ ghost use Rattle.pol_cursor.specs.Outcome.{Answers};
 ghost use Rattle.pol_cursor.specs.References.{dangling_of};
 ghost use Rattle.pol_contexts.specs.PortRecord.{port_at, port_in, HasPort, port_references};
 
-use crate::context_view::{ContextView, read_context};
 use crate::port_rec::PortRec;
+use pol_context::{ContextView, read_context};
 use pol_cursor::{Cursor, Fault, Field, Names, ReadAlone, Record, RecordView, u32_in};
 use std::alloc::{AllocError, Global};
 use std::marker::Model;

@@ -1,8 +1,7 @@
 // The two laws of records and of their lists, each claimed by a function that does nothing.
 ghost use Rattle.pol_cursor.specs.Laws.{IsReadAgain, IsReadFromSpelling};
 ghost use Rattle.pol_cursor.specs.Parts.{spell_counted, CountedFits};
-ghost use Rattle.pol_contexts.specs.EntryLists.{entries_at};
-ghost use Rattle.pol_contexts.specs.ContextRecord.{context_at, spell_context, ContextFits};
+ghost use Rattle.pol_context.specs.EntryLists.{entries_at};
 ghost use Rattle.pol_contexts.specs.SidRecord.{sid_at, spell_sid, SidFits};
 ghost use Rattle.pol_contexts.specs.NamedRecord.{named_at, spell_named, NamedFits};
 ghost use Rattle.pol_contexts.specs.PortRecord.{port_at, spell_port, PortFits};
@@ -10,16 +9,9 @@ ghost use Rattle.pol_contexts.specs.AddressRecord.{address_at, spell_address, Ad
 ghost use Rattle.pol_contexts.specs.FsUseRecord.{fsuse_at, spell_fsuse, FsUseFits};
 ghost use Rattle.pol_contexts.specs.IbPkeyRecord.{ibpkey_at, spell_ibpkey, IbPkeyFits};
 ghost use Rattle.pol_contexts.specs.IbEndPortRecord.{ibendport_at, spell_ibendport, IbEndPortFits};
-ghost use Rattle.pol_contexts.specs.GenfsRecord.{genfs_at, spell_genfs, GenfsFits};
 
-/// A context that is spelled and accepted is read again, and one that was read is spelled by the bytes that it was
-/// read from.
-pub fn contexts_have_laws()
-    ensures again { IsReadAgain context_at spell_context ContextFits }
-    ensures spelled { IsReadFromSpelling context_at spell_context ContextFits }
-{}
-
-/// The same of the entry of an initial SID, and of the list of such entries.
+/// The entry of an initial SID that is spelled and accepted is read again, and one that was read is spelled by the bytes
+/// that it was read from. So it is with the list of such entries.
 pub fn sids_have_laws()
     ensures again { IsReadAgain sid_at spell_sid SidFits }
     ensures spelled { IsReadFromSpelling sid_at spell_sid SidFits }
@@ -89,12 +81,4 @@ pub fn device_ports_have_laws()
     ensures spelled { IsReadFromSpelling ibendport_at spell_ibendport IbEndPortFits }
     ensures list_again { IsReadAgain (entries_at 33 ibendport_at) (spell_counted spell_ibendport) (CountedFits IbEndPortFits) }
     ensures list_spelled { IsReadFromSpelling (entries_at 33 ibendport_at) (spell_counted spell_ibendport) (CountedFits IbEndPortFits) }
-{}
-
-/// The same of a file system of genfs with its paths, and of the list of such file systems.
-pub fn genfs_have_laws()
-    ensures again { IsReadAgain genfs_at spell_genfs GenfsFits }
-    ensures spelled { IsReadFromSpelling genfs_at spell_genfs GenfsFits }
-    ensures list_again { IsReadAgain (entries_at 34 genfs_at) (spell_counted spell_genfs) (CountedFits GenfsFits) }
-    ensures list_spelled { IsReadFromSpelling (entries_at 34 genfs_at) (spell_counted spell_genfs) (CountedFits GenfsFits) }
 {}

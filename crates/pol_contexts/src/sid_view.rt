@@ -3,8 +3,8 @@ ghost use Rattle.pol_cursor.specs.Outcome.{Answers};
 ghost use Rattle.pol_cursor.specs.References.{dangling_of};
 ghost use Rattle.pol_contexts.specs.SidRecord.{sid_at, sid_in, HasSid, sid_references};
 
-use crate::context_view::{ContextView, read_context};
 use crate::sid_rec::SidRec;
+use pol_context::{ContextView, read_context};
 use pol_cursor::{Cursor, Fault, Field, Names, ReadAlone, Record, RecordView, u32_in};
 use std::alloc::{AllocError, Global};
 use std::marker::Model;

@@ -1,8 +1,8 @@
 ghost use Rattle.std.specs.Prelude.{◌≡◌, ◌++◌, OnOk};
 ghost use Rattle.pol_contexts.specs.SidRecord.{spell_sid};
 
-use crate::context_write::write_context;
 use crate::sid_rec::SidRec;
+use pol_context::write_context;
 use pol_cursor::push_number;
 use std::alloc::AllocError;
 

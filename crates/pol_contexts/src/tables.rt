@@ -1,12 +1,11 @@
 //! The tables that hold contexts.
 
 ghost use Rattle.pol_cursor.specs.Outcome.{Yields};
-ghost use Rattle.pol_contexts.specs.GenfsRecord.{genfs_at};
-ghost use Rattle.pol_contexts.specs.ContextTables.{table_if, table_at, contexts_at};
+ghost use Rattle.pol_context.specs.EntryLists.{table_at};
+ghost use Rattle.pol_contexts.specs.ContextTables.{table_if, contexts_at};
 
 use crate::fsuse_rec::FsUseRec;
 use crate::fsuse_view::FsUse;
-use crate::genfs_view::Genfs;
 use crate::ibendport_rec::IbEndPortRec;
 use crate::ibendport_view::IbEndPort;
 use crate::ibpkey_rec::IbPkeyRec;
@@ -37,8 +36,6 @@ pub type Node6List<'a> = Records<'a, Node6>;
 pub type IbPkeyList<'a> = Records<'a, IbPkey>;
 
 pub type IbEndPortList<'a> = Records<'a, IbEndPort>;
-
-pub type GenfsList<'a> = Records<'a, Genfs>;
 
 // The same lists, owned.
 pub type SidRecList = OwnedList<SidRec>;
@@ -98,19 +95,8 @@ pub fn read_contexts<'a>(
     })
 }
 
-/// Reads the count and the file systems of genfs, which are the same in each version.
-pub fn read_genfs<'a>(
-    alloc: Global,
-    c: &mut Cursor<'a>,
-    _version: u32,
-) -> Result<GenfsList<'a>, ReadError>
-    ensures { Yields (λ list. list) result (table_at 34 genfs_at) c.old c.new }
-{
-    read_table(alloc, c, 34)
-}
-
 // Reads the table of that code.
-#[tactic(auto, unfolding(crate::specs::ContextTables::table_at))]
+#[tactic(auto, unfolding(pol_context::specs::EntryLists::table_at))]
 fn read_table<'a, K: ReadAlone + Drop>(
     alloc: Global,
     c: &mut Cursor<'a>,

@@ -24,7 +24,7 @@ use Rattle.pol_avtab.specs.XPerms.{xperms_of}
 use Rattle.pol_avtab.specs.AvRecord.{is_extended, extended_at, data_at, part_at, av_at}
 use Rattle.pol_avtab.specs.CondNodeRecord.{condnode_at}
 use Rattle.pol_trans.specs.RangeTransRecord.{range_trans_at}
-use Rattle.pol_contexts.specs.ContextRecord.{context_at}
+use Rattle.pol_context.specs.ContextRecord.{context_at}
 use Rattle.pol_contexts.specs.SidRecord.{sid_at}
 use Rattle.pol_contexts.specs.NamedRecord.{named_at}
 use Rattle.pol_contexts.specs.PortRecord.{port_at}
@@ -32,7 +32,7 @@ use Rattle.pol_contexts.specs.AddressRecord.{address_at}
 use Rattle.pol_contexts.specs.FsUseRecord.{behaviour_at, fsuse_at}
 use Rattle.pol_contexts.specs.IbPkeyRecord.{ibpkey_at}
 use Rattle.pol_contexts.specs.IbEndPortRecord.{ibendport_at}
-use Rattle.pol_contexts.specs.GenfsRecord.{path_at, genfs_at}
+use Rattle.pol_genfs.specs.GenfsRecord.{path_at, genfs_at}
 use Rattle.pol_laws.specs.RecordShapes.{shape_of_range, shape_of_item, shape_of_constraint, shape_of_class, shape_of_user, shape_of_av, shape_of_condnode, shape_of_range_trans, shape_of_context, shape_of_sid, shape_of_named, shape_of_port, shape_of_address, shape_of_fsuse, shape_of_ibpkey, shape_of_ibendport, shape_of_path, shape_of_genfs}
 use Rattle.pol_laws.proofs.ReadValues.{Gives, gives-done, gives-part, gives-others, gives-optional}
 use Rattle.pol_laws.proofs.ShapedParts.{IsShaped, part_shaped, none-first, none-last, shaped-list_of, shaped-records_at, shaped-counted}

@@ -12,7 +12,7 @@ use Rattle.pol_avtab.specs.declared.CondNodeRec.{CondNodeRec}
 use Rattle.pol_avtab.specs.AvRecord.{is_extended}
 use Rattle.pol_avtab.specs.XPerms.{xperms_of}
 use Rattle.pol_trans.specs.declared.RangeTransRec.{RangeTransRec}
-use Rattle.pol_contexts.specs.declared.ContextRec.{ContextRec}
+use Rattle.pol_context.specs.declared.ContextRec.{ContextRec}
 use Rattle.pol_contexts.specs.declared.SidRec.{SidRec}
 use Rattle.pol_contexts.specs.declared.NamedRec.{NamedRec}
 use Rattle.pol_contexts.specs.declared.PortRec.{PortRec}
@@ -20,8 +20,8 @@ use Rattle.pol_contexts.specs.declared.AddressRec.{AddressRec}
 use Rattle.pol_contexts.specs.declared.FsUseRec.{FsUseRec}
 use Rattle.pol_contexts.specs.declared.IbPkeyRec.{IbPkeyRec}
 use Rattle.pol_contexts.specs.declared.IbEndPortRec.{IbEndPortRec}
-use Rattle.pol_contexts.specs.declared.GenfsPathRec.{GenfsPathRec}
-use Rattle.pol_contexts.specs.declared.GenfsRec.{GenfsRec}
+use Rattle.pol_genfs.specs.declared.GenfsPathRec.{GenfsPathRec}
+use Rattle.pol_genfs.specs.declared.GenfsRec.{GenfsRec}
 use Rattle.pol_laws.specs.OptionalParts.{shape_of_part, first_of, first_in}
 
 -- a range has a high level exactly where its number of levels is 2 (libsepol's mls_read_range_helper)

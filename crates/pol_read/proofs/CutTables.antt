@@ -17,7 +17,7 @@ use Rattle.pol_trans.specs.RangeTransRecord.{range_trans_at}
 use Rattle.pol_trans.specs.NameTransRecord.{name_trans_at}
 use Rattle.pol_trans.specs.NameGroupRecord.{name_datum_at, name_group_at}
 use Rattle.pol_trans.specs.NameTransitions.{entries_at, groups_at, name_transitions_at}
-use Rattle.pol_contexts.specs.ContextRecord.{context_at}
+use Rattle.pol_context.specs.ContextRecord.{context_at}
 use Rattle.pol_contexts.specs.SidRecord.{sid_at}
 use Rattle.pol_contexts.specs.NamedRecord.{named_at}
 use Rattle.pol_contexts.specs.PortRecord.{port_at}
@@ -25,8 +25,9 @@ use Rattle.pol_contexts.specs.AddressRecord.{address_at}
 use Rattle.pol_contexts.specs.FsUseRecord.{behaviour_at, fsuse_at}
 use Rattle.pol_contexts.specs.IbPkeyRecord.{ibpkey_at}
 use Rattle.pol_contexts.specs.IbEndPortRecord.{ibendport_at}
-use Rattle.pol_contexts.specs.ContextTables.{table_at as context_table_at, table_if, has_infiniband, contexts_at}
-use Rattle.pol_contexts.specs.GenfsRecord.{path_at, genfs_at}
+use Rattle.pol_context.specs.EntryLists.{table_at as context_table_at}
+use Rattle.pol_contexts.specs.ContextTables.{table_if, has_infiniband, contexts_at}
+use Rattle.pol_genfs.specs.GenfsRecord.{path_at, genfs_at}
 use Rattle.pol_read.proofs.CutParts.{IsLocal, local-done, local-then, local-number, local-string, local-number_if, local-records_after, local-counted, local-placed, local-either, local-name, local-name_length, local-name_bytes}
 use Rattle.pol_read.proofs.CutRecords.{range_local, bitmap_local, condition_local, common_local, class_local, role_local, type_local, user_local, boolean_local, sensitivity_local, category_local}
 

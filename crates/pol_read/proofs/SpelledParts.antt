@@ -46,10 +46,11 @@ use Rattle.pol_contexts.specs.AddressRecord.{address_at, spell_address, AddressF
 use Rattle.pol_contexts.specs.FsUseRecord.{fsuse_at, spell_fsuse, FsUseFits}
 use Rattle.pol_contexts.specs.IbPkeyRecord.{ibpkey_at, spell_ibpkey, IbPkeyFits}
 use Rattle.pol_contexts.specs.IbEndPortRecord.{ibendport_at, spell_ibendport, IbEndPortFits}
-use Rattle.pol_contexts.specs.GenfsRecord.{genfs_at, spell_genfs, GenfsFits}
-use Rattle.pol_contexts.specs.ContextTables.{table_at, has_infiniband, contexts_at}
+use Rattle.pol_genfs.specs.GenfsRecord.{genfs_at, spell_genfs, GenfsFits}
+use Rattle.pol_context.specs.EntryLists.{table_at}
+use Rattle.pol_contexts.specs.ContextTables.{has_infiniband, contexts_at}
 use Rattle.pol_contexts.proofs.ContextLaws.{sid_spelled, named_spelled, port_spelled, address_spelled, fsuse_spelled, ibpkey_spelled, ibendport_spelled}
-use Rattle.pol_contexts.proofs.GenfsLaws.{genfs_spelled}
+use Rattle.pol_genfs.proofs.GenfsLaws.{genfs_spelled}
 use Rattle.pol_read.specs.PolicyParts.{front_at, rule_lists_at, label_lists_at}
 use Rattle.pol_read.specs.TypeMapRows.{type_map_at}
 use Rattle.pol_read.specs.PolicySpelling.{spell_list, spell_symbol_table, spell_front, spell_symbols, spell_name_transitions, spell_rule_lists, spell_contexts, spell_label_lists}

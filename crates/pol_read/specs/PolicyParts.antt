@@ -11,8 +11,9 @@ use Rattle.pol_trans.specs.RoleTransRecord.{role_trans_at}
 use Rattle.pol_trans.specs.RoleAllowRecord.{role_allow_at}
 use Rattle.pol_trans.specs.RangeTransRecord.{range_trans_at}
 use Rattle.pol_trans.specs.NameTransitions.{name_transitions_at}
-use Rattle.pol_contexts.specs.ContextTables.{contexts_at, table_at}
-use Rattle.pol_contexts.specs.GenfsRecord.{genfs_at}
+use Rattle.pol_context.specs.EntryLists.{table_at}
+use Rattle.pol_contexts.specs.ContextTables.{contexts_at}
+use Rattle.pol_genfs.specs.GenfsRecord.{genfs_at}
 use Rattle.pol_read.specs.TypeMapRows.{type_map_at}
 use Rattle.pol_read.specs.declared.parts.Front.{Front}
 use Rattle.pol_read.specs.declared.parts.RuleLists.{RuleLists}

@@ -24,7 +24,7 @@ use Rattle.pol_contexts.specs.AddressRecord.{address_references}
 use Rattle.pol_contexts.specs.FsUseRecord.{fsuse_references}
 use Rattle.pol_contexts.specs.IbPkeyRecord.{ibpkey_references}
 use Rattle.pol_contexts.specs.IbEndPortRecord.{ibendport_references}
-use Rattle.pol_contexts.specs.GenfsRecord.{genfs_references}
+use Rattle.pol_genfs.specs.GenfsRecord.{genfs_references}
 use Rattle.pol_contexts.specs.declared.tables.Contexts.{Contexts}
 use Rattle.pol_read.specs.declared.parts.RuleLists.{RuleLists}
 use Rattle.pol_read.specs.declared.parts.LabelLists.{LabelLists}

@@ -31,7 +31,7 @@ use Rattle.pol_contexts.specs.AddressRecord.{spell_address}
 use Rattle.pol_contexts.specs.FsUseRecord.{spell_fsuse}
 use Rattle.pol_contexts.specs.IbPkeyRecord.{spell_ibpkey}
 use Rattle.pol_contexts.specs.IbEndPortRecord.{spell_ibendport}
-use Rattle.pol_contexts.specs.GenfsRecord.{spell_genfs}
+use Rattle.pol_genfs.specs.GenfsRecord.{spell_genfs}
 use Rattle.pol_contexts.specs.ContextTables.{has_infiniband}
 use Rattle.pol_contexts.specs.declared.tables.Contexts.{Contexts}
 use Rattle.pol_read.specs.declared.parts.Front.{Front}

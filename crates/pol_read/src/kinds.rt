@@ -1,9 +1,10 @@
 // The kinds of records that have references.
 use crate::referring::Referring;
 use pol_avtab::Av;
-use pol_contexts::{Fs, FsUse, Genfs, IbEndPort, IbPkey, Netif, Node, Node6, Port, Sid};
+use pol_contexts::{Fs, FsUse, IbEndPort, IbPkey, Netif, Node, Node6, Port, Sid};
 use pol_cursor::{Fault, Names};
 use pol_datums::{Category, Role, Sensitivity, Type};
+use pol_genfs::Genfs;
 use pol_symbols::User;
 use pol_trans::{NameGroupRec, NameTransRec, RangeTransRec, RoleAllowRec, RoleTransRec};
 
@@ -208,7 +209,7 @@ impl<'a> Referring<'a> for IbEndPort {
 }
 
 impl<'a> Referring<'a> for Genfs {
-    ghost use Rattle.pol_contexts.specs.GenfsRecord.{genfs_references};
+    ghost use Rattle.pol_genfs.specs.GenfsRecord.{genfs_references};
 
     ghost references = { genfs_references };
 

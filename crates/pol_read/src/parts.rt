@@ -2,7 +2,8 @@
 use crate::type_map::TypeMap;
 use pol_avtab::{AvTable, Conditionals};
 use pol_bitmap::BitmapView;
-use pol_contexts::{Contexts, GenfsList};
+use pol_contexts::Contexts;
+use pol_genfs::GenfsList;
 use pol_header::HeaderView;
 use pol_symbols::Symbols;
 use pol_trans::{NameTrans, RangeTransList, RoleAllowList, RoleTransList};

@@ -1,7 +1,9 @@
 ghost use Rattle.std.specs.Prelude.{length, ◌≤◌};
 
+use pol_context::*;
 use pol_contexts::*;
 use pol_cursor::{Cursor, Names, ReadError, TableKind};
+use pol_genfs::*;
 use std::alloc::{AllocError, Global};
 use std::test::Fail;
 

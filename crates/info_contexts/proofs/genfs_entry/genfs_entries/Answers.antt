@@ -1,6 +1,6 @@
 use Rattle.std.proofs.Common.{◌∙◌, sym}
 use Rattle.pol_cursor.specs.References.{Placed}
-use Rattle.pol_contexts.specs.declared.genfs_rec.GenfsRec.{GenfsRec}
+use Rattle.pol_genfs.specs.declared.genfs_rec.GenfsRec.{GenfsRec}
 use Rattle.info_contexts.specs.GenfsLines.{entries_of}
 use Rattle.info_contexts.proofs.GenfsEntries.{pieces_more}
 use Rattle.info_contexts.proofs.genfs_entry.genfs_entries.Goals as goal

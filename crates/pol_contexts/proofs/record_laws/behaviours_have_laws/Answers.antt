@@ -1,5 +1,6 @@
+use Rattle.pol_context.proofs.ContextLaws.{entries_spelled, entries_again}
 use Rattle.pol_contexts.specs.FsUseRecord.{fsuse_at, spell_fsuse, FsUseFits}
-use Rattle.pol_contexts.proofs.ContextLaws.{fsuse_spelled, fsuse_again, entries_spelled, entries_again}
+use Rattle.pol_contexts.proofs.ContextLaws.{fsuse_spelled, fsuse_again}
 use Rattle.pol_contexts.proofs.record_laws.behaviours_have_laws.Goals as goal
 
 pub returns-clause-again : goal.returns-clause-again

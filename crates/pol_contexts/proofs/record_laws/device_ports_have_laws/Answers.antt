@@ -1,5 +1,6 @@
+use Rattle.pol_context.proofs.ContextLaws.{entries_spelled, entries_again}
 use Rattle.pol_contexts.specs.IbEndPortRecord.{ibendport_at, spell_ibendport, IbEndPortFits}
-use Rattle.pol_contexts.proofs.ContextLaws.{ibendport_spelled, ibendport_again, entries_spelled, entries_again}
+use Rattle.pol_contexts.proofs.ContextLaws.{ibendport_spelled, ibendport_again}
 use Rattle.pol_contexts.proofs.record_laws.device_ports_have_laws.Goals as goal
 
 pub returns-clause-again : goal.returns-clause-again

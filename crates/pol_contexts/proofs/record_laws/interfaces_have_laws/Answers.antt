@@ -1,5 +1,6 @@
+use Rattle.pol_context.proofs.ContextLaws.{entries_spelled, entries_again}
 use Rattle.pol_contexts.specs.NamedRecord.{named_at, spell_named, NamedFits}
-use Rattle.pol_contexts.proofs.ContextLaws.{named_spelled, named_again, entries_spelled, entries_again}
+use Rattle.pol_contexts.proofs.ContextLaws.{named_spelled, named_again}
 use Rattle.pol_contexts.proofs.record_laws.interfaces_have_laws.Goals as goal
 
 pub returns-clause-again : goal.returns-clause-again

@@ -1,5 +1,6 @@
+use Rattle.pol_context.proofs.ContextLaws.{entries_spelled, entries_again}
 use Rattle.pol_contexts.specs.AddressRecord.{address_at, spell_address, AddressFits}
-use Rattle.pol_contexts.proofs.ContextLaws.{address_spelled, address_again, entries_spelled, entries_again}
+use Rattle.pol_contexts.proofs.ContextLaws.{address_spelled, address_again}
 use Rattle.pol_contexts.proofs.record_laws.nodes6_have_laws.Goals as goal
 
 pub returns-clause-again : goal.returns-clause-again

@@ -1,5 +1,6 @@
+use Rattle.pol_context.proofs.ContextLaws.{entries_spelled, entries_again}
 use Rattle.pol_contexts.specs.IbPkeyRecord.{ibpkey_at, spell_ibpkey, IbPkeyFits}
-use Rattle.pol_contexts.proofs.ContextLaws.{ibpkey_spelled, ibpkey_again, entries_spelled, entries_again}
+use Rattle.pol_contexts.proofs.ContextLaws.{ibpkey_spelled, ibpkey_again}
 use Rattle.pol_contexts.proofs.record_laws.partition_keys_have_laws.Goals as goal
 
 pub returns-clause-again : goal.returns-clause-again

@@ -1,5 +1,6 @@
+use Rattle.pol_context.proofs.ContextLaws.{entries_spelled, entries_again}
 use Rattle.pol_contexts.specs.PortRecord.{port_at, spell_port, PortFits}
-use Rattle.pol_contexts.proofs.ContextLaws.{port_spelled, port_again, entries_spelled, entries_again}
+use Rattle.pol_contexts.proofs.ContextLaws.{port_spelled, port_again}
 use Rattle.pol_contexts.proofs.record_laws.ports_have_laws.Goals as goal
 
 pub returns-clause-again : goal.returns-clause-again

@@ -1,5 +1,6 @@
+use Rattle.pol_context.proofs.ContextLaws.{entries_spelled, entries_again}
 use Rattle.pol_contexts.specs.SidRecord.{sid_at, spell_sid, SidFits}
-use Rattle.pol_contexts.proofs.ContextLaws.{sid_spelled, sid_again, entries_spelled, entries_again}
+use Rattle.pol_contexts.proofs.ContextLaws.{sid_spelled, sid_again}
 use Rattle.pol_contexts.proofs.record_laws.sids_have_laws.Goals as goal
 
 pub returns-clause-again : goal.returns-clause-again

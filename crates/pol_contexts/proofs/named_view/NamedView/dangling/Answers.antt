@@ -1,9 +1,9 @@
 use Rattle.std.proofs.Common.{◌≡◌, Some, sym, subst}
 use Rattle.pol_cursor.specs.References.{Placed, dangling_of}
-use Rattle.pol_contexts.specs.declared.context_rec.ContextRec.{ContextRec}
-use Rattle.pol_contexts.specs.ContextRecord.{context_references}
+use Rattle.pol_context.specs.declared.context_rec.ContextRec.{ContextRec}
+use Rattle.pol_context.specs.ContextRecord.{context_references}
 use Rattle.pol_contexts.specs.NamedRecord.{context_place, second_place}
-use Rattle.pol_contexts.proofs.Places.{dangling_some}
+use Rattle.pol_context.proofs.Places.{dangling_some}
 use Rattle.pol_contexts.proofs.named_view.NamedView.dangling.Goals as goal
 
 pub returns-in-Some : goal.returns-in-Some

@@ -1,0 +1,11 @@
+-- The text of a context, as SETools prints it.
+use Rattle.std.specs.Prelude.{ℕ, List, ◌++◌, codes}
+use Rattle.pol_cursor.specs.declared.table_kind.TableKind.TheVariants.{Users, Roles, Types}
+use Rattle.pol_cursor.specs.References.{Named}
+use Rattle.pol_mls.specs.MlsTexts.{name_of, range_text}
+use Rattle.pol_context.specs.declared.context_rec.ContextRec.{ContextRec}
+
+-- USER:ROLE:TYPE:RANGE
+abbrev pub context_text : Named → ContextRec → List ℕ
+context_text named context =
+    name_of named Users context.user ++ codes ":" ++ name_of named Roles context.role ++ codes ":" ++ name_of named Types context.type_value ++ codes ":" ++ range_text named context.range

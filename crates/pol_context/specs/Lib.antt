@@ -1,0 +1,3 @@
+pub mod ContextRecord
+pub mod ContextText
+pub mod EntryLists

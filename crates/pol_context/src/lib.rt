@@ -1,0 +1,16 @@
+//! One security context, its text, and what the tables that hold contexts share.
+#![tactic(auto)]
+
+mod context_rec;
+mod context_view;
+mod context_write;
+mod parts;
+mod record_laws;
+mod texts;
+
+pub use context_rec::ContextRec;
+pub use context_view::{ContextView, read_context};
+pub use context_write::write_context;
+pub use parts::{context_end, name_end, name_standing, owned};
+pub use record_laws::contexts_have_laws;
+pub use texts::context_text;

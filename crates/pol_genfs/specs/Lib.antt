@@ -1,0 +1,2 @@
+pub mod InnerPlaces
+pub mod GenfsRecord

@@ -1,0 +1,172 @@
+ghost use Rattle.std.specs.Prelude.{◌≡◌, ◌<◌, IfOk, Some, option_map, slice_get, length};
+ghost use Rattle.std.specs.List.{flat_map};
+ghost use Rattle.pol_cursor.specs.Outcome.{Answers};
+ghost use Rattle.pol_cursor.specs.References.{dangling_of, values_of};
+ghost use Rattle.pol_genfs.specs.GenfsRecord.{genfs_at, genfs_in, HasGenfs, paths_of, context_of_path, path_references, genfs_references};
+
+use crate::genfs_path_view::GenfsPath;
+use crate::genfs_rec::{GenfsPathRec, GenfsPathRecList, GenfsRec};
+use pol_context::{ContextView, name_end, name_standing, owned};
+use pol_cursor::{
+    Cursor, Fault, Field, Names, ReadAlone, Record, RecordView, Run, read_name, read_run, u32_in,
+};
+use std::alloc::{AllocError, Global};
+use std::marker::Model;
+
+/// A file system that has no labels of its own, with the contexts of its files, in the buffer.
+#[derive(Drop)]
+pub struct GenfsView<'a> {
+    bytes: &'a [u8],
+    place: u32,
+}
+
+impl<'a> Model for GenfsView<'a> {
+    ghost use Rattle.pol_cursor.specs.References.{Placed};
+    ghost use Rattle.pol_genfs.specs.declared.genfs_rec.GenfsRec.{GenfsRec};
+    ghost use Rattle.pol_genfs.specs.GenfsRecord.{genfs_in, HasGenfs};
+
+    ghost Value = { Placed GenfsRec };
+
+    ghost view = { λ v. record { place = v.place; value = genfs_in v.bytes.now v.place } };
+
+    ghost invariant = { λ v. HasGenfs v.bytes.now v.place };
+}
+
+impl<'a> GenfsView<'a> {
+    /// The name of the file system.
+    pub fn fstype(&self) -> &'a [u8]
+        ensures { result.now ≡ self.now.value.fstype }
+    {
+        name_standing(self.bytes, self.place)
+    }
+
+    /// Its paths, in file order.
+    #[tactic(auto, using(crate::proofs::Places::paths_placed, pol_context::proofs::Places::length_part))]
+    pub fn paths(&self) -> Run<'a, GenfsPath>
+        ensures placed { result ≡ paths_of self.now }
+        ensures values { values_of result ≡ self.now.value.paths }
+    {
+        let place = name_end(self.bytes, self.place);
+        Run::at(self.bytes, place + 4, u32_in(self.bytes, place as usize))
+    }
+
+    /// The number of paths.
+    pub fn npaths(&self) -> u32
+        ensures { result ≡ length self.now.value.paths }
+    {
+        self.paths().len()
+    }
+
+    /// The path of that number, from 0 on. It goes through the paths before.
+    pub fn path(&self, i: u32) -> &'a [u8]
+        requires { i < length self.now.value.paths }
+        ensures { option_map (λ entry. entry.path) (slice_get self.now.value.paths i) ≡ Some result.now }
+    {
+        self.paths().view(i).path()
+    }
+
+    /// The value of the class of the files at the path of that number, and 0 where it is any. It goes through the paths
+    /// before.
+    pub fn class(&self, i: u32) -> u32
+        requires { i < length self.now.value.paths }
+        ensures { option_map (λ entry. entry.class) (slice_get self.now.value.paths i) ≡ Some result }
+    {
+        self.paths().view(i).class()
+    }
+
+    /// The context of the files at the path of that number. It goes through the paths before.
+    pub fn context(&self, i: u32) -> ContextView<'a>
+        requires { i < length self.now.value.paths }
+        ensures { option_map context_of_path (slice_get (paths_of self.now) i) ≡ Some result }
+    {
+        self.paths().view(i).context()
+    }
+
+    /// The first reference, in file order, whose value no primary record declares, as a fault at its field.
+    pub fn dangling<N: Names>(&self, names: &N) -> Option<Fault>
+        ensures { result ≡ dangling_of (N.named names.now) (genfs_references self.now) }
+    {
+        dangling_path(self.paths(), names)
+    }
+
+    /// The same file system, owned.
+    pub fn rec(&self, alloc: Global) -> Result<GenfsRec, AllocError>
+        ensures { IfOk result (λ entry. entry ≡ self.now.value) }
+    {
+        Ok(GenfsRec {
+            fstype: owned(alloc, self.fstype())?,
+            paths: GenfsPathRecList::from_vec(owned_paths(alloc, self.paths())?),
+        })
+    }
+}
+
+// The first reference of paths whose value no primary record declares, as a fault at its field.
+#[tactic(auto, using(pol_context::proofs::Places::dangling_none, pol_context::proofs::Places::dangling_some))]
+fn dangling_path<N: Names>(run: Run<'_, GenfsPath>, names: &N) -> Option<Fault>
+    ensures { result ≡ dangling_of (N.named names.now) (flat_map path_references run.entry) }
+{
+    for path in run {
+        match path.dangling(names) {
+            Some(fault) => return Some(fault),
+            None => {}
+        }
+    }
+    None
+}
+
+// The paths, owned.
+fn owned_paths(alloc: Global, run: Run<'_, GenfsPath>) -> Result<Vec<GenfsPathRec>, AllocError>
+    ensures { IfOk result (λ paths. paths.items ≡ values_of run.entry) }
+{
+    let mut paths = Vec::new(alloc);
+    for path in run {
+        paths.push(path.rec(alloc)?)?;
+    }
+    Ok(paths)
+}
+
+/// The kind of these file systems.
+#[derive(Drop)]
+pub struct Genfs;
+
+impl Record for Genfs {
+    type Owned = GenfsRec;
+
+    ghost standing = { genfs_in };
+
+    ghost has = { HasGenfs };
+}
+
+impl ReadAlone for Genfs {
+    ghost reads = { genfs_at };
+
+    fn pass(c: &mut Cursor<'_>) -> Result<(), Fault> {
+        read_genfs_entry(c)?;
+        Ok(())
+    }
+}
+
+impl<'a> RecordView<'a> for Genfs {
+    type View = GenfsView<'a>;
+
+    ghost shown = { λ v. v };
+
+    fn at(bytes: &'a [u8], place: u32) -> GenfsView<'a> {
+        GenfsView { bytes, place }
+    }
+}
+
+/// The file system at the cursor, which then stands behind it. Takes no memory. `BadName` where a name is empty or has a
+/// byte 0.
+#[tactic(auto, unfolding(crate::specs::GenfsRecord::genfs_at), using(pol_cursor::proofs::Facts::number_is))]
+pub fn read_genfs_entry<'a>(c: &mut Cursor<'a>) -> Result<GenfsView<'a>, Fault>
+    ensures exact { Answers (λ entry. entry.value) result genfs_at c.old c.new }
+    ensures stands { IfOk result (λ entry. HasGenfs c.old.bytes c.old.place × (entry ≡ record { place = c.old.place; value = genfs_in c.old.bytes c.old.place })) }
+{
+    let bytes = c.bytes();
+    let place = c.place();
+    read_name(c, 34, 2)?;
+    let n = c.u32(Field { row: 34, part: 4 })?;
+    read_run::<GenfsPath>(c, n, &())?;
+    Ok(GenfsView { bytes, place })
+}

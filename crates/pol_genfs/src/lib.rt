@@ -1,0 +1,16 @@
+//! The contexts of the files of file systems that have no labels of their own, by their paths (genfs).
+#![tactic(auto)]
+
+mod genfs_list;
+mod genfs_path_view;
+mod genfs_rec;
+mod genfs_view;
+mod genfs_write;
+mod record_laws;
+
+pub use genfs_list::{GenfsList, read_genfs};
+pub use genfs_path_view::{GenfsPath, GenfsPathView};
+pub use genfs_rec::{GenfsPathRec, GenfsPathRecList, GenfsRec, GenfsRecList};
+pub use genfs_view::{Genfs, GenfsView, read_genfs_entry};
+pub use genfs_write::write_genfs;
+pub use record_laws::genfs_have_laws;
