@@ -3,7 +3,7 @@ use Rattle.std.specs.Prelude.{ℕ, ◌++◌, ◌∷◌, [], Option, option_map, 
 use Rattle.std.specs.Option.{option_and_then}
 use Rattle.pol_cursor.specs.declared.TableKind.TheVariants.{Types}
 use Rattle.pol_datums.specs.declared.TypeRec.{TypeRec}
-use Rattle.pol_expr.specs.ConstraintMeaning.{set_text}
+use Rattle.pol_constraints.specs.ConstraintMeaning.{set_text}
 use Rattle.pol_read.specs.declared.parts.Parts.{Parts}
 use Rattle.info_lines.specs.NameSets.{names_of_values}
 use Rattle.info_symbols.specs.declared.type_sets.TypeSet.TheVariants.{Attributes}

@@ -6,15 +6,15 @@ use Rattle.pol_cursor.specs.References.{Named}
 use Rattle.pol_bitmap.specs.Nodes.{bits_of}
 use Rattle.pol_expr.specs.declared.Symbol.{Symbol}
 use Rattle.pol_expr.specs.declared.Symbol.TheVariants as symbols
-use Rattle.pol_expr.specs.declared.Junction.{Junction}
-use Rattle.pol_expr.specs.declared.Junction.TheVariants.{And, Or}
-use Rattle.pol_expr.specs.declared.ConstraintItem.{ConstraintItem}
-use Rattle.pol_expr.specs.declared.NameSet.{NameSet}
+use Rattle.pol_constraints.specs.declared.Junction.{Junction}
+use Rattle.pol_constraints.specs.declared.Junction.TheVariants.{And, Or}
+use Rattle.pol_constraints.specs.declared.ConstraintItem.{ConstraintItem}
+use Rattle.pol_constraints.specs.declared.NameSet.{NameSet}
 use Rattle.pol_expr.specs.Trees.{Leaf, Not, Binary, applied, postorder}
-use Rattle.pol_expr.specs.ConstraintRecord.{constraint_limit, IsExpression}
-use Rattle.pol_expr.specs.ConstraintMeaning.{ConstraintTree, left_word, right_word, side_word, side_table, op_word, names_of, set_text, IsSideText, IsSymbol, AreSymbols, IsConstraintText}
+use Rattle.pol_constraints.specs.ConstraintRecord.{constraint_limit, IsExpression}
+use Rattle.pol_constraints.specs.ConstraintMeaning.{ConstraintTree, left_word, right_word, side_word, side_table, op_word, names_of, set_text, IsSideText, IsSymbol, AreSymbols, IsConstraintText}
 use Rattle.pol_expr.proofs.Stacks.{after, after-postorder, IsMeaning, some_tree}
-use Rattle.pol_expr.proofs.ConstraintTexts.{symbols_postfix}
+use Rattle.pol_constraints.proofs.ConstraintTexts.{symbols_postfix}
 use Rattle.info_lines.proofs.OrderedNames.{in_order_is}
 use Rattle.info_classes.specs.ConstraintTexts.{comparison_text, item_symbol, trees_after, tree_text, constraint_text}
 

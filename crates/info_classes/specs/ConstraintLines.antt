@@ -3,9 +3,9 @@ use Rattle.std.specs.Prelude.{ℕ, ◌-◌, ◌==◌, ◌&&◌, nat_eq, Bool, if
 use Rattle.std.specs.List.{filter, flat_map, list_any}
 use Rattle.std.specs.Int.{bit_at}
 use Rattle.pol_cursor.specs.References.{Placed}
-use Rattle.pol_expr.specs.declared.ConstraintItem.{ConstraintItem}
-use Rattle.pol_expr.specs.declared.ConstraintRec.{ConstraintRec}
-use Rattle.pol_expr.specs.ConstraintMeaning.{set_text}
+use Rattle.pol_constraints.specs.declared.ConstraintItem.{ConstraintItem}
+use Rattle.pol_constraints.specs.declared.ConstraintRec.{ConstraintRec}
+use Rattle.pol_constraints.specs.ConstraintMeaning.{set_text}
 use Rattle.pol_commons.specs.declared.PermissionRec.{PermissionRec}
 use Rattle.pol_symbols.specs.declared.ClassRec.{ClassRec}
 use Rattle.pol_symbols.specs.declared.symbols.Symbols.{Symbols}

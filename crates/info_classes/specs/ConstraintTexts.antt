@@ -6,13 +6,13 @@ use Rattle.pol_cursor.specs.References.{Named}
 use Rattle.pol_bitmap.specs.Nodes.{bits_of}
 use Rattle.pol_expr.specs.declared.Symbol.{Symbol}
 use Rattle.pol_expr.specs.declared.Symbol.TheVariants as symbols
-use Rattle.pol_expr.specs.declared.Junction.{Junction}
-use Rattle.pol_expr.specs.declared.Junction.TheVariants.{And, Or}
-use Rattle.pol_expr.specs.declared.ConstraintItem.{ConstraintItem}
-use Rattle.pol_expr.specs.declared.NameSet.{NameSet}
+use Rattle.pol_constraints.specs.declared.Junction.{Junction}
+use Rattle.pol_constraints.specs.declared.Junction.TheVariants.{And, Or}
+use Rattle.pol_constraints.specs.declared.ConstraintItem.{ConstraintItem}
+use Rattle.pol_constraints.specs.declared.NameSet.{NameSet}
 use Rattle.pol_expr.specs.Infix.{infix_of}
 use Rattle.pol_expr.specs.Trees.{Leaf, Not, Binary, applied}
-use Rattle.pol_expr.specs.ConstraintMeaning.{ConstraintTree, constraint_words, left_word, right_word, side_word, side_table, op_word, names_of, set_text}
+use Rattle.pol_constraints.specs.ConstraintMeaning.{ConstraintTree, constraint_words, left_word, right_word, side_word, side_table, op_word, names_of, set_text}
 use Rattle.info_lines.specs.NameLists.{in_order}
 
 -- the names that bits stand for, as a set: those that no record declares are left out

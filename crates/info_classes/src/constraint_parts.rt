@@ -3,7 +3,7 @@
 ghost use Rattle.std.specs.Prelude.{◌≡◌, ◌≤◌, ◌-◌, ◌==◌, ◌++◌, IfOk, OnOk, map};
 ghost use Rattle.std.specs.Int.{bit_at};
 ghost use Rattle.std.specs.List.{filter, fold, list_any};
-ghost use Rattle.pol_expr.specs.ConstraintRecord.{IsExpression};
+ghost use Rattle.pol_constraints.specs.ConstraintRecord.{IsExpression};
 ghost use Rattle.pol_symbols.specs.PolicySymbols.{name_in, permissions_of};
 ghost use Rattle.info_lines.specs.NameLists.{with_name, in_order};
 ghost use Rattle.info_classes.specs.ConstraintTexts.{constraint_text};
@@ -12,7 +12,7 @@ ghost use Rattle.info_classes.specs.ConstraintLines.{is_level_pair, compares_lev
 use crate::constraint_entry::{ConstraintEntry, ConstraintKind};
 use info_lines::{insert_name, push_set};
 use pol_commons::{PermissionList, inherited_from};
-use pol_expr::{ConstraintItemView, ConstraintItems, ConstraintView};
+use pol_constraints::{ConstraintItemView, ConstraintItems, ConstraintView};
 use pol_symbols::{ClassView, Symbols};
 use std::alloc::{AllocError, Global};
 

@@ -7,7 +7,7 @@ use Rattle.pol_cursor.specs.declared.TableKind.TheVariants.{Types, Levels, Categ
 use Rattle.pol_cursor.specs.References.{Placed}
 use Rattle.pol_datums.specs.TypeRecord.{is_primary_type}
 use Rattle.pol_datums.specs.Flags.{is_primary_flag}
-use Rattle.pol_expr.specs.ConstraintMeaning.{set_text}
+use Rattle.pol_constraints.specs.ConstraintMeaning.{set_text}
 use Rattle.pol_symbols.specs.declared.symbols.Symbols.{Symbols}
 use Rattle.info_lines.specs.NameLists.{in_order}
 

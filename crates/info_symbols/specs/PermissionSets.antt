@@ -1,7 +1,7 @@
 -- The permissions of a class or a common as the text of a set.
 use Rattle.std.specs.Prelude.{ℕ, List, map}
 use Rattle.pol_commons.specs.declared.permission_rec.PermissionRec.{PermissionRec}
-use Rattle.pol_expr.specs.ConstraintMeaning.{set_text}
+use Rattle.pol_constraints.specs.ConstraintMeaning.{set_text}
 use Rattle.info_lines.specs.NameLists.{in_order}
 
 -- their names in order: one name is itself, otherwise they stand in braces

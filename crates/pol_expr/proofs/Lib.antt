@@ -5,8 +5,4 @@ pub mod References
 pub mod ConditionLaws
 pub mod Stacks
 pub mod ConditionTrees
-pub mod ConstraintPlaces
-pub mod ConstraintLaws
-pub mod ItemReading
 pub mod BooleanSets
-pub mod ConstraintTexts

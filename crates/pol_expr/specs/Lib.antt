@@ -3,5 +3,3 @@ pub mod ConditionRecord
 pub mod Trees
 pub mod Infix
 pub mod ConditionMeaning
-pub mod ConstraintRecord
-pub mod ConstraintMeaning

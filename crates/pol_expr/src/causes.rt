@@ -9,6 +9,7 @@ use pol_cursor::Cause;
 /// libsepol's COND_EXPR_MAXDEPTH.
 const CONDITION_LIMIT: u32 = 10;
 
+/// `NotOneValue` where an expression has no item.
 pub fn item_count_cause(count: u32) -> Option<Cause>
     ensures { result ≡ item_count_test count }
 {
@@ -42,7 +43,8 @@ pub fn kind_cause(left: u32, values: u32, kind: u32) -> Option<Cause>
     }
 }
 
-/// Whether the item of an expression has its operands, by the values before it and the items left after it.
+/// Whether the item of an expression has its operands, by the values before it and the items left after it: `NotOneValue` where
+/// it has not, or where the last item does not leave one value, and `TooDeep` where a leaf makes more values than the limit.
 pub fn operands_cause(limit: u32, left: u32, values: u32, operands: u32) -> Option<Cause>
     requires { values ≤ limit }
     ensures exact { result ≡ operands_test limit left values operands }

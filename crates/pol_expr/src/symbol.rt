@@ -1,6 +1,5 @@
 ghost use Rattle.std.specs.Prelude.{◌≡◌, ◌≤◌};
 ghost use Rattle.pol_expr.specs.ConditionMeaning.{condition_symbol, operator_text, truth_of};
-ghost use Rattle.pol_expr.specs.ConstraintMeaning.{junction_text};
 
 use crate::condition_rec::ConditionItem;
 
@@ -46,25 +45,6 @@ impl Operator {
             Operator::Xor => b" ^ ",
             Operator::Equal => b" == ",
             Operator::NotEqual => b" != ",
-        }
-    }
-}
-
-/// The operators of constraints that stand between two operands.
-#[derive(Clone, Copy, Debug, PartialEq, Eq)]
-pub enum Junction {
-    And,
-    Or,
-}
-
-impl Junction {
-    /// Its text between two operands, with a space on each side.
-    pub fn text(self) -> &'static [u8]
-        ensures { result.now ≡ junction_text self }
-    {
-        match self {
-            Junction::And => b" and ",
-            Junction::Or => b" or ",
         }
     }
 }

@@ -8,7 +8,7 @@ use Rattle.pol_bitmap.specs.declared.Node.{Node}
 use Rattle.pol_bitmap.specs.Bitmap.{bitmap_at}
 use Rattle.pol_mls.specs.LevelRecord.{level_at}
 use Rattle.pol_mls.specs.RangeRecord.{range_at, level_of}
-use Rattle.pol_expr.specs.ConstraintRecord.{name_set_at, item_at, items_at, values_after_item, constraint_at}
+use Rattle.pol_constraints.specs.ConstraintRecord.{name_set_at, item_at, items_at, values_after_item, constraint_at}
 use Rattle.pol_symtab.specs.Claims.{Claims}
 use Rattle.pol_symtab.specs.SymbolTables.{Table}
 use Rattle.pol_commons.specs.declared.CommonRec.{CommonRec}

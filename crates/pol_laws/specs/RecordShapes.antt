@@ -3,8 +3,8 @@ use Rattle.std.specs.Prelude.{ℕ, ◌==◌, Option, [], ◌∷◌}
 use Rattle.pol_cursor.specs.declared.Field.{Field}
 use Rattle.pol_cursor.specs.Outcome.{field}
 use Rattle.pol_mls.specs.declared.RangeRec.{RangeRec}
-use Rattle.pol_expr.specs.declared.ConstraintItem.{ConstraintItem}
-use Rattle.pol_expr.specs.declared.ConstraintRec.{ConstraintRec}
+use Rattle.pol_constraints.specs.declared.ConstraintItem.{ConstraintItem}
+use Rattle.pol_constraints.specs.declared.ConstraintRec.{ConstraintRec}
 use Rattle.pol_symbols.specs.declared.ClassRec.{ClassRec}
 use Rattle.pol_symbols.specs.declared.UserRec.{UserRec}
 use Rattle.pol_avtab.specs.declared.AvRec.{AvRec}

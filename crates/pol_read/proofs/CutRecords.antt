@@ -3,7 +3,7 @@ use Rattle.std.proofs.Common.{ℕ, Bool, Option, None, ◌==◌, List, []}
 use Rattle.pol_header.specs.HeaderRecord.{identity_at, counts_at, header_at}
 use Rattle.pol_bitmap.specs.Bitmap.{node_at, nodes_at, floor_after, bitmap_at}
 use Rattle.pol_expr.specs.ConditionRecord as condition
-use Rattle.pol_expr.specs.ConstraintRecord as constraint
+use Rattle.pol_constraints.specs.ConstraintRecord as constraint
 use Rattle.pol_mls.specs.LevelRecord.{level_at}
 use Rattle.pol_mls.specs.RangeRecord.{range_at}
 use Rattle.pol_symtab.specs.Claims.{Claims}

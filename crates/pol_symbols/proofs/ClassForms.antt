@@ -4,11 +4,11 @@ use Rattle.std.specs.Prelude.{◌==◌}
 use Rattle.pol_cursor.specs.Outcome.{Reader, field, ◌>>=◌, done}
 use Rattle.pol_cursor.specs.Parts.{number, number_if, list_of, optional, records_at, counted}
 use Rattle.pol_bitmap.specs.Bitmap.{bitmap_at}
-use Rattle.pol_expr.specs.declared.constraint_rec.ConstraintItem.{ConstraintItem}
-use Rattle.pol_expr.specs.declared.constraint_rec.ConstraintRec.{ConstraintRec}
-use Rattle.pol_expr.specs.declared.constraint_rec.NameSet.{NameSet}
+use Rattle.pol_constraints.specs.declared.constraint_rec.ConstraintItem.{ConstraintItem}
+use Rattle.pol_constraints.specs.declared.constraint_rec.ConstraintRec.{ConstraintRec}
+use Rattle.pol_constraints.specs.declared.constraint_rec.NameSet.{NameSet}
 use Rattle.pol_expr.specs.Postfix.{item_count_test}
-use Rattle.pol_expr.specs.ConstraintRecord.{has_type_set, kind_test, attr_test, op_test, type_set_at, name_set_at, item_at, values_after_item, items_at, constraint_at}
+use Rattle.pol_constraints.specs.ConstraintRecord.{has_type_set, kind_test, attr_test, op_test, type_set_at, name_set_at, item_at, values_after_item, items_at, constraint_at}
 use Rattle.pol_symtab.specs.Claims.{Claims}
 use Rattle.pol_symtab.specs.SymbolTables.{Table, table_at}
 use Rattle.pol_commons.specs.declared.common_rec.CommonRec.{CommonRec}

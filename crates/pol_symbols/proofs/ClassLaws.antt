@@ -10,8 +10,8 @@ use Rattle.pol_symtab.proofs.SymbolFieldLaws.{Reads-symbol_length, Reads-symbol_
 use Rattle.pol_commons.specs.declared.common_rec.CommonRec.{CommonRec}
 use Rattle.pol_commons.specs.CommonTable.{inherited_from}
 use Rattle.pol_commons.proofs.CommonLaws.{permissions_spelled, permissions_again}
-use Rattle.pol_expr.specs.ConstraintRecord.{constraint_at, spell_constraint, ConstraintFits}
-use Rattle.pol_expr.proofs.ConstraintLaws.{constraint_spelled, constraint_again}
+use Rattle.pol_constraints.specs.ConstraintRecord.{constraint_at, spell_constraint, ConstraintFits}
+use Rattle.pol_constraints.proofs.ConstraintLaws.{constraint_spelled, constraint_again}
 use Rattle.pol_symbols.specs.ConstraintLists.{constraints_at}
 use Rattle.pol_symbols.specs.ClassRecord.{common_name_at, head_at, spell_head, HeadFits, default_at, class_at, head_of, spell_class, ClassFits}
 

@@ -6,7 +6,7 @@ use Rattle.std.proofs.lemmas.List.Sums.{sum_by-cons}
 use Rattle.pol_cursor.specs.Parts.{num}
 use Rattle.pol_bitmap.specs.Nodes.{bitmap_in, bitmap_size}
 use Rattle.pol_bitmap.proofs.NodePlaces.{length_nodes_in}
-use Rattle.pol_expr.specs.ConstraintRecord.{has_type_set, negated_place, type_set_in, type_set_end, name_set_in, name_set_end, names_in, names_end, item_in, item_end, items_in, items_end, constraint_in, constraint_end, HasItems, HasConstraint}
+use Rattle.pol_constraints.specs.ConstraintRecord.{has_type_set, negated_place, type_set_in, type_set_end, name_set_in, name_set_end, names_in, names_end, item_in, item_end, items_in, items_end, constraint_in, constraint_end, HasItems, HasConstraint}
 use Rattle.pol_symbols.specs.ConstraintLists.{type_set_length, name_set_length, item_length, constraint_length}
 
 bitmap_ends : (bytes : List ℕ) (place : ℕ) → bitmap_size bytes place ≡ 12 + 12 * length (bitmap_in bytes place)

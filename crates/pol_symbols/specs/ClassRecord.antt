@@ -14,7 +14,7 @@ use Rattle.pol_commons.specs.PermissionRecord.{spell_permission, PermissionFits}
 use Rattle.pol_commons.specs.Permissions.{permissions_at, permissions_in, permissions_end, HavePermissions}
 use Rattle.pol_commons.specs.CommonRecord.{permission_count_test}
 use Rattle.pol_commons.specs.CommonTable.{common_named, inherited_from}
-use Rattle.pol_expr.specs.ConstraintRecord.{spell_constraint, ConstraintFits}
+use Rattle.pol_constraints.specs.ConstraintRecord.{spell_constraint, ConstraintFits}
 use Rattle.pol_symbols.specs.declared.class_rec.ClassRec.{ClassRec}
 use Rattle.pol_symbols.specs.ConstraintLists.{constraints_at, constraints_in, constraints_end, HaveConstraints}
 

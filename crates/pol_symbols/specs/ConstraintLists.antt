@@ -5,11 +5,11 @@ use Rattle.pol_cursor.specs.Outcome.{Reader}
 use Rattle.pol_cursor.specs.Parts.{records_at}
 use Rattle.pol_cursor.specs.References.{values_of}
 use Rattle.pol_cursor.specs.Runs.{run_in, run_end, HasRun}
-use Rattle.pol_expr.specs.declared.constraint_rec.ConstraintRec.{ConstraintRec}
-use Rattle.pol_expr.specs.declared.constraint_rec.ConstraintItem.{ConstraintItem}
-use Rattle.pol_expr.specs.declared.constraint_rec.NameSet.{NameSet}
-use Rattle.pol_expr.specs.declared.constraint_rec.TypeSet.{TypeSet}
-use Rattle.pol_expr.specs.ConstraintRecord.{constraint_at, constraint_in, constraint_end, HasConstraint}
+use Rattle.pol_constraints.specs.declared.constraint_rec.ConstraintRec.{ConstraintRec}
+use Rattle.pol_constraints.specs.declared.constraint_rec.ConstraintItem.{ConstraintItem}
+use Rattle.pol_constraints.specs.declared.constraint_rec.NameSet.{NameSet}
+use Rattle.pol_constraints.specs.declared.constraint_rec.TypeSet.{TypeSet}
+use Rattle.pol_constraints.specs.ConstraintRecord.{constraint_at, constraint_in, constraint_end, HasConstraint}
 
 -- n constraints of a policy of a version, in which a third context is allowed or not
 abbrev pub constraints_at : ℕ → Bool → ℕ → Reader (List ConstraintRec)

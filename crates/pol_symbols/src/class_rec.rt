@@ -1,6 +1,6 @@
 use pol_commons::PermissionRec;
+use pol_constraints::ConstraintRec;
 use pol_cursor::{ByteList, OwnedList};
-use pol_expr::ConstraintRec;
 
 /// A class of objects, owned.
 #[derive(Drop)]

@@ -1,13 +1,13 @@
 ghost use Rattle.std.specs.Prelude.{◌≡◌, ◌++◌, OnOk};
 ghost use Rattle.std.specs.List.{flat_map};
 ghost use Rattle.pol_cursor.specs.Parts.{spell_counted};
-ghost use Rattle.pol_expr.specs.ConstraintRecord.{spell_constraint};
+ghost use Rattle.pol_constraints.specs.ConstraintRecord.{spell_constraint};
 ghost use Rattle.pol_symbols.specs.ClassRecord.{spell_numbers, spell_head, spell_defaults, head_of, spell_class};
 
 use crate::class_rec::ClassRec;
 use pol_commons::write_permissions;
+use pol_constraints::{ConstraintRec, write_constraint};
 use pol_cursor::push_number;
-use pol_expr::{ConstraintRec, write_constraint};
 use std::alloc::AllocError;
 
 /// Appends the bytes of a class. The version shows in its constraints, which have type sets from version 29 on.

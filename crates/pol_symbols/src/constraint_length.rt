@@ -1,10 +1,10 @@
 //! How many bytes a constraint takes.
 
 ghost use Rattle.std.specs.Prelude.{◌≡◌, ◌≤◌};
-ghost use Rattle.pol_expr.specs.ConstraintRecord.{constraint_end, HasConstraint};
+ghost use Rattle.pol_constraints.specs.ConstraintRecord.{constraint_end, HasConstraint};
 ghost use Rattle.pol_symbols.specs.ConstraintLists.{type_set_length, name_set_length, item_length, constraint_length};
 
-use pol_expr::{ConstraintItemView, ConstraintView, NameSetView, TypeSetView};
+use pol_constraints::{ConstraintItemView, ConstraintView, NameSetView, TypeSetView};
 
 /// The place behind the constraint of a policy of that version at a place that has one.
 #[tactic(auto, using(crate::proofs::ConstraintPlaces::constraint_ends))]

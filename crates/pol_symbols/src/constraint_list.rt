@@ -4,8 +4,8 @@ ghost use Rattle.pol_cursor.specs.Outcome.{Answers};
 ghost use Rattle.pol_symbols.specs.ConstraintLists.{constraints_at, constraints_in, constraints_end, HaveConstraints};
 
 use crate::constraint_length::constraint_end;
+use pol_constraints::{ConstraintRec, ConstraintView, read_constraint};
 use pol_cursor::{Cursor, Fault, OwnedList};
-use pol_expr::{ConstraintRec, ConstraintView, read_constraint};
 use std::alloc::{AllocError, Global};
 use std::marker::Model;
 
@@ -20,7 +20,7 @@ pub struct ConstraintList<'a> {
 
 impl<'a> Model for ConstraintList<'a> {
     ghost use Rattle.std.specs.Prelude.{List};
-    ghost use Rattle.pol_expr.specs.declared.constraint_rec.ConstraintRec.{ConstraintRec};
+    ghost use Rattle.pol_constraints.specs.declared.constraint_rec.ConstraintRec.{ConstraintRec};
     ghost use Rattle.pol_symbols.specs.ConstraintLists.{constraints_in, HaveConstraints};
 
     ghost Value = { List ConstraintRec };

@@ -4,7 +4,7 @@ ghost use Rattle.pol_cursor.specs.Laws.{IsReadAgain, IsReadFromSpelling};
 ghost use Rattle.pol_symtab.specs.Claims.{Claims};
 ghost use Rattle.pol_symtab.specs.SymbolTables.{Table};
 ghost use Rattle.pol_commons.specs.declared.common_rec.CommonRec.{CommonRec};
-ghost use Rattle.pol_expr.specs.ConstraintRecord.{has_type_set};
+ghost use Rattle.pol_constraints.specs.ConstraintRecord.{has_type_set};
 ghost use Rattle.pol_symbols.specs.ClassRecord.{class_at, spell_class, ClassFits};
 ghost use Rattle.pol_symbols.specs.UserRecord.{user_at, spell_user, UserFits};
 

@@ -1,11 +1,13 @@
-//! Tests of the records of the symbol tables, and of expressions.
+//! Tests of the records of the symbol tables, and of conditions and constraints.
 #![tactic(auto)]
 
 #[cfg(test)]
 mod class_tests;
 #[cfg(test)]
-mod datums_tests;
+mod condition_tests;
 #[cfg(test)]
-mod expr_tests;
+mod constraint_tests;
+#[cfg(test)]
+mod datums_tests;
 #[cfg(test)]
 mod symbols_tests;

@@ -1,7 +1,7 @@
 use Rattle.std.proofs.Common.{◌∙◌, ap, sym, subst, refl}
 use Rattle.pol_cursor.specs.Runs.{run_end}
 use Rattle.pol_cursor.proofs.RunLists.{run_has, run_end_next}
-use Rattle.pol_expr.specs.ConstraintRecord.{constraint_end, HasConstraint}
+use Rattle.pol_constraints.specs.ConstraintRecord.{constraint_end, HasConstraint}
 use Rattle.pol_symbols.proofs.constraint_list.constraints_end.Goals as goal
 
 pub constraint_end-end-requires : goal.constraint_end-end-requires

@@ -1,6 +1,6 @@
 use Rattle.std.proofs.lemmas.Result.{err_from_is_err_and}
 use Rattle.pol_cursor.proofs.RunLists.{PassingRun-start, PassingRun-next, PassingRun-bad, PassingRun-end}
-use Rattle.pol_expr.specs.ConstraintRecord.{constraint_at, constraint_in, constraint_end, HasConstraint}
+use Rattle.pol_constraints.specs.ConstraintRecord.{constraint_at, constraint_in, constraint_end, HasConstraint}
 use Rattle.pol_symbols.proofs.constraint_list.pass_constraints.Goals as goal
 
 pub loop-init : goal.loop-init

@@ -1,5 +1,5 @@
 use Rattle.pol_cursor.proofs.RunLists.{PassingRun}
-use Rattle.pol_expr.specs.ConstraintRecord.{constraint_at, constraint_in, constraint_end, HasConstraint}
+use Rattle.pol_constraints.specs.ConstraintRecord.{constraint_at, constraint_in, constraint_end, HasConstraint}
 use Rattle.pol_symbols.proofs.constraint_list.pass_constraints.Given as goal
 
 abbrev pub invariant-loop : goal.invariant-loop

@@ -1,6 +1,6 @@
 use Rattle.std.proofs.Common.{◌<◌, sym, subst, arith}
 use Rattle.pol_cursor.proofs.RunLists.{run_has, run_front}
-use Rattle.pol_expr.specs.ConstraintRecord.{constraint_in, constraint_end, HasConstraint}
+use Rattle.pol_constraints.specs.ConstraintRecord.{constraint_in, constraint_end, HasConstraint}
 use Rattle.pol_commons.proofs.RunValues.{length_values_in, get_values_in}
 use Rattle.pol_symbols.proofs.constraint_list.ConstraintList.view.Goals as goal
 

@@ -1,7 +1,7 @@
 use Rattle.std.proofs.Common.{◌∙◌, ap, sym, rules}
 use Rattle.std.specs.Prelude.{map}
 use Rattle.pol_cursor.proofs.RunLists.{run_first_has, run_others_stand, run_none}
-use Rattle.pol_expr.specs.ConstraintRecord.{constraint_in, constraint_end, HasConstraint}
+use Rattle.pol_constraints.specs.ConstraintRecord.{constraint_in, constraint_end, HasConstraint}
 use Rattle.pol_commons.proofs.RunValues.{values_first}
 use Rattle.pol_symbols.proofs.constraint_list.ConstraintListIterator.next.Goals as goal
 

@@ -1,0 +1,197 @@
+-- The expression of a constraint: record 7 (libsepol's read_cons_helper).
+use Rattle.std.specs.Prelude.{◌≡◌, ℕ, zero, suc, ◌+◌, ◌^◌, ◌<◌, ◌≤◌, Bool, true, ◌&&◌, ◌||◌, ◌==◌, nat_eq, nat_le, if◌then◌else◌, Option, Some, None, List, [], ◌∷◌, ◌++◌, length}
+use Rattle.std.specs.List.{flat_map, list_any, AllByRecursion}
+use Rattle.pol_cursor.specs.declared.fault.Cause.{Cause}
+use Rattle.pol_cursor.specs.declared.fault.Cause.TheVariants.{BadKind, BadAttr, BadOp}
+use Rattle.pol_cursor.specs.Outcome.{Reader, field, ◌>>=◌, done}
+use Rattle.pol_cursor.specs.Parts.{num, number, number_if, list_of, optional, spell_optional, OptionFits, unless}
+use Rattle.pol_cursor.specs.Spelling.{bytes_of}
+use Rattle.pol_bitmap.specs.Bitmap.{bitmap_at, spell_bitmap, BitmapFits}
+use Rattle.pol_bitmap.specs.Nodes.{bitmap_in, bitmap_size, HasBitmap}
+use Rattle.pol_constraints.specs.declared.constraint_rec.ConstraintItem.{ConstraintItem}
+use Rattle.pol_constraints.specs.declared.constraint_rec.ConstraintRec.{ConstraintRec}
+use Rattle.pol_constraints.specs.declared.constraint_rec.NameSet.{NameSet}
+use Rattle.pol_constraints.specs.declared.constraint_rec.TypeSet.{TypeSet}
+use Rattle.pol_expr.specs.Postfix.{values_after, operands_test, item_count_test, IsPostfix}
+
+-- ---- the conditions of its fields
+
+-- libsepol's CEXPR_MAXDEPTH
+abbrev pub constraint_limit : ℕ
+constraint_limit = 5
+
+-- how many operands an item has: kind 1 is not, 2 and 3 stand between two operands, 4 and 5 are leaves
+abbrev pub kind_operands : ℕ → ℕ
+kind_operands kind = if kind == 1 then 1 else if nat_le kind 3 then 2 else 0
+
+abbrev pub item_operands : ConstraintItem → ℕ
+item_operands item = kind_operands item.kind
+
+-- The kinds are 1 to 5.
+abbrev pub kind_test : ℕ → ℕ → ℕ → Option Cause
+kind_test left values kind = if nat_le 1 kind && nat_le kind 5 then operands_test constraint_limit left values (kind_operands kind) else Some BadKind
+
+-- what two sides of a comparison are: 1 user, 2 role, 4 type, and levels: 32 l1l2, 64 l1h2, 128 h1l2, 256 h1h2, 512 l1h1, 1024 l2h2
+abbrev pub is_pair : ℕ → Bool
+is_pair attr = list_any (nat_eq attr) (1 ∷ 2 ∷ 4 ∷ 32 ∷ 64 ∷ 128 ∷ 256 ∷ 512 ∷ 1024 ∷ [])
+
+-- what is looked for among names: 1 user, 2 role, 4 type, of the source, with 8 of the target, and with 16 of the third context
+abbrev pub is_side : Bool → ℕ → Bool
+is_side xtarget attr = list_any (nat_eq attr) (1 ∷ 2 ∷ 4 ∷ 9 ∷ 10 ∷ 12 ∷ []) || (xtarget && list_any (nat_eq attr) (17 ∷ 18 ∷ 20 ∷ []))
+
+abbrev pub attr_test : Bool → ℕ → ℕ → Option Cause
+attr_test xtarget kind attr = unless (if kind == 4 then is_pair attr else if kind == 5 then is_side xtarget attr else true) BadAttr
+
+-- 1 equal and 2 not equal; two sides also 3 dom, 4 domby and 5 incomp
+abbrev pub op_test : ℕ → ℕ → Option Cause
+op_test kind op = unless (if kind == 4 then nat_le 1 op && nat_le op 5 else if kind == 5 then nat_le 1 op && nat_le op 2 else true) BadOp
+
+-- ---- reading and spelling
+
+-- From version 29 on the names have beside them the types and attributes that they were written with.
+abbrev pub has_type_set : ℕ → Bool
+has_type_set version = nat_le 29 version
+
+unfoldable pub type_set_at : Reader TypeSet
+type_set_at = do
+  types ← bitmap_at None
+  negated ← bitmap_at None
+  flags ← number (field 7 6) 4
+  done (record { types = types; negated = negated; flags = flags })
+
+unfoldable pub name_set_at : ℕ → Reader NameSet
+name_set_at version = do
+  names ← bitmap_at None
+  written ← optional (has_type_set version) type_set_at
+  done (record { names = names; written = written })
+
+-- an item before which so many values stand, and after which so many items are left
+unfoldable pub item_at : ℕ → Bool → ℕ → ℕ → Reader ConstraintItem
+item_at version xtarget left values = do
+  kind ← number_if (field 7 3) 4 (kind_test left values)
+  attr ← number_if (field 7 4) 4 (attr_test xtarget kind)
+  op ← number_if (field 7 5) 4 (op_test kind)
+  set ← optional (kind == 5) (name_set_at version)
+  done (record { kind = kind; attr = attr; op = op; set = set })
+
+abbrev pub values_after_item : ℕ → ConstraintItem → ℕ
+values_after_item values item = values_after values (item_operands item)
+
+unfoldable pub items_at : ℕ → Bool → ℕ → Reader (List ConstraintItem)
+items_at version xtarget count = list_of (item_at version xtarget) values_after_item count 0
+
+unfoldable pub constraint_at : ℕ → Bool → Reader ConstraintRec
+constraint_at version xtarget = do
+  permissions ← number (field 7 1) 4
+  count ← number_if (field 7 2) 4 item_count_test
+  items ← items_at version xtarget count
+  done (record { permissions = permissions; items = items })
+
+abbrev pub spell_type_set : TypeSet → List ℕ
+spell_type_set set = spell_bitmap set.types ++ spell_bitmap set.negated ++ bytes_of 4 set.flags
+
+abbrev pub spell_name_set : NameSet → List ℕ
+spell_name_set set = spell_bitmap set.names ++ spell_optional spell_type_set set.written
+
+abbrev pub spell_item : ConstraintItem → List ℕ
+spell_item item = bytes_of 4 item.kind ++ bytes_of 4 item.attr ++ bytes_of 4 item.op ++ spell_optional spell_name_set item.set
+
+abbrev pub spell_constraint : ConstraintRec → List ℕ
+spell_constraint constraint = bytes_of 4 constraint.permissions ++ bytes_of 4 (length constraint.items) ++ flat_map spell_item constraint.items
+
+pub record TypeSetFits (set : TypeSet) : Type 0 where
+  pub types : BitmapFits set.types
+  pub negated : BitmapFits set.negated
+  pub flags : set.flags < 2 ^ 32
+
+pub record NameSetFits (version : ℕ) (set : NameSet) : Type 0 where
+  pub names : BitmapFits set.names
+  pub written : OptionFits (has_type_set version) TypeSetFits set.written
+
+-- The numbers of an item fit their fields, and it has names exactly where its kind is 5.
+pub record ItemFits (version : ℕ) (item : ConstraintItem) : Type 0 where
+  pub kind : item.kind < 2 ^ 32
+  pub attr : item.attr < 2 ^ 32
+  pub op : item.op < 2 ^ 32
+  pub set : OptionFits (item.kind == 5) (NameSetFits version) item.set
+
+pub record ConstraintFits (version : ℕ) (constraint : ConstraintRec) : Type 0 where
+  pub permissions : constraint.permissions < 2 ^ 32
+  pub count : length constraint.items < 2 ^ 32
+  pub items : AllByRecursion (ItemFits version) constraint.items
+
+-- ---- the constraint that stands at a place
+
+-- two bitmaps and a number, each behind the one before
+abbrev pub negated_place : List ℕ → ℕ → ℕ
+negated_place bytes place = place + bitmap_size bytes place
+
+abbrev pub flags_place : List ℕ → ℕ → ℕ
+flags_place bytes place = negated_place bytes place + bitmap_size bytes (negated_place bytes place)
+
+unfoldable pub type_set_in : List ℕ → ℕ → TypeSet
+type_set_in bytes place = record { types = bitmap_in bytes place; negated = bitmap_in bytes (negated_place bytes place); flags = num bytes (flags_place bytes place) 4 }
+
+unfoldable pub type_set_end : List ℕ → ℕ → ℕ
+type_set_end bytes place = flags_place bytes place + 4
+
+-- names, and from version 29 on a type set behind them
+unfoldable pub name_set_in : ℕ → List ℕ → ℕ → NameSet
+name_set_in version bytes place = record { names = bitmap_in bytes place; written = if has_type_set version then Some (type_set_in bytes (place + bitmap_size bytes place)) else None }
+
+unfoldable pub name_set_end : ℕ → List ℕ → ℕ → ℕ
+name_set_end version bytes place = if has_type_set version then type_set_end bytes (place + bitmap_size bytes place) else place + bitmap_size bytes place
+
+-- the names of an item, which only the kind 5 has
+unfoldable pub names_in : ℕ → ℕ → List ℕ → ℕ → Option NameSet
+names_in version kind bytes place = if kind == 5 then Some (name_set_in version bytes place) else None
+
+unfoldable pub names_end : ℕ → ℕ → List ℕ → ℕ → ℕ
+names_end version kind bytes place = if kind == 5 then name_set_end version bytes place else place
+
+abbrev pub item_in : ℕ → List ℕ → ℕ → ConstraintItem
+item_in version bytes place = record { kind = num bytes place 4; attr = num bytes (place + 4) 4; op = num bytes (place + 8) 4; set = names_in version (num bytes place 4) bytes (place + 12) }
+
+abbrev pub item_end : ℕ → List ℕ → ℕ → ℕ
+item_end version bytes place = names_end version (num bytes place 4) bytes (place + 12)
+
+-- the n items that stand from a place on, and where they end
+unfoldable pub items_in : ℕ → List ℕ → ℕ → ℕ → List ConstraintItem
+items_in version bytes place zero = []
+items_in version bytes place (suc n) = item_in version bytes place ∷ items_in version bytes (item_end version bytes place) n
+
+unfoldable pub items_end : ℕ → List ℕ → ℕ → ℕ → ℕ
+items_end version bytes place zero = place
+items_end version bytes place (suc n) = items_end version bytes (item_end version bytes place) n
+
+abbrev pub constraint_in : ℕ → List ℕ → ℕ → ConstraintRec
+constraint_in version bytes place = record { permissions = num bytes place 4; items = items_in version bytes (place + 8) (num bytes (place + 4) 4) }
+
+abbrev pub constraint_end : ℕ → List ℕ → ℕ → ℕ
+constraint_end version bytes place = items_end version bytes (place + 8) (num bytes (place + 4) 4)
+
+-- a type set stands there
+unfoldable pub HasTypeSet : List ℕ → ℕ → Type 0
+HasTypeSet bytes place = HasBitmap bytes place × HasBitmap bytes (negated_place bytes place) × (type_set_end bytes place ≤ length bytes)
+
+-- names stand there, and from version 29 on a type set behind them
+unfoldable pub HasNameSet : ℕ → List ℕ → ℕ → Type 0
+HasNameSet version bytes place = HasBitmap bytes place × (has_type_set version ≡ true → HasTypeSet bytes (place + bitmap_size bytes place))
+
+-- an item of a kind stands there, with its names where it has some
+abbrev pub HasItem : ℕ → List ℕ → ℕ → Type 0
+HasItem version bytes place = (place + 12 ≤ length bytes) × (1 ≤ num bytes place 4) × (num bytes place 4 ≡ 5 → HasNameSet version bytes (place + 12)) × (item_end version bytes place ≤ length bytes)
+
+unfoldable pub HasItems : ℕ → List ℕ → ℕ → ℕ → Type 0
+HasItems version bytes place zero = Unit {0}
+HasItems version bytes place (suc n) = HasItem version bytes place × HasItems version bytes (item_end version bytes place) n
+
+-- The items of a constraint make one value.
+abbrev pub IsExpression : List ConstraintItem → Type 0
+IsExpression items = IsPostfix item_operands constraint_limit 0 items
+
+-- a constraint stands there, in a buffer of a policy's size
+abbrev pub HasConstraint : ℕ → List ℕ → ℕ → Type 0
+HasConstraint version bytes place =
+    (place + 8 ≤ length bytes) × (length bytes ≤ 67108864) × HasItems version bytes (place + 8) (num bytes (place + 4) 4)
+    × IsExpression (items_in version bytes (place + 8) (num bytes (place + 4) 4))

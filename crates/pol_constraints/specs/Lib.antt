@@ -1,0 +1,2 @@
+pub mod ConstraintRecord
+pub mod ConstraintMeaning

@@ -1,0 +1,152 @@
+ghost use Rattle.std.specs.Prelude.{◌≡◌, ◌≤◌, IfOk, length};
+ghost use Rattle.std.specs.Iterator.{YieldsFirst, item_count};
+ghost use Rattle.pol_constraints.specs.ConstraintRecord.{item_in, items_in, HasItem, HasItems};
+
+use crate::constraint_names::NameSetView;
+use crate::constraint_places::item_end;
+use crate::constraint_rec::ConstraintItem;
+use pol_cursor::u32_in;
+use std::alloc::{AllocError, Global};
+use std::marker::Model;
+
+/// An item of a constraint in the buffer.
+#[derive(Drop)]
+pub struct ConstraintItemView<'a> {
+    bytes: &'a [u8],
+    place: u32,
+    version: u32,
+}
+
+impl<'a> Model for ConstraintItemView<'a> {
+    ghost use Rattle.std.specs.Prelude.{◌≤◌, length};
+    ghost use Rattle.pol_constraints.specs.declared.constraint_rec.ConstraintItem.{ConstraintItem};
+    ghost use Rattle.pol_constraints.specs.ConstraintRecord.{item_in, HasItem};
+
+    ghost Value = { ConstraintItem };
+
+    ghost view = { λ v. item_in v.version v.bytes.now v.place };
+
+    ghost invariant = { λ v. HasItem v.version v.bytes.now v.place × (length v.bytes.now ≤ 67108864) };
+}
+
+impl<'a> ConstraintItemView<'a> {
+    /// The item of a policy of that version at a place that has one.
+    pub fn at(bytes: &'a [u8], place: u32, version: u32) -> ConstraintItemView<'a>
+        requires item { HasItem version bytes.now place }
+        requires small { length bytes.now ≤ 67108864 }
+        ensures { result ≡ item_in version bytes.now place }
+    {
+        ConstraintItemView {
+            bytes,
+            place,
+            version,
+        }
+    }
+
+    /// 1 is not; 2 and, 3 or stand between two operands; 4 compares two attributes, 5 an attribute with names.
+    pub fn kind(&self) -> u32
+        ensures exact { result ≡ self.now.kind }
+        ensures known { 1 ≤ result }
+    {
+        u32_in(self.bytes, self.place as usize)
+    }
+
+    /// What is compared. It has no meaning for the kinds 1 to 3.
+    pub fn attr(&self) -> u32
+        ensures { result ≡ self.now.attr }
+    {
+        u32_in(self.bytes, self.place as usize + 4)
+    }
+
+    /// 1 equal, 2 not equal, 3 dom, 4 domby, 5 incomp. It has no meaning for the kinds 1 to 3.
+    pub fn op(&self) -> u32
+        ensures { result ≡ self.now.op }
+    {
+        u32_in(self.bytes, self.place as usize + 8)
+    }
+
+    /// The names, where the kind is 5.
+    #[tactic(auto, unfolding(crate::specs::ConstraintRecord::names_in))]
+    pub fn set(&self) -> Option<NameSetView<'a>>
+        ensures { result ≡ self.now.set }
+    {
+        if self.kind() == 5 {
+            Some(NameSetView::at(self.bytes, self.place + 12, self.version))
+        } else {
+            None
+        }
+    }
+
+    /// The same item, owned.
+    pub fn rec(&self, alloc: Global) -> Result<ConstraintItem, AllocError>
+        ensures { IfOk result (λ item. item ≡ self.now) }
+    {
+        let set = match self.set() {
+            Some(set) => Some(set.rec(alloc)?),
+            None => None,
+        };
+        Ok(ConstraintItem {
+            kind: self.kind(),
+            attr: self.attr(),
+            op: self.op(),
+            set,
+        })
+    }
+}
+
+/// The items of a constraint, in their order. Contracts see the list of those that are left. All of them come in a time that is
+/// linear in their number.
+#[derive(Drop)]
+pub struct ConstraintItems<'a> {
+    bytes: &'a [u8],
+    place: u32,
+    version: u32,
+    left: u32,
+}
+
+impl<'a> Model for ConstraintItems<'a> {
+    ghost use Rattle.std.specs.Prelude.{◌≤◌, List, length};
+    ghost use Rattle.pol_constraints.specs.declared.constraint_rec.ConstraintItem.{ConstraintItem};
+    ghost use Rattle.pol_constraints.specs.ConstraintRecord.{items_in, HasItems};
+
+    ghost Value = { List ConstraintItem };
+
+    ghost view = { λ v. items_in v.version v.bytes.now v.place v.left };
+
+    ghost invariant = { λ v. HasItems v.version v.bytes.now v.place v.left × (length v.bytes.now ≤ 67108864) };
+}
+
+impl<'a> ConstraintItems<'a> {
+    /// So many items from a place on that has them.
+    pub fn at(bytes: &'a [u8], place: u32, version: u32, count: u32) -> ConstraintItems<'a>
+        requires items { HasItems version bytes.now place count }
+        requires small { length bytes.now ≤ 67108864 }
+        ensures { result ≡ items_in version bytes.now place count }
+    {
+        ConstraintItems {
+            bytes,
+            place,
+            version,
+            left: count,
+        }
+    }
+}
+
+impl<'a> Iterator for ConstraintItems<'a> {
+    type Item = ConstraintItemView<'a>;
+
+    ghost next_gives = { YieldsFirst (λ rest. rest) };
+
+    ghost remaining = { item_count (λ rest. rest) };
+
+    #[tactic(auto, unfolding(crate::specs::ConstraintRecord::items_in, crate::specs::ConstraintRecord::HasItems), using(crate::proofs::ConstraintPlaces::items_left, crate::proofs::ConstraintPlaces::HasItems_left, crate::proofs::ConstraintPlaces::length_items_in))]
+    fn next(&mut self) -> Option<ConstraintItemView<'a>> {
+        if self.left == 0 {
+            return None;
+        }
+        let item = ConstraintItemView::at(self.bytes, self.place, self.version);
+        self.place = item_end(self.bytes, self.place, self.version);
+        self.left -= 1;
+        Some(item)
+    }
+}

@@ -1,0 +1,64 @@
+//! Where the parts of an item of a constraint end.
+
+ghost use Rattle.std.specs.Prelude.{◌≡◌, ◌≤◌, ◌+◌, length};
+ghost use Rattle.pol_bitmap.specs.Nodes.{bitmap_size, HasBitmap};
+ghost use Rattle.pol_constraints.specs.ConstraintRecord.{flags_place, type_set_end, name_set_end, item_end, HasTypeSet, HasNameSet, HasItem};
+
+use crate::constraint_reading::TYPE_SETS;
+use pol_bitmap::BitmapView;
+use pol_cursor::u32_in;
+
+/// The place behind an item.
+#[tactic(auto, unfolding(crate::specs::ConstraintRecord::names_end))]
+pub fn item_end(bytes: &[u8], place: u32, version: u32) -> u32
+    requires item { HasItem version bytes.now place }
+    requires small { length bytes.now ≤ 67108864 }
+    ensures { result ≡ item_end version bytes.now place }
+{
+    if u32_in(bytes, place as usize) == 5 {
+        name_set_end(bytes, place + 12, version)
+    } else {
+        place + 12
+    }
+}
+
+#[tactic(auto, unfolding(crate::specs::ConstraintRecord::name_set_end, crate::specs::ConstraintRecord::HasNameSet))]
+fn name_set_end(bytes: &[u8], place: u32, version: u32) -> u32
+    requires { HasNameSet version bytes.now place }
+    ensures { result ≡ name_set_end version bytes.now place }
+{
+    let end = bitmap_end(bytes, place);
+    if version < TYPE_SETS {
+        end
+    } else {
+        type_set_end(bytes, end)
+    }
+}
+
+#[tactic(auto, unfolding(crate::specs::ConstraintRecord::type_set_end, crate::specs::ConstraintRecord::HasTypeSet))]
+fn type_set_end(bytes: &[u8], place: u32) -> u32
+    requires { HasTypeSet bytes.now place }
+    ensures { result ≡ type_set_end bytes.now place }
+{
+    flags_place(bytes, place) + 4
+}
+
+/// The place of a type set's flags, behind its two bitmaps.
+#[tactic(auto, unfolding(crate::specs::ConstraintRecord::type_set_end, crate::specs::ConstraintRecord::HasTypeSet))]
+pub fn flags_place(bytes: &[u8], place: u32) -> u32
+    requires { HasTypeSet bytes.now place }
+    ensures exact { result ≡ flags_place bytes.now place }
+    ensures within { result + 4 ≤ length bytes.now }
+    ensures small { length bytes.now ≤ 67108864 }
+{
+    bitmap_end(bytes, bitmap_end(bytes, place))
+}
+
+/// The place behind a bitmap.
+#[tactic(auto, using(pol_bitmap::proofs::NodePlaces::length_nodes_in))]
+pub fn bitmap_end(bytes: &[u8], place: u32) -> u32
+    requires { HasBitmap bytes.now place }
+    ensures { result ≡ place + bitmap_size bytes.now place }
+{
+    place + BitmapView::at(bytes, place).size()
+}

@@ -1,0 +1,115 @@
+ghost use Rattle.std.specs.Prelude.{◌≡◌, ◌==◌, ◌≤◌, IfOk, OnOk, length};
+ghost use Rattle.pol_cursor.specs.Outcome.{Answers};
+ghost use Rattle.pol_cursor.specs.Parts.{num, optional};
+ghost use Rattle.pol_expr.specs.Postfix.{values_after};
+ghost use Rattle.pol_constraints.specs.ConstraintRecord.{type_set_at, type_set_in, type_set_end, name_set_at, name_set_in, name_set_end, names_in, names_end, item_at, item_in, item_end, items_at, items_in, items_end, kind_operands, HasTypeSet, HasNameSet, HasItem, HasItems, IsExpression};
+
+use crate::constraint_causes::{attr_cause, kind_cause, kind_operands, op_cause};
+use pol_bitmap::BitmapView;
+use pol_cursor::{Cursor, Fault, Field, refuse};
+
+// The code of a constraint's record.
+pub const CONSTRAINT: u8 = 7;
+
+// The first version whose names have a type set beside them.
+pub const TYPE_SETS: u32 = 29;
+
+// Reads a type set and keeps nothing of it.
+#[tactic(auto, unfolding(crate::specs::ConstraintRecord::type_set_at, crate::specs::ConstraintRecord::type_set_in, crate::specs::ConstraintRecord::type_set_end, crate::specs::ConstraintRecord::HasTypeSet), using(pol_cursor::proofs::Facts::number_is))]
+fn pass_type_set(c: &mut Cursor<'_>) -> Result<(), Fault>
+    ensures exact { Answers (λ _. type_set_in c.old.bytes c.old.place) result type_set_at c.old c.new }
+    ensures next { OnOk result ((c.new.place ≡ type_set_end c.old.bytes c.old.place) × (c.new.place ≤ length c.old.bytes)) }
+    ensures has { OnOk result (HasTypeSet c.old.bytes c.old.place) }
+{
+    BitmapView::read(c)?;
+    BitmapView::read(c)?;
+    let field = Field {
+        row: CONSTRAINT,
+        part: 6,
+    };
+    c.u32(field)?;
+    Ok(())
+}
+
+// Reads the names of an item and keeps nothing of them.
+#[tactic(auto, unfolding(crate::specs::ConstraintRecord::name_set_at, crate::specs::ConstraintRecord::name_set_in, crate::specs::ConstraintRecord::name_set_end, crate::specs::ConstraintRecord::HasNameSet, pol_cursor::specs::Parts::optional))]
+fn pass_name_set(c: &mut Cursor<'_>, version: u32) -> Result<(), Fault>
+    ensures exact { Answers (λ _. name_set_in version c.old.bytes c.old.place) result (name_set_at version) c.old c.new }
+    ensures next { OnOk result ((c.new.place ≡ name_set_end version c.old.bytes c.old.place) × (c.new.place ≤ length c.old.bytes)) }
+    ensures has { OnOk result (HasNameSet version c.old.bytes c.old.place) }
+{
+    BitmapView::read(c)?;
+    if version < TYPE_SETS {
+        return Ok(());
+    }
+    pass_type_set(c)
+}
+
+// Reads the names of an item of a kind, and keeps nothing of them.
+#[tactic(auto, unfolding(crate::specs::ConstraintRecord::names_in, crate::specs::ConstraintRecord::names_end, pol_cursor::specs::Parts::optional))]
+fn pass_names(c: &mut Cursor<'_>, version: u32, kind: u32) -> Result<(), Fault>
+    ensures exact { Answers (λ _. names_in version kind c.old.bytes c.old.place) result (optional (kind == 5) (name_set_at version)) c.old c.new }
+    ensures next { OnOk result (c.new.place ≡ names_end version kind c.old.bytes c.old.place) }
+    ensures long { OnOk result (c.old.place ≤ length c.old.bytes → c.new.place ≤ length c.old.bytes) }
+    ensures has { OnOk result (kind ≡ 5 → HasNameSet version c.old.bytes c.old.place) }
+{
+    if kind != 5 {
+        return Ok(());
+    }
+    pass_name_set(c, version)
+}
+
+/// Reads an item before which so many values stand, and after which so many items are left. Answers the values after it.
+#[tactic(auto, unfolding(crate::specs::ConstraintRecord::item_at), using(pol_cursor::proofs::Facts::number_is))]
+pub fn pass_item(
+    c: &mut Cursor<'_>,
+    version: u32,
+    xtarget: bool,
+    left: u32,
+    values: u32,
+) -> Result<u32, Fault>
+    requires { values ≤ 5 }
+    ensures exact { Answers (λ _. item_in version c.old.bytes c.old.place) result (item_at version xtarget left values) c.old c.new }
+    ensures next { OnOk result (c.new.place ≡ item_end version c.old.bytes c.old.place) }
+    ensures has { OnOk result (HasItem version c.old.bytes c.old.place) }
+    ensures values { IfOk result (λ after. (after ≡ values_after values (kind_operands (num c.old.bytes c.old.place 4))) × (after ≤ 5)) }
+{
+    let place = c.place();
+    let field = Field {
+        row: CONSTRAINT,
+        part: 3,
+    };
+    let kind = c.u32(field)?;
+    refuse(kind_cause(left, values, kind), place, field)?;
+    let place = c.place();
+    let field = Field {
+        row: CONSTRAINT,
+        part: 4,
+    };
+    let attr = c.u32(field)?;
+    refuse(attr_cause(xtarget, kind, attr), place, field)?;
+    let place = c.place();
+    let field = Field {
+        row: CONSTRAINT,
+        part: 5,
+    };
+    let op = c.u32(field)?;
+    refuse(op_cause(kind, op), place, field)?;
+    let after = values + 1 - kind_operands(kind);
+    pass_names(c, version, kind)?;
+    Ok(after)
+}
+
+/// Reads the items and keeps nothing of them.
+pub fn pass_items(c: &mut Cursor<'_>, version: u32, xtarget: bool, count: u32) -> Result<(), Fault>
+    ensures exact { Answers (λ _. items_in version c.old.bytes c.old.place count) result (items_at version xtarget count) c.old c.new }
+    ensures expression { OnOk result (1 ≤ count → IsExpression (items_in version c.old.bytes c.old.place count)) }
+    ensures next { OnOk result (c.new.place ≡ items_end version c.old.bytes c.old.place count) }
+    ensures has { OnOk result (HasItems version c.old.bytes c.old.place count) }
+{
+    let mut values = 0;
+    for i in 0..count {
+        values = pass_item(c, version, xtarget, count - i - 1, values)?;
+    }
+    Ok(())
+}
