@@ -1,11 +1,11 @@
 -- Where parts end, and the references of two records.
-use Rattle.std.proofs.Common.{◌≡◌, ℕ, zero, suc, ◌+◌, ◌*◌, ◌≤◌, Bool, true, false, Option, Some, None, List, [], ◌∷◌, ◌++◌, length, take, drop, refl, sym, ap, ◌∙◌, arith}
+use Rattle.std.proofs.Common.{◌≡◌, ℕ, ◌+◌, ◌*◌, ◌≤◌, Bool, true, false, Option, Some, None, List, [], ◌∷◌, ◌++◌, length, take, drop, refl, arith}
 use Rattle.std.proofs.lemmas.List.{length-take-le, length-drop}
 use Rattle.std.specs.Prelude.{if◌then◌else◌, is_some}
 use Rattle.pol_cursor.specs.declared.fault.Fault.{Fault}
 use Rattle.pol_cursor.specs.declared.fault.Cause.TheVariants.{Dangling}
 use Rattle.pol_cursor.specs.Outcome.{fault}
-use Rattle.pol_cursor.specs.References.{Placed, Named, Reference, values_of, dangling_of}
+use Rattle.pol_cursor.specs.References.{Named, Reference, dangling_of}
 use Rattle.pol_cursor.specs.Parts.{num}
 use Rattle.pol_bitmap.specs.Nodes.{bitmap_in, bitmap_size, HasBitmap}
 use Rattle.pol_bitmap.proofs.NodePlaces.{length_nodes_in}

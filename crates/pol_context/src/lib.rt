@@ -4,6 +4,7 @@
 mod context_rec;
 mod context_view;
 mod context_write;
+mod entry_list;
 mod parts;
 mod record_laws;
 mod texts;
@@ -11,6 +12,7 @@ mod texts;
 pub use context_rec::ContextRec;
 pub use context_view::{ContextView, read_context};
 pub use context_write::write_context;
-pub use parts::{context_end, name_end, name_standing, owned};
+pub use entry_list::read_table;
+pub use parts::{array_in, context_end, name_end, name_standing, owned};
 pub use record_laws::contexts_have_laws;
 pub use texts::context_text;

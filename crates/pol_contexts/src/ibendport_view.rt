@@ -53,10 +53,8 @@ impl<'a> IbEndPortView<'a> {
     pub fn context(&self) -> ContextView<'a>
         ensures { result ≡ record { place = self.now.place + 8 + length self.now.value.name; value = self.now.value.context } }
     {
-        ContextView::at(
-            self.bytes,
-            self.place + 8 + u32_in(self.bytes, self.place as usize),
-        )
+        let len = u32_in(self.bytes, self.place as usize);
+        ContextView::at(self.bytes, self.place + 8 + len)
     }
 
     /// The first reference of the context, as a fault at its field, that no primary record declares.

@@ -4,8 +4,7 @@ ghost use Rattle.pol_cursor.specs.References.{dangling_of};
 ghost use Rattle.pol_contexts.specs.IbPkeyRecord.{ibpkey_at, ibpkey_in, HasIbPkey, ibpkey_references};
 
 use crate::ibpkey_rec::IbPkeyRec;
-use crate::parts::array_in;
-use pol_context::{ContextView, read_context};
+use pol_context::{ContextView, array_in, read_context};
 use pol_cursor::{Cursor, Fault, Field, Names, ReadAlone, Record, RecordView, u32_in};
 use std::alloc::{AllocError, Global};
 use std::marker::Model;

@@ -71,16 +71,22 @@ impl<'a, const ROW: u8> RecordView<'a> for Named<ROW> {
     }
 }
 
-/// The kind of the entries of IPv4 addresses.
+/// The kind of the entries of addresses of that many bytes.
 #[derive(Drop)]
-pub struct Node;
+pub struct Addresses<const WIDTH: usize>;
 
-impl Record for Node {
-    type Owned = AddressRec<4>;
+/// The kind of the entries of IPv4 addresses.
+pub type Node = Addresses<4>;
 
-    ghost standing = { address_in 4 };
+/// The kind of the entries of IPv6 addresses.
+pub type Node6 = Addresses<16>;
 
-    ghost has = { HasAddress 4 };
+impl<const WIDTH: usize> Record for Addresses<WIDTH> {
+    type Owned = AddressRec<WIDTH>;
+
+    ghost standing = { address_in WIDTH };
+
+    ghost has = { HasAddress WIDTH };
 }
 
 impl ReadAlone for Node {
@@ -92,28 +98,6 @@ impl ReadAlone for Node {
     }
 }
 
-impl<'a> RecordView<'a> for Node {
-    type View = AddressView<'a, 4>;
-
-    ghost shown = { λ v. v };
-
-    fn at(bytes: &'a [u8], place: u32) -> AddressView<'a, 4> {
-        AddressView::at(bytes, place)
-    }
-}
-
-/// The kind of the entries of IPv6 addresses.
-#[derive(Drop)]
-pub struct Node6;
-
-impl Record for Node6 {
-    type Owned = AddressRec<16>;
-
-    ghost standing = { address_in 16 };
-
-    ghost has = { HasAddress 16 };
-}
-
 impl ReadAlone for Node6 {
     ghost reads = { address_at 31 16 };
 
@@ -123,12 +107,12 @@ impl ReadAlone for Node6 {
     }
 }
 
-impl<'a> RecordView<'a> for Node6 {
-    type View = AddressView<'a, 16>;
+impl<'a, const WIDTH: usize> RecordView<'a> for Addresses<WIDTH> {
+    type View = AddressView<'a, WIDTH>;
 
     ghost shown = { λ v. v };
 
-    fn at(bytes: &'a [u8], place: u32) -> AddressView<'a, 16> {
+    fn at(bytes: &'a [u8], place: u32) -> AddressView<'a, WIDTH> {
         AddressView::at(bytes, place)
     }
 }

@@ -18,7 +18,6 @@ mod kinds;
 mod named_rec;
 mod named_view;
 mod named_write;
-mod parts;
 mod port_rec;
 mod port_view;
 mod port_write;

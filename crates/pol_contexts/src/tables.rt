@@ -15,7 +15,8 @@ use crate::port_rec::PortRec;
 use crate::port_view::Port;
 use crate::sid_rec::SidRec;
 use crate::sid_view::Sid;
-use pol_cursor::{Cursor, Field, OwnedList, ReadAlone, ReadError, Records, read_counted};
+use pol_context::read_table;
+use pol_cursor::{Cursor, OwnedList, ReadAlone, ReadError, Records};
 use std::alloc::Global;
 
 // The lists of views, in file order.
@@ -93,18 +94,6 @@ pub fn read_contexts<'a>(
         ibpkey: read_table_if(alloc, c, infiniband, 32)?,
         ibendport: read_table_if(alloc, c, infiniband, 33)?,
     })
-}
-
-// Reads the table of that code.
-#[tactic(auto, unfolding(pol_context::specs::EntryLists::table_at))]
-fn read_table<'a, K: ReadAlone + Drop>(
-    alloc: Global,
-    c: &mut Cursor<'a>,
-    row: u8,
-) -> Result<Records<'a, K>, ReadError>
-    ensures { Yields (λ entries. entries) result (table_at row K.reads) c.old c.new }
-{
-    read_counted(alloc, c, Field { row, part: 1 })
 }
 
 // Reads the table of that code, where there is one.

@@ -3,14 +3,14 @@ ghost use Rattle.pol_context.specs.EntryLists.{table_at};
 ghost use Rattle.pol_genfs.specs.GenfsRecord.{genfs_at};
 
 use crate::genfs_view::Genfs;
-use pol_cursor::{Cursor, Field, ReadError, Records, read_counted};
+use pol_context::read_table;
+use pol_cursor::{Cursor, ReadError, Records};
 use std::alloc::Global;
 
 /// The file systems of genfs, in file order.
 pub type GenfsList<'a> = Records<'a, Genfs>;
 
 /// Reads the count and the file systems of genfs, which are the same in each version.
-#[tactic(auto, unfolding(pol_context::specs::EntryLists::table_at))]
 pub fn read_genfs<'a>(
     alloc: Global,
     c: &mut Cursor<'a>,
@@ -18,5 +18,5 @@ pub fn read_genfs<'a>(
 ) -> Result<GenfsList<'a>, ReadError>
     ensures { Yields (λ list. list) result (table_at 34 genfs_at) c.old c.new }
 {
-    read_counted(alloc, c, Field { row: 34, part: 1 })
+    read_table(alloc, c, 34)
 }
