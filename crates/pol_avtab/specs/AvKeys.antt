@@ -1,5 +1,5 @@
 -- The keys of a table of access vectors, by which libsepol's avtab_insert finds an earlier rule.
-use Rattle.std.specs.Prelude.{ℕ, Bool, ◌==◌, ◌&&◌, List, [], ◌∷◌, ◌++◌, bit_and, if◌then◌else◌}
+use Rattle.std.specs.Prelude.{ℕ, ◌+◌, ◌*◌, Bool, ◌==◌, ◌&&◌, List, [], ◌∷◌, ◌++◌, bit_and, if◌then◌else◌}
 use Rattle.std.specs.List.{list_any}
 use Rattle.pol_avtab.specs.declared.av_key.AvKey.{AvKey}
 use Rattle.pol_avtab.specs.declared.av_rec.AvRec.{AvRec}
@@ -21,3 +21,7 @@ has_key keys key = list_any (same_key key) keys
 -- the keys with another one, each once
 abbrev pub with_key : List AvKey → AvKey → List AvKey
 with_key keys key = if has_key keys key then keys else keys ++ key ∷ []
+
+-- the four numbers of a key in a word of 64 bits
+abbrev pub word_of : AvKey → ℕ
+word_of key = key.source + 0x10000 * (key.target + 0x10000 * (key.class + 0x10000 * key.specified))

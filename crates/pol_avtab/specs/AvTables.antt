@@ -5,7 +5,7 @@ use Rattle.pol_cursor.specs.Parts.{list_of, counted, records_at, spell_counted, 
 use Rattle.pol_cursor.specs.Contexts.{records_after}
 use Rattle.pol_cursor.specs.References.{Placed, placed}
 use Rattle.pol_avtab.specs.declared.av_rec.AvRec.{AvRec}
-use Rattle.pol_avtab.specs.declared.av_kind.AvContext.{AvContext}
+use Rattle.pol_avtab.specs.declared.av_key.AvKey.{AvKey}
 use Rattle.pol_avtab.specs.declared.condnode_rec.CondNodeRec.{CondNodeRec}
 use Rattle.pol_avtab.specs.AvKeys.{key_of, with_key}
 use Rattle.pol_avtab.specs.AvRecord.{av_at, spell_av, AvFits}
@@ -13,16 +13,21 @@ use Rattle.pol_avtab.specs.CondNodeRecord.{condnode_at, spell_condnode, CondNode
 
 -- ---- the table
 
+-- what a rule is read under: the version, and the keys of the rules before it
+pub record Earlier : Type 0 where
+  pub version : ℕ
+  pub keys : List AvKey
+
 -- a rule behind the others
-abbrev pub rule_at : AvContext → Reader AvRec
+abbrev pub rule_at : Earlier → Reader AvRec
 rule_at context = av_at context.version (Some context.keys)
 
 -- what it is read under from then on
-abbrev pub after_rule : AvContext → AvRec → AvContext
+abbrev pub after_rule : Earlier → AvRec → Earlier
 after_rule context av = record { version = context.version; keys = with_key context.keys (key_of av) }
 
 -- the same before the first rule
-abbrev pub no_rules : ℕ → AvContext
+abbrev pub no_rules : ℕ → Earlier
 no_rules version = record { version = version; keys = [] }
 
 -- n rules, each with its place

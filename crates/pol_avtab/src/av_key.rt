@@ -1,5 +1,12 @@
+ghost use Rattle.std.proofs.Common.{rules};
+ghost use Rattle.std.specs.Cmp.Rules.{hashing};
+ghost use Rattle.std.specs.Hash as fed;
+ghost use Rattle.pol_avtab.specs.AvKeys.{word_of};
+
+use std::hash::{Hash, Hasher};
+
 /// What tells one rule of a table from another.
-#[derive(Clone, Copy, Debug, PartialEq, Eq, Hash)]
+#[derive(Clone, Copy, Debug, PartialEq, Eq)]
 pub struct AvKey {
     /// The value of a type or an attribute.
     pub source: u16,
@@ -9,4 +16,16 @@ pub struct AvKey {
     pub class: u16,
     /// The kind of the rule, without the mark 0x8000.
     pub specified: u16,
+}
+
+// The four numbers are hashed as one word, which is one step in place of four.
+impl Hash for AvKey {
+    ghost hash_input = { λ key. fed.u64 (word_of key) };
+
+    ghost respects_eq = { Prim.search (hashing, rules) };
+
+    fn hash<H: Hasher>(&self, state: &mut H) {
+        let high = self.class as u64 + 0x10000 * self.specified as u64;
+        state.write_u64(self.source as u64 + 0x10000 * (self.target as u64 + 0x10000 * high));
+    }
 }

@@ -1,4 +1,4 @@
-ghost use Rattle.std.specs.Prelude.{◌≡◌, [], IfOk, OnOk, OnErr};
+ghost use Rattle.std.specs.Prelude.{◌≡◌, ◌*◌, ◌≤◌, [], IfOk, OnOk, OnErr};
 ghost use Rattle.pol_avtab.specs.AvKeys.{key_of, has_key, with_key};
 
 use crate::av_key::AvKey;
@@ -27,9 +27,17 @@ impl AvKeys {
     pub fn new(alloc: Global) -> AvKeys
         ensures { result ≡ [] }
     {
-        AvKeys {
-            keys: IndexSet::new(alloc),
-        }
+        let keys = IndexSet::new(alloc);
+        AvKeys { keys }
+    }
+
+    /// No key, with room for those of so many rules, which are no more than a policy of the largest size can hold.
+    pub fn with_capacity(alloc: Global, room: u32) -> Result<AvKeys, AllocError>
+        requires { 12 * room ≤ 67108864 }
+        ensures { IfOk result (λ keys. keys ≡ []) }
+    {
+        let keys = IndexSet::with_capacity(alloc, room as usize)?;
+        Ok(AvKeys { keys })
     }
 
     /// Whether a rule has the key. It looks at no other key.

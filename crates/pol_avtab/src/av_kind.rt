@@ -9,12 +9,22 @@ use crate::av_keys::AvKeys;
 use crate::av_rec::AvRec;
 use crate::av_view::{AvView, pass_rule, read_av};
 use pol_cursor::{Cursor, Fault, Inner, ReadAfter, ReadError, Record, RecordView};
+use std::marker::Model;
 
-/// What a rule of the table is read under: the version, and the keys of the rules before it.
+/// What a rule of the table is read under: the version, and the keys of the rules before it. It is handed on from rule to
+/// rule, so the keys are kept behind a pointer.
 #[derive(Drop)]
 pub struct AvContext {
-    pub version: u32,
-    pub keys: AvKeys,
+    pub(crate) version: u32,
+    pub(crate) keys: Box<AvKeys>,
+}
+
+impl Model for AvContext {
+    ghost use Rattle.pol_avtab.specs.AvTables.{Earlier};
+
+    ghost Value = { Earlier };
+
+    ghost view = { λ c. record { version = c.version; keys = c.keys.value } };
 }
 
 /// The kind of access vectors.
@@ -47,13 +57,12 @@ impl<'a> ReadAfter<'a> for Av {
 
     ghost after = { after_rule };
 
-    fn pass(c: &mut Cursor<'a>, context: AvContext) -> Result<AvContext, ReadError>
+    fn pass(c: &mut Cursor<'a>, mut context: AvContext) -> Result<AvContext, ReadError>
         ensures exact { Yields (λ _. av_in c.old.bytes c.old.place) result (rule_at context) c.old c.new }
         ensures stands { OnOk result (HasAv c.old.bytes c.old.place) }
         ensures after { IfOk result (λ context_new. context_new ≡ after_rule context (av_in c.old.bytes c.old.place)) }
     {
         let _bytes = c.bytes();
-        let mut context = context;
         pass_rule(c, context.version, &mut context.keys)?;
         Ok(context)
     }

@@ -2,7 +2,7 @@ ghost use Rattle.std.specs.Prelude.{◌≡◌, ◌+◌, ◌≤◌, true, false, 
 ghost use Rattle.pol_cursor.specs.Outcome.{Answers, Yields};
 ghost use Rattle.pol_cursor.specs.References.{dangling_of};
 ghost use Rattle.pol_avtab.specs.AvKeys.{key_of, has_key, with_key};
-ghost use Rattle.pol_avtab.specs.AvRecord.{extended_at, data_at, part_at, av_at, av_in, part_in, av_length, av_end, HasAv, av_references, part_references, is_default};
+ghost use Rattle.pol_avtab.specs.AvRecord.{extended_at, part_at, av_at, av_in, part_in, av_length, av_end, HasAv, av_references, part_references, is_default};
 ghost use Rattle.pol_avtab.specs.XPerms.{mask_of, xperms_of};
 
 use crate::av_key::AvKey;
@@ -60,11 +60,8 @@ impl<'a> AvView<'a> {
     pub fn end(&self) -> u32
         ensures { result ≡ self.now.place + av_length self.now.value.specified }
     {
-        if is_extended(self.specified()) {
-            self.place + 42
-        } else {
-            self.place + 12
-        }
+        let extended = is_extended(self.specified());
+        self.place + if extended { 42 } else { 12 }
     }
 
     /// The value of the source, a type or an attribute.
@@ -133,30 +130,21 @@ impl<'a> AvView<'a> {
     pub fn xkind(&self) -> Option<u8>
         ensures { result ≡ option_map (λ x. x.xkind) (xperms_of self.now.value.part) }
     {
-        match self.xperms() {
-            None => None,
-            Some(xperms) => Some(xperms.xkind()),
-        }
+        Some(self.xperms()?.xkind())
     }
 
     /// The driver, where it is extended. It has no meaning where the kind is 2.
     pub fn driver(&self) -> Option<u8>
         ensures { result ≡ option_map (λ x. x.driver) (xperms_of self.now.value.part) }
     {
-        match self.xperms() {
-            None => None,
-            Some(xperms) => Some(xperms.driver()),
-        }
+        Some(self.xperms()?.driver())
     }
 
     /// The 32 bytes of the bits, where it is extended.
     pub fn bits(&self) -> Option<[u8; 32]>
         ensures { result ≡ option_map (λ x. x.bits) (xperms_of self.now.value.part) }
     {
-        match self.xperms() {
-            None => None,
-            Some(xperms) => Some(xperms.bits()),
-        }
+        Some(self.xperms()?.bits())
     }
 
     /// The first of source, target, class and default type that no primary record declares, as a fault at its field.
@@ -164,11 +152,22 @@ impl<'a> AvView<'a> {
     pub fn dangling<N: Names>(&self, names: &N) -> Option<Fault>
         ensures { result ≡ dangling_of (N.named names.now) (av_references self.now) }
     {
-        let place = self.place;
         let mentions = [
-            Mention::new(AV, 1, place, TableKind::Types, self.source() as u32),
-            Mention::new(AV, 2, place + 2, TableKind::Types, self.target() as u32),
-            Mention::new(AV, 3, place + 4, TableKind::Classes, self.class() as u32),
+            Mention::new(AV, 1, self.place, TableKind::Types, self.source() as u32),
+            Mention::new(
+                AV,
+                2,
+                self.place + 2,
+                TableKind::Types,
+                self.target() as u32,
+            ),
+            Mention::new(
+                AV,
+                3,
+                self.place + 4,
+                TableKind::Classes,
+                self.class() as u32,
+            ),
         ];
         match first_dangling(names, &mentions) {
             Some(fault) => Some(fault),
@@ -268,10 +267,7 @@ fn pass_av(c: &mut Cursor<'_>, version: u32, earlier: Option<&AvKeys>) -> Result
 fn among(earlier: Option<&AvKeys>, key: AvKey) -> Option<bool>
     ensures { result ≡ option_map (λ keys. has_key keys key) (option_map (λ keys. keys.now) earlier.entry) }
 {
-    match earlier {
-        Some(keys) => Some(keys.has(key)),
-        None => None,
-    }
+    Some(earlier?.has(key))
 }
 
 /// Passes over the rule of a table at the cursor, and adds its key to those of the rules before it.
@@ -302,17 +298,17 @@ pub fn pass_rule(c: &mut Cursor<'_>, version: u32, keys: &mut AvKeys) -> Result<
 }
 
 // Passes over the part that has to be there.
-#[tactic(auto, unfolding(crate::specs::AvRecord::part_at))]
+#[tactic(auto, unfolding(crate::specs::AvRecord::part_at, crate::specs::AvRecord::data_at), using(pol_cursor::proofs::Facts::number_is))]
 fn pass_part(c: &mut Cursor<'_>, extended: bool) -> Result<(), Fault>
     ensures exact { Answers (λ _. part_in extended c.old.bytes c.old.place) result (part_at extended) c.old c.new }
     ensures next { OnOk result (c.new.place ≡ c.old.place + (if extended then 34 else 4)) }
     ensures long { OnOk result (c.new.place ≤ length c.old.bytes) }
 {
     if extended {
-        pass_extended(c)
-    } else {
-        pass_data(c)
+        return pass_extended(c);
     }
+    c.u32(Field { row: AV, part: 8 })?;
+    Ok(())
 }
 
 // Passes over the extended part.
@@ -328,16 +324,5 @@ fn pass_extended(c: &mut Cursor<'_>) -> Result<(), Fault>
     refuse(xkind_cause(xkind), place, field)?;
     c.u8(Field { row: AV, part: 6 })?;
     c.take(32, Field { row: AV, part: 7 })?;
-    Ok(())
-}
-
-// Passes over the data.
-#[tactic(auto, unfolding(crate::specs::AvRecord::data_at), using(pol_cursor::proofs::Facts::number_is))]
-fn pass_data(c: &mut Cursor<'_>) -> Result<(), Fault>
-    ensures exact { Answers (λ _. part_in false c.old.bytes c.old.place) result data_at c.old c.new }
-    ensures next { OnOk result (c.new.place ≡ c.old.place + 4) }
-    ensures long { OnOk result (c.new.place ≤ length c.old.bytes) }
-{
-    c.u32(Field { row: AV, part: 8 })?;
     Ok(())
 }

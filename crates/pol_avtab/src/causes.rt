@@ -2,7 +2,7 @@
 
 ghost use Rattle.std.specs.Prelude.{◌≡◌};
 ghost use Rattle.pol_avtab.specs.AvKeys.{kind_of};
-ghost use Rattle.pol_avtab.specs.AvRecord.{is_extended, is_default, is_kind, standing_test, kind_test, xkind_test};
+ghost use Rattle.pol_avtab.specs.AvRecord.{is_extended, is_default, is_kind, kind_test, xkind_test};
 
 use crate::av_key::AvKey;
 use pol_cursor::Cause;
@@ -46,37 +46,16 @@ fn is_kind(version: u32, kind: u16) -> bool
     }
 }
 
-// Whether a rule may stand where it stands: in a table, where an earlier rule has its key or none has, or under a condition.
-fn standing_cause(version: u32, earlier: Option<bool>, key: AvKey) -> Option<Cause>
-    ensures { result ≡ standing_test version earlier key }
-{
-    match earlier {
-        None => {
-            if version < 34 && is_extended(key.specified) {
-                Some(Cause::ExtendedInCondition)
-            } else {
-                None
-            }
-        }
-        Some(has) => {
-            if !is_extended(key.specified) && has {
-                Some(Cause::DuplicateRule)
-            } else {
-                None
-            }
-        }
-    }
-}
-
 /// `BadSpecified` where a version has no such kind, and else the cause not to stand there: in a table, where an earlier rule has
 /// the key or none has, or, with none, under a condition.
 pub fn kind_cause(version: u32, earlier: Option<bool>, key: AvKey) -> Option<Cause>
     ensures { result ≡ kind_test version earlier key }
 {
-    if is_kind(version, key.specified) {
-        standing_cause(version, earlier, key)
-    } else {
-        Some(Cause::BadSpecified)
+    match earlier {
+        _ if !is_kind(version, key.specified) => Some(Cause::BadSpecified),
+        None if version < 34 && is_extended(key.specified) => Some(Cause::ExtendedInCondition),
+        Some(true) if !is_extended(key.specified) => Some(Cause::DuplicateRule),
+        _ => None,
     }
 }
 

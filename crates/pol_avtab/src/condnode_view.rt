@@ -16,7 +16,7 @@ use std::alloc::{AllocError, Global};
 use std::marker::Model;
 
 // The code of a conditional node's record.
-const CONDNODE: u8 = 19;
+const NODE: u8 = 19;
 
 /// A conditional node in the buffer. Contracts see it with its place.
 #[derive(Drop)]
@@ -221,10 +221,7 @@ fn pass_rules(c: &mut Cursor<'_>, version: u32, part: u8) -> Result<(), Fault>
     ensures stand { OnOk result (HasRules c.old.bytes c.old.place) }
     ensures next { OnOk result (c.new.place ≡ rules_end c.old.bytes c.old.place) }
 {
-    let n = c.u32(Field {
-        row: CONDNODE,
-        part,
-    })?;
+    let n = c.u32(Field { row: NODE, part })?;
     read_run::<Av>(c, n, &version)?;
     Ok(())
 }

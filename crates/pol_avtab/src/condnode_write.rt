@@ -2,9 +2,8 @@ ghost use Rattle.std.specs.Prelude.{◌≡◌, ◌++◌, OnOk};
 ghost use Rattle.pol_avtab.specs.CondNodeRecord.{spell_condnode};
 ghost use Rattle.pol_avtab.specs.AvTables.{spell_table, spell_conditionals};
 
-use crate::av_rec::AvRec;
 use crate::av_write::write_av;
-use crate::condnode_rec::CondNodeRec;
+use crate::condnode_rec::{AvRecList, CondNodeRec};
 use pol_cursor::{OwnedList, push_number};
 use pol_expr::write_condition;
 use std::alloc::AllocError;
@@ -12,11 +11,7 @@ use std::alloc::AllocError;
 /// Appends the bytes of a table of access vectors, which are the same in each version: their number, and then they.
 ///
 /// After want of memory a part of them may be there.
-pub fn write_table(
-    rules: &OwnedList<AvRec>,
-    version: u32,
-    out: &mut Vec<u8>,
-) -> Result<(), AllocError>
+pub fn write_table(rules: &AvRecList, version: u32, out: &mut Vec<u8>) -> Result<(), AllocError>
     ensures { OnOk result (out.new.items ≡ out.old.items ++ spell_table rules.now) }
 {
     push_number(out, 4, rules.len() as u64)?;

@@ -36,10 +36,8 @@ impl PlaceGroups {
     pub fn new(alloc: Global) -> PlaceGroups
         ensures { result ≡ [] }
     {
-        PlaceGroups {
-            places: Vec::new(alloc),
-            spans: Vec::new(alloc),
-        }
+        let (places, spans) = (Vec::new(alloc), Vec::new(alloc));
+        PlaceGroups { places, spans }
     }
 
     /// The list of that number, from 0 on.

@@ -72,24 +72,17 @@ impl<'a> XPerms<'a> {
     }
 
     /// The least number at or above a number that it holds, and `None` exactly where there is none.
-
     pub fn next_from(&self, number: u16) -> Option<u16>
         ensures some { IfSome result (IsLeastFrom (numbers_of self.now) number) }
         ensures none { IfNone result (All (λ n. n < number) (numbers_of self.now)) }
     {
         if self.xkind() == 1 {
             let first = self.driver() as u16 * 256;
-            match self.next_bit(number.saturating_sub(first)) {
-                None => None,
-                Some(bit) => Some(first + bit),
-            }
+            Some(first + self.next_bit(number.saturating_sub(first))?)
         } else if self.has_bit(number / 256) {
             Some(number)
         } else {
-            match self.next_bit(number / 256 + 1) {
-                None => None,
-                Some(driver) => Some(driver * 256),
-            }
+            Some(self.next_bit(number / 256 + 1)? * 256)
         }
     }
 
@@ -119,10 +112,8 @@ impl<'a> XPerms<'a> {
         requires { bit < 256 }
         ensures { result ≡ has_xbit self.now.bits bit }
     {
-        let word = u32_in(
-            self.bytes,
-            self.place as usize + 2 + 4 * (bit as usize / 32),
-        );
+        let place = self.place as usize + 2 + 4 * (bit as usize / 32);
+        let word = u32_in(self.bytes, place);
         word >> (bit % 32) & 1 == 1
     }
 }
