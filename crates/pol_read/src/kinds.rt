@@ -1,4 +1,24 @@
 // The kinds of records that have references.
+ghost use Rattle.pol_datums.specs.RoleRecord.{role_references};
+ghost use Rattle.pol_datums.specs.TypeRecord.{type_references};
+ghost use Rattle.pol_symbols.specs.UserRecord.{user_references};
+ghost use Rattle.pol_datums.specs.SensitivityRecord.{sensitivity_references};
+ghost use Rattle.pol_datums.specs.CategoryRecord.{category_references};
+ghost use Rattle.pol_avtab.specs.AvRecord.{av_references};
+ghost use Rattle.pol_trans.specs.RoleTransRecord.{role_trans_references};
+ghost use Rattle.pol_trans.specs.RoleAllowRecord.{role_allow_references};
+ghost use Rattle.pol_trans.specs.NameTransRecord.{name_trans_references};
+ghost use Rattle.pol_trans.specs.NameGroupRecord.{name_group_references};
+ghost use Rattle.pol_trans.specs.RangeTransRecord.{range_trans_references};
+ghost use Rattle.pol_contexts.specs.SidRecord.{sid_references};
+ghost use Rattle.pol_contexts.specs.NamedRecord.{named_references};
+ghost use Rattle.pol_contexts.specs.PortRecord.{port_references};
+ghost use Rattle.pol_contexts.specs.AddressRecord.{address_references};
+ghost use Rattle.pol_contexts.specs.FsUseRecord.{fsuse_references};
+ghost use Rattle.pol_contexts.specs.IbPkeyRecord.{ibpkey_references};
+ghost use Rattle.pol_contexts.specs.IbEndPortRecord.{ibendport_references};
+ghost use Rattle.pol_contexts.specs.GenfsRecord.{genfs_references};
+
 use crate::referring::Referring;
 use pol_avtab::Av;
 use pol_contexts::{Fs, FsUse, Genfs, IbEndPort, IbPkey, Netif, Node, Node6, Port, Sid};
@@ -8,8 +28,6 @@ use pol_symbols::User;
 use pol_trans::{NameGroupRec, NameTransRec, RangeTransRec, RoleAllowRec, RoleTransRec};
 
 impl<'a> Referring<'a> for Role {
-    ghost use Rattle.pol_datums.specs.RoleRecord.{role_references};
-
     ghost references = { role_references };
 
     fn dangling<N: Names>(view: &Self::View, names: &N) -> Option<Fault> {
@@ -18,8 +36,6 @@ impl<'a> Referring<'a> for Role {
 }
 
 impl<'a> Referring<'a> for Type {
-    ghost use Rattle.pol_datums.specs.TypeRecord.{type_references};
-
     ghost references = { type_references };
 
     fn dangling<N: Names>(view: &Self::View, names: &N) -> Option<Fault> {
@@ -28,8 +44,6 @@ impl<'a> Referring<'a> for Type {
 }
 
 impl<'a> Referring<'a> for User {
-    ghost use Rattle.pol_symbols.specs.UserRecord.{user_references};
-
     ghost references = { user_references };
 
     fn dangling<N: Names>(view: &Self::View, names: &N) -> Option<Fault> {
@@ -38,8 +52,6 @@ impl<'a> Referring<'a> for User {
 }
 
 impl<'a> Referring<'a> for Sensitivity {
-    ghost use Rattle.pol_datums.specs.SensitivityRecord.{sensitivity_references};
-
     ghost references = { sensitivity_references };
 
     fn dangling<N: Names>(view: &Self::View, names: &N) -> Option<Fault> {
@@ -48,8 +60,6 @@ impl<'a> Referring<'a> for Sensitivity {
 }
 
 impl<'a> Referring<'a> for Category {
-    ghost use Rattle.pol_datums.specs.CategoryRecord.{category_references};
-
     ghost references = { category_references };
 
     fn dangling<N: Names>(view: &Self::View, names: &N) -> Option<Fault> {
@@ -58,8 +68,6 @@ impl<'a> Referring<'a> for Category {
 }
 
 impl<'a> Referring<'a> for Av {
-    ghost use Rattle.pol_avtab.specs.AvRecord.{av_references};
-
     ghost references = { av_references };
 
     fn dangling<N: Names>(view: &Self::View, names: &N) -> Option<Fault> {
@@ -68,8 +76,6 @@ impl<'a> Referring<'a> for Av {
 }
 
 impl<'a> Referring<'a> for RoleTransRec {
-    ghost use Rattle.pol_trans.specs.RoleTransRecord.{role_trans_references};
-
     ghost references = { role_trans_references };
 
     fn dangling<N: Names>(view: &Self::View, names: &N) -> Option<Fault> {
@@ -78,8 +84,6 @@ impl<'a> Referring<'a> for RoleTransRec {
 }
 
 impl<'a> Referring<'a> for RoleAllowRec {
-    ghost use Rattle.pol_trans.specs.RoleAllowRecord.{role_allow_references};
-
     ghost references = { role_allow_references };
 
     fn dangling<N: Names>(view: &Self::View, names: &N) -> Option<Fault> {
@@ -88,8 +92,6 @@ impl<'a> Referring<'a> for RoleAllowRec {
 }
 
 impl<'a> Referring<'a> for NameTransRec {
-    ghost use Rattle.pol_trans.specs.NameTransRecord.{name_trans_references};
-
     ghost references = { name_trans_references };
 
     fn dangling<N: Names>(view: &Self::View, names: &N) -> Option<Fault> {
@@ -98,8 +100,6 @@ impl<'a> Referring<'a> for NameTransRec {
 }
 
 impl<'a> Referring<'a> for NameGroupRec {
-    ghost use Rattle.pol_trans.specs.NameGroupRecord.{name_group_references};
-
     ghost references = { name_group_references };
 
     fn dangling<N: Names>(view: &Self::View, names: &N) -> Option<Fault> {
@@ -108,8 +108,6 @@ impl<'a> Referring<'a> for NameGroupRec {
 }
 
 impl<'a> Referring<'a> for RangeTransRec {
-    ghost use Rattle.pol_trans.specs.RangeTransRecord.{range_trans_references};
-
     ghost references = { range_trans_references };
 
     fn dangling<N: Names>(view: &Self::View, names: &N) -> Option<Fault> {
@@ -118,8 +116,6 @@ impl<'a> Referring<'a> for RangeTransRec {
 }
 
 impl<'a> Referring<'a> for Sid {
-    ghost use Rattle.pol_contexts.specs.SidRecord.{sid_references};
-
     ghost references = { sid_references };
 
     fn dangling<N: Names>(view: &Self::View, names: &N) -> Option<Fault> {
@@ -128,8 +124,6 @@ impl<'a> Referring<'a> for Sid {
 }
 
 impl<'a> Referring<'a> for Fs {
-    ghost use Rattle.pol_contexts.specs.NamedRecord.{named_references};
-
     ghost references = { named_references };
 
     fn dangling<N: Names>(view: &Self::View, names: &N) -> Option<Fault> {
@@ -138,8 +132,6 @@ impl<'a> Referring<'a> for Fs {
 }
 
 impl<'a> Referring<'a> for Port {
-    ghost use Rattle.pol_contexts.specs.PortRecord.{port_references};
-
     ghost references = { port_references };
 
     fn dangling<N: Names>(view: &Self::View, names: &N) -> Option<Fault> {
@@ -148,8 +140,6 @@ impl<'a> Referring<'a> for Port {
 }
 
 impl<'a> Referring<'a> for Netif {
-    ghost use Rattle.pol_contexts.specs.NamedRecord.{named_references};
-
     ghost references = { named_references };
 
     fn dangling<N: Names>(view: &Self::View, names: &N) -> Option<Fault> {
@@ -158,8 +148,6 @@ impl<'a> Referring<'a> for Netif {
 }
 
 impl<'a> Referring<'a> for Node {
-    ghost use Rattle.pol_contexts.specs.AddressRecord.{address_references};
-
     ghost references = { address_references 4 };
 
     fn dangling<N: Names>(view: &Self::View, names: &N) -> Option<Fault> {
@@ -168,8 +156,6 @@ impl<'a> Referring<'a> for Node {
 }
 
 impl<'a> Referring<'a> for FsUse {
-    ghost use Rattle.pol_contexts.specs.FsUseRecord.{fsuse_references};
-
     ghost references = { fsuse_references };
 
     fn dangling<N: Names>(view: &Self::View, names: &N) -> Option<Fault> {
@@ -178,8 +164,6 @@ impl<'a> Referring<'a> for FsUse {
 }
 
 impl<'a> Referring<'a> for Node6 {
-    ghost use Rattle.pol_contexts.specs.AddressRecord.{address_references};
-
     ghost references = { address_references 16 };
 
     fn dangling<N: Names>(view: &Self::View, names: &N) -> Option<Fault> {
@@ -188,8 +172,6 @@ impl<'a> Referring<'a> for Node6 {
 }
 
 impl<'a> Referring<'a> for IbPkey {
-    ghost use Rattle.pol_contexts.specs.IbPkeyRecord.{ibpkey_references};
-
     ghost references = { ibpkey_references };
 
     fn dangling<N: Names>(view: &Self::View, names: &N) -> Option<Fault> {
@@ -198,8 +180,6 @@ impl<'a> Referring<'a> for IbPkey {
 }
 
 impl<'a> Referring<'a> for IbEndPort {
-    ghost use Rattle.pol_contexts.specs.IbEndPortRecord.{ibendport_references};
-
     ghost references = { ibendport_references };
 
     fn dangling<N: Names>(view: &Self::View, names: &N) -> Option<Fault> {
@@ -208,8 +188,6 @@ impl<'a> Referring<'a> for IbEndPort {
 }
 
 impl<'a> Referring<'a> for Genfs {
-    ghost use Rattle.pol_contexts.specs.GenfsRecord.{genfs_references};
-
     ghost references = { genfs_references };
 
     fn dangling<N: Names>(view: &Self::View, names: &N) -> Option<Fault> {
