@@ -1,4 +1,11 @@
-pub mod ReadValues
+pub mod CutParts
+pub mod AcceptedPolicies
+pub mod SpelledLists
+pub mod SpelledParts
+pub mod SpelledPolicy
+pub mod CutRecords
+pub mod CutTables
+pub mod CutPolicies
 pub mod ShapedParts
 pub mod ShapedRecords
 pub mod ShapedTables

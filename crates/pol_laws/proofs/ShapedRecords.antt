@@ -1,5 +1,5 @@
 -- Records that are read have no wrong optional part.
-use Rattle.std.proofs.Common.{◌≡◌, ℕ, ◌==◌, Bool, true, false, Option, Some, None, List, refl}
+use Rattle.std.proofs.Common.{◌≡◌, ℕ, ◌==◌, ◌&&◌, IfSome, Bool, true, false, Option, Some, None, List, refl}
 use Rattle.std.specs.Prelude.{is_some}
 use Rattle.pol_cursor.specs.Outcome.{field}
 use Rattle.pol_cursor.specs.Parts.{number, number_if, string}
@@ -8,8 +8,11 @@ use Rattle.pol_bitmap.specs.declared.Node.{Node}
 use Rattle.pol_bitmap.specs.Bitmap.{bitmap_at}
 use Rattle.pol_mls.specs.LevelRecord.{level_at}
 use Rattle.pol_mls.specs.RangeRecord.{range_at, level_of}
-use Rattle.pol_constraints.specs.ConstraintRecord.{name_set_at, item_at, items_at, values_after_item, constraint_at}
+use Rattle.pol_constraints.specs.declared.NameSet.{NameSet}
+use Rattle.pol_constraints.specs.ConstraintRecord.{has_type_set, type_set_at, name_set_at, item_at, items_at, values_after_item, constraint_at}
 use Rattle.pol_symtab.specs.Claims.{Claims}
+use Rattle.pol_symtab.specs.Freshness.{Gives}
+use Rattle.pol_symtab.proofs.FreshRecords.{Gives-part, Gives-any, Gives-done}
 use Rattle.pol_symtab.specs.SymbolTables.{Table}
 use Rattle.pol_commons.specs.declared.CommonRec.{CommonRec}
 use Rattle.pol_commons.specs.CommonTable.{inherited_from}
@@ -33,9 +36,9 @@ use Rattle.pol_contexts.specs.FsUseRecord.{behaviour_at, fsuse_at}
 use Rattle.pol_contexts.specs.IbPkeyRecord.{ibpkey_at}
 use Rattle.pol_contexts.specs.IbEndPortRecord.{ibendport_at}
 use Rattle.pol_genfs.specs.GenfsRecord.{path_at, genfs_at}
-use Rattle.pol_laws.specs.RecordShapes.{shape_of_range, shape_of_item, shape_of_constraint, shape_of_class, shape_of_user, shape_of_av, shape_of_condnode, shape_of_range_trans, shape_of_context, shape_of_sid, shape_of_named, shape_of_port, shape_of_address, shape_of_fsuse, shape_of_ibpkey, shape_of_ibendport, shape_of_path, shape_of_genfs}
-use Rattle.pol_laws.proofs.ReadValues.{Gives, gives-done, gives-part, gives-others, gives-optional}
-use Rattle.pol_laws.proofs.ShapedParts.{IsShaped, part_shaped, none-first, none-last, shaped-list_of, shaped-records_at, shaped-counted}
+use Rattle.pol_read.proofs.ReadValues.{gives-others}
+use Rattle.pol_laws.specs.RecordShapes.{shape_of_range, type_set_of, shape_of_item, shape_of_constraint, shape_of_class, shape_of_user, shape_of_av, shape_of_condnode, shape_of_range_trans, shape_of_context, shape_of_sid, shape_of_named, shape_of_port, shape_of_address, shape_of_fsuse, shape_of_ibpkey, shape_of_ibendport, shape_of_path, shape_of_genfs}
+use Rattle.pol_laws.proofs.ShapedParts.{IsShaped, part_shaped, none-first, none-last, gives-optional, shaped-list_of, shaped-records_at, shaped-counted}
 
 -- ---- a range
 
@@ -50,42 +53,59 @@ unfolding range_at
 range_shaped =
     gives-others (number_if _ 4 _) λ n.
     gives-others (number _ 4) λ low.
-    gives-part (gives-optional (number _ 4) (n == 2)) λ high high-there.
+    Gives-part (gives-optional (n == 2) (Gives-any (number _ 4))) λ high high-there.
     gives-others (bitmap_at None) λ low_categories.
-    gives-part (gives-optional (bitmap_at None) (n == 2)) λ high_categories high_categories-there.
-    gives-done _ (part_shaped (n == 2) (level_of high high_categories) (field 15 3) (level_there (n == 2) high high_categories high-there high_categories-there))
+    Gives-part (gives-optional (n == 2) (Gives-any (bitmap_at None))) λ high_categories high_categories-there.
+    Gives-done _ _ (part_shaped (n == 2) (level_of high high_categories) (field 15 3) (level_there (n == 2) high high_categories high-there.0 high_categories-there.0))
 
 -- ---- symbols
 
-item_shaped : (version : ℕ) (xtarget : Bool) (left values : ℕ) → IsShaped (item_at version xtarget left values) shape_of_item
+name_set_shaped : (version : ℕ) → Gives (name_set_at version) (λ set. is_some set.written ≡ has_type_set version)
+unfolding name_set_at
+name_set_shaped version =
+    gives-others (bitmap_at None) λ names.
+    Gives-part (gives-optional (has_type_set version) (Gives-any type_set_at)) λ written written-there.
+    Gives-done _ _ written-there.0
+
+-- names come with a type set exactly in the versions that have it
+type_set_there : (version : ℕ) (there : Bool) (set : Option NameSet) → is_some set ≡ there → IfSome set (λ set. is_some set.written ≡ has_type_set version) → is_some (type_set_of set) ≡ (there && has_type_set version)
+type_set_there version true (Some set) e h = h
+type_set_there version true None e h = absurd cc
+type_set_there version false (Some set) e h = absurd cc
+type_set_there version false None e h = refl
+
+item_shaped : (version : ℕ) (xtarget : Bool) (left values : ℕ) → IsShaped (item_at version xtarget left values) (shape_of_item version)
 unfolding item_at
 item_shaped version xtarget left values =
     gives-others (number_if _ 4 _) λ kind.
     gives-others (number_if _ 4 _) λ attr.
     gives-others (number_if _ 4 _) λ op.
-    gives-part (gives-optional (name_set_at version) (kind == 5)) λ set set-there.
-    gives-done _ (part_shaped (kind == 5) set (field 7 6) set-there)
+    Gives-part (gives-optional (kind == 5) (name_set_shaped version)) λ set set-there.
+    Gives-done _ _
+    (none-first _ _ (part_shaped (kind == 5) set (field 7 6) set-there.0)
+    (none-first _ _ (part_shaped (kind == 5 && has_type_set version) (type_set_of set) (field 7 6) (type_set_there version (kind == 5) set set-there.0 set-there.1))
+    none-last))
 
-constraint_shaped : (version : ℕ) (xtarget : Bool) → IsShaped (constraint_at version xtarget) shape_of_constraint
+constraint_shaped : (version : ℕ) (xtarget : Bool) → IsShaped (constraint_at version xtarget) (shape_of_constraint version)
 unfolding constraint_at items_at
 constraint_shaped version xtarget =
     gives-others (number _ 4) λ permissions.
     gives-others (number_if _ 4 _) λ count.
-    gives-part (shaped-list_of (item_at version xtarget) values_after_item shape_of_item (item_shaped version xtarget) count 0) λ items items-shaped.
-    gives-done _ items-shaped
+    Gives-part (shaped-list_of (item_at version xtarget) values_after_item (shape_of_item version) (item_shaped version xtarget) count 0) λ items items-shaped.
+    Gives-done _ _ items-shaped
 
-pub class_shaped : (version : ℕ) (taken : Claims) (nprim : ℕ) (commons : Table CommonRec) → IsShaped (class_at version taken nprim commons) shape_of_class
+pub class_shaped : (version : ℕ) (taken : Claims) (nprim : ℕ) (commons : Table CommonRec) → IsShaped (class_at version taken nprim commons) (shape_of_class version)
 unfolding class_at
 class_shaped version taken nprim commons =
     gives-others (head_at taken nprim commons) λ head.
     gives-others (permissions_at (inherited_from commons head.common) head.nel) λ permissions.
-    gives-part (shaped-records_at _ _ (constraint_shaped version false) head.ncons) λ constraints constraints-shaped.
-    gives-part (shaped-counted _ (constraint_shaped version true)) λ validatetrans validatetrans-shaped.
+    Gives-part (shaped-records_at _ _ (constraint_shaped version false) head.ncons) λ constraints constraints-shaped.
+    Gives-part (shaped-counted _ (constraint_shaped version true)) λ validatetrans validatetrans-shaped.
     gives-others (default_at 10 2) λ default_user.
     gives-others (default_at 11 2) λ default_role.
     gives-others (default_at 12 7) λ default_range.
     gives-others (default_at 13 2) λ default_type.
-    gives-done _ (none-first _ _ constraints-shaped (none-first _ _ validatetrans-shaped none-last))
+    Gives-done _ _ (none-first _ _ constraints-shaped (none-first _ _ validatetrans-shaped none-last))
 
 pub user_shaped : (taken : Claims) (nprim : ℕ) → IsShaped (user_at taken nprim) shape_of_user
 unfolding user_at
@@ -95,9 +115,9 @@ user_shaped taken nprim =
     gives-others (bounds_at 10 3) λ bounds.
     gives-others (symbol_name_at 10 4 taken len) λ name.
     gives-others (bitmap_at None) λ roles.
-    gives-part range_shaped λ range range-shaped.
+    Gives-part range_shaped λ range range-shaped.
     gives-others level_at λ level.
-    gives-done _ range-shaped
+    Gives-done _ _ range-shaped
 
 -- ---- rules
 
@@ -107,13 +127,13 @@ extended_there =
     gives-others (number_if _ 1 _) λ xkind.
     gives-others (number _ 1) λ driver.
     gives-others (string _ 32) λ bits.
-    gives-done _ refl
+    Gives-done _ _ refl
 
 data_there : Gives data_at (λ part. is_some (xperms_of part) ≡ false)
 unfolding data_at
 data_there =
     gives-others (number _ 4) λ mask.
-    gives-done _ refl
+    Gives-done _ _ refl
 
 part_there : (extended : Bool) → Gives (part_at extended) (λ part. is_some (xperms_of part) ≡ extended)
 unfolding part_at
@@ -127,16 +147,16 @@ av_shaped version earlier =
     gives-others (number _ 2) λ target.
     gives-others (number _ 2) λ class.
     gives-others (number_if _ 2 _) λ specified.
-    gives-part (part_there (is_extended specified)) λ part there.
-    gives-done _ (part_shaped (is_extended specified) (xperms_of part) (field 16 5) there)
+    Gives-part (part_there (is_extended specified)) λ part there.
+    Gives-done _ _ (part_shaped (is_extended specified) (xperms_of part) (field 16 5) there)
 
 pub condnode_shaped : (version : ℕ) → IsShaped (condnode_at version) shape_of_condnode
 unfolding condnode_at
 condnode_shaped version =
     gives-others condition_at λ condition.
-    gives-part (shaped-counted _ (av_shaped version None)) λ true_rules true_rules-shaped.
-    gives-part (shaped-counted _ (av_shaped version None)) λ false_rules false_rules-shaped.
-    gives-done _ (none-first _ _ true_rules-shaped (none-first _ _ false_rules-shaped none-last))
+    Gives-part (shaped-counted _ (av_shaped version None)) λ true_rules true_rules-shaped.
+    Gives-part (shaped-counted _ (av_shaped version None)) λ false_rules false_rules-shaped.
+    Gives-done _ _ (none-first _ _ true_rules-shaped (none-first _ _ false_rules-shaped none-last))
 
 pub range_trans_shaped : IsShaped range_trans_at shape_of_range_trans
 unfolding range_trans_at
@@ -144,8 +164,8 @@ range_trans_shaped =
     gives-others (number _ 4) λ source.
     gives-others (number _ 4) λ target.
     gives-others (number _ 4) λ class.
-    gives-part range_shaped λ range range-shaped.
-    gives-done _ range-shaped
+    Gives-part range_shaped λ range range-shaped.
+    Gives-done _ _ range-shaped
 
 -- ---- contexts
 
@@ -155,23 +175,23 @@ context_shaped =
     gives-others (number _ 4) λ user.
     gives-others (number _ 4) λ role.
     gives-others (number _ 4) λ type_value.
-    gives-part range_shaped λ range range-shaped.
-    gives-done _ range-shaped
+    Gives-part range_shaped λ range range-shaped.
+    Gives-done _ _ range-shaped
 
 pub sid_shaped : IsShaped sid_at shape_of_sid
 unfolding sid_at
 sid_shaped =
     gives-others (number _ 4) λ sid.
-    gives-part context_shaped λ context context-shaped.
-    gives-done _ context-shaped
+    Gives-part context_shaped λ context context-shaped.
+    Gives-done _ _ context-shaped
 
 pub named_shaped : (row : ℕ) → IsShaped (named_at row) shape_of_named
 unfolding named_at
 named_shaped row =
     gives-others (name_at row 2) λ name.
-    gives-part context_shaped λ context context-shaped.
-    gives-part context_shaped λ second_context second_context-shaped.
-    gives-done _ (none-first _ _ context-shaped (none-first _ _ second_context-shaped none-last))
+    Gives-part context_shaped λ context context-shaped.
+    Gives-part context_shaped λ second_context second_context-shaped.
+    Gives-done _ _ (none-first _ _ context-shaped (none-first _ _ second_context-shaped none-last))
 
 pub port_shaped : IsShaped port_at shape_of_port
 unfolding port_at
@@ -179,24 +199,24 @@ port_shaped =
     gives-others (number _ 4) λ protocol.
     gives-others (number _ 4) λ low.
     gives-others (number _ 4) λ high.
-    gives-part context_shaped λ context context-shaped.
-    gives-done _ context-shaped
+    Gives-part context_shaped λ context context-shaped.
+    Gives-done _ _ context-shaped
 
 pub address_shaped : (row width : ℕ) → IsShaped (address_at row width) (shape_of_address {width = width})
 unfolding address_at
 address_shaped row width =
     gives-others (string _ width) λ address.
     gives-others (string _ width) λ mask.
-    gives-part context_shaped λ context context-shaped.
-    gives-done _ context-shaped
+    Gives-part context_shaped λ context context-shaped.
+    Gives-done _ _ context-shaped
 
 pub fsuse_shaped : IsShaped fsuse_at shape_of_fsuse
 unfolding fsuse_at
 fsuse_shaped =
     gives-others behaviour_at λ behaviour.
     gives-others (name_at 30 3) λ name.
-    gives-part context_shaped λ context context-shaped.
-    gives-done _ context-shaped
+    Gives-part context_shaped λ context context-shaped.
+    Gives-done _ _ context-shaped
 
 pub ibpkey_shaped : IsShaped ibpkey_at shape_of_ibpkey
 unfolding ibpkey_at
@@ -204,8 +224,8 @@ ibpkey_shaped =
     gives-others (string _ 8) λ prefix.
     gives-others (number _ 4) λ low.
     gives-others (number _ 4) λ high.
-    gives-part context_shaped λ context context-shaped.
-    gives-done _ context-shaped
+    Gives-part context_shaped λ context context-shaped.
+    Gives-done _ _ context-shaped
 
 pub ibendport_shaped : IsShaped ibendport_at shape_of_ibendport
 unfolding ibendport_at
@@ -213,20 +233,20 @@ ibendport_shaped =
     gives-others (name_length_at 33 2) λ len.
     gives-others (number _ 4) λ port.
     gives-others (name_bytes_at 33 4 len) λ name.
-    gives-part context_shaped λ context context-shaped.
-    gives-done _ context-shaped
+    Gives-part context_shaped λ context context-shaped.
+    Gives-done _ _ context-shaped
 
 path_shaped : IsShaped path_at shape_of_path
 unfolding path_at
 path_shaped =
     gives-others (name_at 34 5) λ path.
     gives-others (number _ 4) λ class.
-    gives-part context_shaped λ context context-shaped.
-    gives-done _ context-shaped
+    Gives-part context_shaped λ context context-shaped.
+    Gives-done _ _ context-shaped
 
 pub genfs_shaped : IsShaped genfs_at shape_of_genfs
 unfolding genfs_at
 genfs_shaped =
     gives-others (name_at 34 2) λ fstype.
-    gives-part (shaped-counted _ path_shaped) λ paths paths-shaped.
-    gives-done _ paths-shaped
+    Gives-part (shaped-counted _ path_shaped) λ paths paths-shaped.
+    Gives-done _ _ paths-shaped

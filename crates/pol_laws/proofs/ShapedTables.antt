@@ -4,6 +4,8 @@ use Rattle.pol_cursor.specs.declared.Field.{Field}
 use Rattle.pol_cursor.specs.Outcome.{Reader, field}
 use Rattle.pol_cursor.specs.Parts.{number, counted, records_at}
 use Rattle.pol_cursor.specs.References.{Placed, placed}
+use Rattle.pol_symtab.specs.Freshness.{Gives}
+use Rattle.pol_symtab.proofs.FreshRecords.{Gives-part, Gives-done}
 use Rattle.pol_symtab.specs.SymbolTables.{Table, table_head_at, table_records_at, table_at, table_start}
 use Rattle.pol_commons.specs.declared.CommonRec.{CommonRec}
 use Rattle.pol_commons.specs.CommonTable.{commons_at}
@@ -15,11 +17,11 @@ use Rattle.pol_trans.specs.NameGroupRecord.{name_group_at}
 use Rattle.pol_trans.specs.NameTransitions.{entries_at, groups_at, name_transitions_at}
 use Rattle.pol_context.specs.EntryLists.{table_at as context_table_at}
 use Rattle.pol_contexts.specs.ContextTables.{table_if, has_infiniband, contexts_at}
+use Rattle.pol_read.proofs.ReadValues.{gives-others}
 use Rattle.pol_laws.specs.OptionalParts.{shape_of_list, first_placed}
 use Rattle.pol_laws.specs.RecordShapes.{shape_of_class, shape_of_user, shape_of_av, shape_of_condnode}
 use Rattle.pol_laws.specs.TableShapes.{shape_of_symbols, has_groups, shape_of_name_transitions, shape_of_contexts}
-use Rattle.pol_laws.proofs.ReadValues.{Gives, gives-done, gives-part, gives-others, gives-either}
-use Rattle.pol_laws.proofs.ShapedParts.{IsShaped, none-first, none-last, shaped-placed_list, shaped-records_after}
+use Rattle.pol_laws.proofs.ShapedParts.{IsShaped, none-first, none-last, gives-either, shaped-placed_list, shaped-records_after}
 use Rattle.pol_laws.proofs.ShapedRecords.{class_shaped, user_shaped, av_shaped, condnode_shaped, sid_shaped, named_shaped, port_shaped, address_shaped, fsuse_shaped, ibpkey_shaped, ibendport_shaped}
 
 -- ---- symbols
@@ -29,42 +31,42 @@ shaped-table : {S A : Type 0} (record_at : S → Reader A) (after : S → A → 
 unfolding table_at table_records_at
 shaped-table record_at after start shape each =
     gives-others table_head_at λ head.
-    gives-part (shaped-records_after record_at after shape each head.nel (start head.nprim)) λ records records-shaped.
-    gives-done _ records-shaped
+    Gives-part (shaped-records_after record_at after shape each head.nel (start head.nprim)) λ records records-shaped.
+    Gives-done _ _ records-shaped
 
-classes_shaped : (version : ℕ) (commons : Table CommonRec) → IsShaped (class_table_at version commons) (λ table. first_placed shape_of_class table.records)
+classes_shaped : (version : ℕ) (commons : Table CommonRec) → IsShaped (class_table_at version commons) (λ table. first_placed (shape_of_class version) table.records)
 unfolding class_table_at
 classes_shaped version commons =
-    shaped-table (class_under version) after_class (class_start commons) shape_of_class λ context. class_shaped version context.table.taken context.table.nprim context.commons
+    shaped-table (class_under version) after_class (class_start commons) (shape_of_class version) λ context. class_shaped version context.table.taken context.table.nprim context.commons
 
 users_shaped : IsShaped users_at (λ table. first_placed shape_of_user table.records)
 unfolding users_at
 users_shaped = shaped-table _ _ table_start shape_of_user λ context. user_shaped context.taken context.nprim
 
-rule_tables_shaped : (version : ℕ) → IsShaped (rule_tables_at version) (λ tables. first_placed shape_of_class tables.classes.records)
+rule_tables_shaped : (version : ℕ) → IsShaped (rule_tables_at version) (λ tables. first_placed (shape_of_class version) tables.classes.records)
 unfolding rule_tables_at
 rule_tables_shaped version =
     gives-others commons_at λ commons.
-    gives-part (classes_shaped version commons) λ classes classes-shaped.
+    Gives-part (classes_shaped version commons) λ classes classes-shaped.
     gives-others roles_at λ roles.
     gives-others types_at λ types.
-    gives-done _ classes-shaped
+    Gives-done _ _ classes-shaped
 
 other_tables_shaped : IsShaped other_tables_at (λ tables. first_placed shape_of_user tables.users.records)
 unfolding other_tables_at
 other_tables_shaped =
-    gives-part users_shaped λ users users-shaped.
+    Gives-part users_shaped λ users users-shaped.
     gives-others booleans_at λ booleans.
     gives-others levels_at λ levels.
     gives-others categories_at λ categories.
-    gives-done _ users-shaped
+    Gives-done _ _ users-shaped
 
-pub symbols_shaped : (version : ℕ) → IsShaped (symbols_at version) shape_of_symbols
+pub symbols_shaped : (version : ℕ) → IsShaped (symbols_at version) (shape_of_symbols version)
 unfolding symbols_at shape_of_symbols
 symbols_shaped version =
-    gives-part (rule_tables_shaped version) λ first first-shaped.
-    gives-part other_tables_shaped λ others others-shaped.
-    gives-done _ (none-first _ _ first-shaped (none-first _ _ others-shaped none-last))
+    Gives-part (rule_tables_shaped version) λ first first-shaped.
+    Gives-part other_tables_shaped λ others others-shaped.
+    Gives-done _ _ (none-first _ _ first-shaped (none-first _ _ others-shaped none-last))
 
 -- ---- rules
 
@@ -82,13 +84,13 @@ entries_shaped : IsShaped entries_at (shape_of_name_transitions false)
 unfolding shape_of_name_transitions
 entries_shaped =
     gives-others (counted (field 22 1) (records_at (placed name_trans_at))) λ entries.
-    gives-done _ refl
+    Gives-done _ _ refl
 
 groups_shaped : IsShaped groups_at (shape_of_name_transitions true)
 unfolding shape_of_name_transitions
 groups_shaped =
     gives-others (counted (field 23 1) (records_at (placed name_group_at))) λ groups.
-    gives-done _ refl
+    Gives-done _ _ refl
 
 pub name_transitions_shaped : (version : ℕ) → IsShaped (name_transitions_at version) (shape_of_name_transitions (has_groups version))
 name_transitions_shaped version = gives-either (λ grouped trans. shape_of_name_transitions grouped trans ≡ None) (has_groups version) groups_shaped entries_shaped
@@ -111,21 +113,21 @@ list_there (x ∷ xs) field = refl
 table_if_shaped : {A : Type 0} (there : Bool) (row : ℕ) {table : Reader (List (Placed A))} {shape : A → Option Field} → IsShaped table (first_placed shape) → Gives (table_if there table) (ShapedIf there row shape)
 unfolding table_if
 table_if_shaped true row each = record { each = λ bytes place entries next e. record { list = list_there entries (field row 1); entries = each.each bytes place entries next e } }
-table_if_shaped false row each = gives-done [] (record { list = refl; entries = none-last })
+table_if_shaped false row each = Gives-done _ [] (record { list = refl; entries = none-last })
 
 pub contexts_shaped : (version : ℕ) → IsShaped (contexts_at version) (shape_of_contexts version)
 unfolding contexts_at shape_of_contexts
 contexts_shaped version =
-    gives-part (context_table_shaped 25 sid_shaped) λ sid sid-shaped.
-    gives-part (context_table_shaped 26 (named_shaped 26)) λ fs fs-shaped.
-    gives-part (context_table_shaped 27 port_shaped) λ port port-shaped.
-    gives-part (context_table_shaped 28 (named_shaped 28)) λ netif netif-shaped.
-    gives-part (context_table_shaped 29 (address_shaped 29 4)) λ node node-shaped.
-    gives-part (context_table_shaped 30 fsuse_shaped) λ fsuse fsuse-shaped.
-    gives-part (context_table_shaped 31 (address_shaped 31 16)) λ node6 node6-shaped.
-    gives-part (table_if_shaped (has_infiniband version) 32 (context_table_shaped 32 ibpkey_shaped)) λ ibpkey ibpkey-shaped.
-    gives-part (table_if_shaped (has_infiniband version) 33 (context_table_shaped 33 ibendport_shaped)) λ ibendport ibendport-shaped.
-    gives-done _
+    Gives-part (context_table_shaped 25 sid_shaped) λ sid sid-shaped.
+    Gives-part (context_table_shaped 26 (named_shaped 26)) λ fs fs-shaped.
+    Gives-part (context_table_shaped 27 port_shaped) λ port port-shaped.
+    Gives-part (context_table_shaped 28 (named_shaped 28)) λ netif netif-shaped.
+    Gives-part (context_table_shaped 29 (address_shaped 29 4)) λ node node-shaped.
+    Gives-part (context_table_shaped 30 fsuse_shaped) λ fsuse fsuse-shaped.
+    Gives-part (context_table_shaped 31 (address_shaped 31 16)) λ node6 node6-shaped.
+    Gives-part (table_if_shaped (has_infiniband version) 32 (context_table_shaped 32 ibpkey_shaped)) λ ibpkey ibpkey-shaped.
+    Gives-part (table_if_shaped (has_infiniband version) 33 (context_table_shaped 33 ibendport_shaped)) λ ibendport ibendport-shaped.
+    Gives-done _ _
     (none-first _ _ sid-shaped
     (none-first _ _ fs-shaped
     (none-first _ _ port-shaped

@@ -1,3 +1,5 @@
+pub mod PolicySpelling
+pub mod CutFiles
 pub mod OptionalParts
 pub mod RecordShapes
 pub mod TableShapes

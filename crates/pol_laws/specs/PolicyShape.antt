@@ -32,7 +32,7 @@ shape_of_label_lists version types labels =
 unfoldable pub shape : Parts → Option Field
 shape policy =
     first_of (
-    shape_of_symbols policy.symbols
+    shape_of_symbols policy.front.header.version policy.symbols
     ∷ shape_of_rule_lists policy.front.header.version policy.rules
     ∷ shape_of_label_lists policy.front.header.version policy.symbols.types.nprim policy.labels
     ∷ [])

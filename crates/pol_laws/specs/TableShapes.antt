@@ -11,8 +11,8 @@ use Rattle.pol_laws.specs.OptionalParts.{wrong_if, shape_of_list, first_of, firs
 use Rattle.pol_laws.specs.RecordShapes.{shape_of_class, shape_of_user, shape_of_sid, shape_of_named, shape_of_port, shape_of_address, shape_of_fsuse, shape_of_ibpkey, shape_of_ibendport}
 
 -- classes and users; the records of the other symbol tables have no optional part
-unfoldable pub shape_of_symbols : Symbols → Option Field
-shape_of_symbols symbols = first_of (first_placed shape_of_class symbols.classes.records ∷ first_placed shape_of_user symbols.users.records ∷ [])
+unfoldable pub shape_of_symbols : ℕ → Symbols → Option Field
+shape_of_symbols version symbols = first_of (first_placed (shape_of_class version) symbols.classes.records ∷ first_placed shape_of_user symbols.users.records ∷ [])
 
 -- file-name transitions are groups from version 33 on, and stand one by one below it (libsepol's filename_trans_write)
 abbrev pub has_groups : ℕ → Bool

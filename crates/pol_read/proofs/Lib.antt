@@ -1,13 +1,8 @@
 pub mod DanglingLists
 pub mod EndLists
-pub mod RecordCounts
+pub mod ReadValues
+pub mod PolicyTypes
+pub mod Acceptances
 pub mod RuleSums
 pub mod Sequences
-pub mod SpelledLists
-pub mod SpelledParts
-pub mod SpelledPolicy
-pub mod CutParts
-pub mod CutRecords
-pub mod CutTables
-pub mod CutPolicies
 pub mod RuleRanks

@@ -1,10 +1,9 @@
 pub mod TypeMapRows
 pub mod PolicyParts
-pub mod PolicySpelling
+pub mod TypeValues
 pub mod PolicyReferences
 pub mod Acceptance
 pub mod RunningSums
 pub mod StoredRules
-pub mod CutFiles
 pub mod RuleNumbers
 pub mod RuleOrder

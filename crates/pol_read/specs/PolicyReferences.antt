@@ -1,7 +1,8 @@
 -- The references of a policy, record by record in the order of the file (libsepol's policydb_validate).
-use Rattle.std.specs.Prelude.{List, ◌++◌}
+use Rattle.std.specs.Prelude.{◌≡◌, List, ◌++◌, Result, Ok, Err, Some, None}
 use Rattle.std.specs.List.{flat_map}
-use Rattle.pol_cursor.specs.References.{Placed, Reference}
+use Rattle.pol_cursor.specs.declared.Fault.{Fault}
+use Rattle.pol_cursor.specs.References.{Placed, Reference, Named, dangling_of}
 use Rattle.pol_datums.specs.RoleRecord.{role_references}
 use Rattle.pol_datums.specs.TypeRecord.{type_references}
 use Rattle.pol_datums.specs.SensitivityRecord.{sensitivity_references}
@@ -34,24 +35,14 @@ use Rattle.pol_read.specs.declared.parts.Parts.{Parts}
 abbrev pub references_in : {A : Type 0} → (Placed A → List Reference) → List (Placed A) → List Reference
 references_in references records = flat_map references records
 
--- those of roles and types
-abbrev pub role_and_type_references : Symbols → List Reference
-role_and_type_references symbols =
-    references_in role_references symbols.roles.records
-    ++ references_in type_references symbols.types.records
-
--- those of the tables of MLS
-abbrev pub mls_references : Symbols → List Reference
-mls_references symbols =
-    references_in sensitivity_references symbols.levels.records
-    ++ references_in category_references symbols.categories.records
-
 -- those of the symbol tables. The records of commons, classes and booleans refer to nothing.
 abbrev pub symbol_references : Symbols → List Reference
 symbol_references symbols =
-    role_and_type_references symbols
+    references_in role_references symbols.roles.records
+    ++ references_in type_references symbols.types.records
     ++ references_in user_references symbols.users.records
-    ++ mls_references symbols
+    ++ references_in sensitivity_references symbols.levels.records
+    ++ references_in category_references symbols.categories.records
 
 -- those of the file-name transitions
 abbrev pub name_transition_references : NameTrans → List Reference
@@ -67,33 +58,31 @@ rule_references rules =
     ++ references_in role_allow_references rules.role_allows
     ++ name_transition_references rules.name_trans
 
--- those of the tables of contexts that each version has
-abbrev pub object_references : Contexts → List Reference
-object_references contexts =
+-- those of the tables of contexts
+abbrev pub context_references : Contexts → List Reference
+context_references contexts =
     references_in sid_references contexts.sid
     ++ references_in named_references contexts.fs
     ++ references_in port_references contexts.port
     ++ references_in named_references contexts.netif
     ++ references_in (address_references 4) contexts.node
-
-abbrev pub later_object_references : Contexts → List Reference
-later_object_references contexts =
-    references_in fsuse_references contexts.fsuse
+    ++ references_in fsuse_references contexts.fsuse
     ++ references_in (address_references 16) contexts.node6
     ++ references_in ibpkey_references contexts.ibpkey
     ++ references_in ibendport_references contexts.ibendport
 
--- those of the tables of contexts
-abbrev pub context_table_references : Contexts → List Reference
-context_table_references contexts = object_references contexts ++ later_object_references contexts
-
 -- those of what stands behind the rules. The rows of the type map refer to nothing.
 abbrev pub label_references : LabelLists → List Reference
 label_references labels =
-    context_table_references labels.contexts
+    context_references labels.contexts
     ++ references_in genfs_references labels.genfs
     ++ references_in range_trans_references labels.range_trans
 
 -- all references, in the order of the file
 abbrev pub policy_references : Parts → List Reference
 policy_references policy = symbol_references policy.symbols ++ rule_references policy.rules ++ label_references policy.labels
+
+-- all of them are declared, or the fault is the first that is not
+abbrev pub AreDeclared : Result (Unit {0}) Fault → Named → List Reference → Type 0
+AreDeclared (Ok u) named references = dangling_of named references ≡ None
+AreDeclared (Err fault) named references = dangling_of named references ≡ Some fault

@@ -1,4 +1,24 @@
 // The kinds of records that have references.
+ghost use Rattle.pol_datums.specs.RoleRecord.{role_references};
+ghost use Rattle.pol_datums.specs.TypeRecord.{type_references};
+ghost use Rattle.pol_symbols.specs.UserRecord.{user_references};
+ghost use Rattle.pol_datums.specs.SensitivityRecord.{sensitivity_references};
+ghost use Rattle.pol_datums.specs.CategoryRecord.{category_references};
+ghost use Rattle.pol_avtab.specs.AvRecord.{av_references};
+ghost use Rattle.pol_trans.specs.RoleTransRecord.{role_trans_references};
+ghost use Rattle.pol_trans.specs.RoleAllowRecord.{role_allow_references};
+ghost use Rattle.pol_trans.specs.NameTransRecord.{name_trans_references};
+ghost use Rattle.pol_trans.specs.NameGroupRecord.{name_group_references};
+ghost use Rattle.pol_trans.specs.RangeTransRecord.{range_trans_references};
+ghost use Rattle.pol_contexts.specs.SidRecord.{sid_references};
+ghost use Rattle.pol_contexts.specs.NamedRecord.{named_references};
+ghost use Rattle.pol_contexts.specs.PortRecord.{port_references};
+ghost use Rattle.pol_contexts.specs.AddressRecord.{address_references};
+ghost use Rattle.pol_contexts.specs.FsUseRecord.{fsuse_references};
+ghost use Rattle.pol_contexts.specs.IbPkeyRecord.{ibpkey_references};
+ghost use Rattle.pol_contexts.specs.IbEndPortRecord.{ibendport_references};
+ghost use Rattle.pol_genfs.specs.GenfsRecord.{genfs_references};
+
 use crate::referring::Referring;
 use pol_avtab::Av;
 use pol_contexts::{Fs, FsUse, IbEndPort, IbPkey, Netif, Node, Node6, Port, Sid};
@@ -9,8 +29,6 @@ use pol_symbols::User;
 use pol_trans::{NameGroupRec, NameTransRec, RangeTransRec, RoleAllowRec, RoleTransRec};
 
 impl<'a> Referring<'a> for Role {
-    ghost use Rattle.pol_datums.specs.RoleRecord.{role_references};
-
     ghost references = { role_references };
 
     fn dangling<N: Names>(view: &Self::View, names: &N) -> Option<Fault> {
@@ -19,8 +37,6 @@ impl<'a> Referring<'a> for Role {
 }
 
 impl<'a> Referring<'a> for Type {
-    ghost use Rattle.pol_datums.specs.TypeRecord.{type_references};
-
     ghost references = { type_references };
 
     fn dangling<N: Names>(view: &Self::View, names: &N) -> Option<Fault> {
@@ -29,8 +45,6 @@ impl<'a> Referring<'a> for Type {
 }
 
 impl<'a> Referring<'a> for User {
-    ghost use Rattle.pol_symbols.specs.UserRecord.{user_references};
-
     ghost references = { user_references };
 
     fn dangling<N: Names>(view: &Self::View, names: &N) -> Option<Fault> {
@@ -39,8 +53,6 @@ impl<'a> Referring<'a> for User {
 }
 
 impl<'a> Referring<'a> for Sensitivity {
-    ghost use Rattle.pol_datums.specs.SensitivityRecord.{sensitivity_references};
-
     ghost references = { sensitivity_references };
 
     fn dangling<N: Names>(view: &Self::View, names: &N) -> Option<Fault> {
@@ -49,8 +61,6 @@ impl<'a> Referring<'a> for Sensitivity {
 }
 
 impl<'a> Referring<'a> for Category {
-    ghost use Rattle.pol_datums.specs.CategoryRecord.{category_references};
-
     ghost references = { category_references };
 
     fn dangling<N: Names>(view: &Self::View, names: &N) -> Option<Fault> {
@@ -59,8 +69,6 @@ impl<'a> Referring<'a> for Category {
 }
 
 impl<'a> Referring<'a> for Av {
-    ghost use Rattle.pol_avtab.specs.AvRecord.{av_references};
-
     ghost references = { av_references };
 
     fn dangling<N: Names>(view: &Self::View, names: &N) -> Option<Fault> {
@@ -69,8 +77,6 @@ impl<'a> Referring<'a> for Av {
 }
 
 impl<'a> Referring<'a> for RoleTransRec {
-    ghost use Rattle.pol_trans.specs.RoleTransRecord.{role_trans_references};
-
     ghost references = { role_trans_references };
 
     fn dangling<N: Names>(view: &Self::View, names: &N) -> Option<Fault> {
@@ -79,8 +85,6 @@ impl<'a> Referring<'a> for RoleTransRec {
 }
 
 impl<'a> Referring<'a> for RoleAllowRec {
-    ghost use Rattle.pol_trans.specs.RoleAllowRecord.{role_allow_references};
-
     ghost references = { role_allow_references };
 
     fn dangling<N: Names>(view: &Self::View, names: &N) -> Option<Fault> {
@@ -89,8 +93,6 @@ impl<'a> Referring<'a> for RoleAllowRec {
 }
 
 impl<'a> Referring<'a> for NameTransRec {
-    ghost use Rattle.pol_trans.specs.NameTransRecord.{name_trans_references};
-
     ghost references = { name_trans_references };
 
     fn dangling<N: Names>(view: &Self::View, names: &N) -> Option<Fault> {
@@ -99,8 +101,6 @@ impl<'a> Referring<'a> for NameTransRec {
 }
 
 impl<'a> Referring<'a> for NameGroupRec {
-    ghost use Rattle.pol_trans.specs.NameGroupRecord.{name_group_references};
-
     ghost references = { name_group_references };
 
     fn dangling<N: Names>(view: &Self::View, names: &N) -> Option<Fault> {
@@ -109,8 +109,6 @@ impl<'a> Referring<'a> for NameGroupRec {
 }
 
 impl<'a> Referring<'a> for RangeTransRec {
-    ghost use Rattle.pol_trans.specs.RangeTransRecord.{range_trans_references};
-
     ghost references = { range_trans_references };
 
     fn dangling<N: Names>(view: &Self::View, names: &N) -> Option<Fault> {
@@ -119,8 +117,6 @@ impl<'a> Referring<'a> for RangeTransRec {
 }
 
 impl<'a> Referring<'a> for Sid {
-    ghost use Rattle.pol_contexts.specs.SidRecord.{sid_references};
-
     ghost references = { sid_references };
 
     fn dangling<N: Names>(view: &Self::View, names: &N) -> Option<Fault> {
@@ -129,8 +125,6 @@ impl<'a> Referring<'a> for Sid {
 }
 
 impl<'a> Referring<'a> for Fs {
-    ghost use Rattle.pol_contexts.specs.NamedRecord.{named_references};
-
     ghost references = { named_references };
 
     fn dangling<N: Names>(view: &Self::View, names: &N) -> Option<Fault> {
@@ -139,8 +133,6 @@ impl<'a> Referring<'a> for Fs {
 }
 
 impl<'a> Referring<'a> for Port {
-    ghost use Rattle.pol_contexts.specs.PortRecord.{port_references};
-
     ghost references = { port_references };
 
     fn dangling<N: Names>(view: &Self::View, names: &N) -> Option<Fault> {
@@ -149,8 +141,6 @@ impl<'a> Referring<'a> for Port {
 }
 
 impl<'a> Referring<'a> for Netif {
-    ghost use Rattle.pol_contexts.specs.NamedRecord.{named_references};
-
     ghost references = { named_references };
 
     fn dangling<N: Names>(view: &Self::View, names: &N) -> Option<Fault> {
@@ -159,8 +149,6 @@ impl<'a> Referring<'a> for Netif {
 }
 
 impl<'a> Referring<'a> for Node {
-    ghost use Rattle.pol_contexts.specs.AddressRecord.{address_references};
-
     ghost references = { address_references 4 };
 
     fn dangling<N: Names>(view: &Self::View, names: &N) -> Option<Fault> {
@@ -169,8 +157,6 @@ impl<'a> Referring<'a> for Node {
 }
 
 impl<'a> Referring<'a> for FsUse {
-    ghost use Rattle.pol_contexts.specs.FsUseRecord.{fsuse_references};
-
     ghost references = { fsuse_references };
 
     fn dangling<N: Names>(view: &Self::View, names: &N) -> Option<Fault> {
@@ -179,8 +165,6 @@ impl<'a> Referring<'a> for FsUse {
 }
 
 impl<'a> Referring<'a> for Node6 {
-    ghost use Rattle.pol_contexts.specs.AddressRecord.{address_references};
-
     ghost references = { address_references 16 };
 
     fn dangling<N: Names>(view: &Self::View, names: &N) -> Option<Fault> {
@@ -189,8 +173,6 @@ impl<'a> Referring<'a> for Node6 {
 }
 
 impl<'a> Referring<'a> for IbPkey {
-    ghost use Rattle.pol_contexts.specs.IbPkeyRecord.{ibpkey_references};
-
     ghost references = { ibpkey_references };
 
     fn dangling<N: Names>(view: &Self::View, names: &N) -> Option<Fault> {
@@ -199,8 +181,6 @@ impl<'a> Referring<'a> for IbPkey {
 }
 
 impl<'a> Referring<'a> for IbEndPort {
-    ghost use Rattle.pol_contexts.specs.IbEndPortRecord.{ibendport_references};
-
     ghost references = { ibendport_references };
 
     fn dangling<N: Names>(view: &Self::View, names: &N) -> Option<Fault> {
@@ -209,8 +189,6 @@ impl<'a> Referring<'a> for IbEndPort {
 }
 
 impl<'a> Referring<'a> for Genfs {
-    ghost use Rattle.pol_genfs.specs.GenfsRecord.{genfs_references};
-
     ghost references = { genfs_references };
 
     fn dangling<N: Names>(view: &Self::View, names: &N) -> Option<Fault> {

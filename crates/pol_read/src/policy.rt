@@ -1,8 +1,9 @@
 ghost use Rattle.std.specs.Prelude.{◌≡◌, ◌<◌, ◌≤◌, ◌-◌, Some, IfOk, option_map, slice_get, length};
 ghost use Rattle.pol_avtab.specs.CondNodeRecord.{node_condition};
 ghost use Rattle.pol_read.specs.Acceptance.{Accepts};
+ghost use Rattle.pol_read.specs.TypeValues.{IsTypeValue, HasTypeValues};
 
-use crate::dangling::first_undeclared;
+use crate::dangling::check_references;
 use crate::parts::Parts;
 use crate::reading::read_parts;
 use crate::rule_index::{RuleIndex, index_rules};
@@ -10,7 +11,8 @@ use crate::type_map::row_of;
 use pol_avtab::{AvTable, Conditionals};
 use pol_bitmap::BitmapView;
 use pol_contexts::Contexts;
-use pol_cursor::{Cursor, ReadError};
+use pol_cursor::{Cursor, ReadError, TableKind};
+use pol_datums::TypeView;
 use pol_expr::ConditionView;
 use pol_genfs::GenfsList;
 use pol_symbols::Symbols;
@@ -27,15 +29,15 @@ pub struct Policy<'a> {
 }
 
 impl<'a> Model for Policy<'a> {
-    ghost use Rattle.std.specs.Prelude.{◌≡◌, length};
     ghost use Rattle.pol_read.specs.declared.parts.Parts.{Parts};
     ghost use Rattle.pol_read.specs.RuleNumbers.{IsIndexOf};
+    ghost use Rattle.pol_read.specs.TypeValues.{HasTypeValues};
 
     ghost Value = { Parts };
 
     ghost view = { λ p. p.parts };
 
-    ghost invariant = { λ p. (length p.parts.labels.type_map ≡ p.parts.symbols.types.nprim) × IsIndexOf p.parts p.index };
+    ghost invariant = { λ p. HasTypeValues p.parts × IsIndexOf p.parts p.index };
 }
 
 impl<'a> Policy<'a> {
@@ -72,6 +74,24 @@ impl<'a> Policy<'a> {
         ensures { result.now ≡ self.now.symbols }
     {
         &self.parts.symbols
+    }
+
+    /// How many type values there are, at most 65,535.
+    pub fn type_count(&self) -> u32
+        ensures count { result ≡ self.now.symbols.types.nprim }
+        ensures few { result ≤ 65535 }
+    {
+        self.parts.symbols.prims(TableKind::Types)
+    }
+
+    /// The record of that number in the table of types, from 0 on. It has a type value, also where it is an alias.
+    #[tactic(auto, using(crate::proofs::PolicyTypes::type_value_at))]
+    pub fn type_record(&self, number: u32) -> TypeView<'a>
+        requires { number < length self.now.symbols.types.records }
+        ensures is { slice_get self.now.symbols.types.records number ≡ Some result }
+        ensures value { IsTypeValue self.now.symbols result.value.value }
+    {
+        self.parts.symbols.types.view(number)
     }
 
     /// The row of the type map for a type value: bit v - 1 stands for the value v, of a type or an attribute that the type is.
@@ -156,15 +176,13 @@ pub fn read<'a>(alloc: Global, bytes: &'a [u8]) -> Result<Policy<'a>, ReadError>
     ensures { Accepts (λ policy. policy) result bytes.now }
 {
     let parts = read_parts(alloc, &mut Cursor::new(bytes))?;
-    match first_undeclared(&parts) {
-        Some(fault) => Err(ReadError::Fault(fault)),
-        None => Ok(indexed(alloc, parts)?),
-    }
+    check_references(&parts)?;
+    Ok(indexed(alloc, parts)?)
 }
 
 // The policy of these parts.
 fn indexed<'a>(alloc: Global, parts: Parts<'a>) -> Result<Policy<'a>, AllocError>
-    requires { length parts.labels.type_map ≡ parts.symbols.types.nprim }
+    requires { HasTypeValues parts }
     ensures { IfOk result (λ policy. policy ≡ parts.entry) }
 {
     let index = index_rules(alloc, &parts)?;

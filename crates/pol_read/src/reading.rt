@@ -1,5 +1,5 @@
 // The first step: the parts of a policy, in the order of the file.
-ghost use Rattle.std.specs.Prelude.{◌≡◌, IfOk, length};
+ghost use Rattle.std.specs.Prelude.{◌≡◌};
 ghost use Rattle.pol_cursor.specs.Outcome.{Yields};
 ghost use Rattle.pol_read.specs.PolicyParts.{front_at, rule_lists_at, label_lists_at, policy_at};
 
@@ -18,8 +18,7 @@ use std::alloc::Global;
 /// Reads a whole policy, behind which the buffer has to end.
 #[tactic(auto, unfolding(crate::specs::PolicyParts::policy_at))]
 pub fn read_parts<'a>(alloc: Global, c: &mut Cursor<'a>) -> Result<Parts<'a>, ReadError>
-    ensures exact { Yields (λ parts. parts) result policy_at c.old c.new }
-    ensures rows { IfOk result (λ parts. length parts.labels.type_map ≡ parts.symbols.types.nprim) }
+    ensures { Yields (λ parts. parts) result policy_at c.old c.new }
 {
     let front = read_front(c)?;
     let version = front.header.version();
@@ -81,8 +80,7 @@ fn read_label_lists<'a>(
     version: u32,
     types: u32,
 ) -> Result<LabelLists<'a>, ReadError>
-    ensures exact { Yields (λ labels. labels) result (label_lists_at version types) c.old c.new }
-    ensures rows { IfOk result (λ labels. length labels.type_map ≡ types) }
+    ensures { Yields (λ labels. labels) result (label_lists_at version types) c.old c.new }
 {
     let contexts = read_contexts(alloc, c, version)?;
     let genfs = read_genfs(alloc, c, version)?;

