@@ -14,7 +14,7 @@ fn claims_of_records(rt: HostRuntime) -> Result<(), Fail> {
         (b"web_t", None),
         (b"web t", Some(Cause::BadNameByte)),
     ] {
-        assert_eq!(rt; name_cause(&taken, name), cause);
+        assert!(rt; name_cause(&taken, name) == cause);
     }
     for (value, cause) in [
         (0, Some(Cause::ValueOut)),
@@ -22,9 +22,9 @@ fn claims_of_records(rt: HostRuntime) -> Result<(), Fail> {
         (2, None),
         (3, Some(Cause::ValueOut)),
     ] {
-        assert_eq!(rt; new_value_cause(2, &taken, value), cause);
+        assert!(rt; new_value_cause(2, &taken, value) == cause);
     }
-    assert_eq!(rt; primary_value_cause(&taken, false, 1), None);
+    assert!(rt; primary_value_cause(&taken, false, 1) == None);
     Ok(())
 }
 
@@ -33,17 +33,14 @@ fn claims_of_records(rt: HostRuntime) -> Result<(), Fail> {
 fn heads_and_names(rt: HostRuntime) -> Result<(), Fail> {
     let mut cursor = Cursor::new(b"\xff\xff\0\0\x03\0\0\0\x01\0\0\0a");
     let head = read_table_head(&mut cursor).map_err(|fault| fault.cause.word())?;
-    assert_eq!(rt; (head.nprim, head.nel), (65535, 3));
+    assert!(rt; (head.nprim, head.nel) == (65535, 3));
     let taken = Taken::new(rt.alloc());
     let len = read_symbol_length(&mut cursor, 9, 1).map_err(|fault| fault.cause.word())?;
     let name = read_symbol_name(&mut cursor, 9, 5, len, &taken).map_err(|fault| fault
         .cause
         .word())?;
-    assert_eq!(rt; name, b"a".as_slice());
+    assert!(rt; name == b"a".as_slice());
     let large = read_table_head(&mut Cursor::new(b"\0\0\x01\0\x03\0\0\0"));
-    assert_eq!(rt;
-        large.map_err(|fault| fault.cause),
-        Err(Cause::TableTooLarge)
-    );
+    assert!(rt; large.map_err(|fault| fault.cause) == Err(Cause::TableTooLarge));
     Ok(())
 }

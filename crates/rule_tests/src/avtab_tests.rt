@@ -66,23 +66,18 @@ fn parts_of_rules(rt: HostRuntime) -> Result<(), Fail> {
     let bytes = table(rt.alloc(), 0, 3, &rules)?;
     assert!(rt; bytes.len() <= 67108864);
     let list = read_table(rt.alloc(), &mut Cursor::new(&bytes), 31)?;
-    assert_eq!(rt; list.len(), 3);
+    assert!(rt; list.len() == 3);
     let rule = list.view(0);
-    assert_eq!(rt;
-        (rule.source(), rule.target(), rule.class(), rule.specified()),
-        (2, 1, 1, 0x8004)
+    assert!(rt;
+        (rule.source(), rule.target(), rule.class(), rule.specified()) == (2, 1, 1, 0x8004)
     );
-    assert_eq!(rt; (rule.mask(), rule.xkind()), (Some(7), None));
-    assert_eq!(rt; rule.dangling(&OneAndTwo).map(told), None);
+    assert!(rt; (rule.mask(), rule.xkind()) == (Some(7), None));
+    assert!(rt; rule.dangling(&OneAndTwo).map(told) == None);
     let rule = list.view(1);
-    assert_eq!(rt;
-        rule.dangling(&OneAndTwo).map(told),
-        Some(("Dangling", 24, "av.data"))
-    );
+    assert!(rt; rule.dangling(&OneAndTwo).map(told) == Some(("Dangling", 24, "av.data")));
     let rule = list.view(2);
-    assert_eq!(rt;
-        (rule.place(), rule.mask(), rule.xkind(), rule.driver()),
-        (28, None, Some(2), Some(0x12))
+    assert!(rt;
+        (rule.place(), rule.mask(), rule.xkind(), rule.driver()) == (28, None, Some(2), Some(0x12))
     );
     let mut owned = Vec::new(rt.alloc());
     for i in 0..list.len() {
@@ -90,7 +85,7 @@ fn parts_of_rules(rt: HostRuntime) -> Result<(), Fail> {
     }
     let mut out = Vec::new(rt.alloc());
     write_table(&OwnedList::from_vec(owned), 31, &mut out)?;
-    assert_eq!(rt; out, bytes);
+    assert!(rt; out == bytes);
     Ok(())
 }
 
@@ -113,12 +108,9 @@ fn numbers_that_are_held(rt: HostRuntime) -> Result<(), Fail> {
         let bytes = table(rt.alloc(), 0, 1, &[([1, 1, 1, 0x100], kind)])?;
         assert!(rt; bytes.len() <= 67108864);
         let list = read_table(rt.alloc(), &mut Cursor::new(&bytes), 30)?;
-        assert_eq!(rt; list.len(), 1);
+        assert!(rt; list.len() == 1);
         let numbers = list.view(0).xperms().ok_or("not extended")?;
-        assert_eq!(rt;
-            (numbers.has(number), numbers.next_from(number)),
-            (held, next)
-        );
+        assert!(rt; (numbers.has(number), numbers.next_from(number)) == (held, next));
     }
     Ok(())
 }
@@ -128,14 +120,11 @@ fn numbers_one_after_the_other(rt: HostRuntime) -> Result<(), Fail> {
     let bytes = table(rt.alloc(), 0, 1, &[([1, 1, 1, 0x100], 1)])?;
     assert!(rt; bytes.len() <= 67108864);
     let list = read_table(rt.alloc(), &mut Cursor::new(&bytes), 30)?;
-    assert_eq!(rt; list.len(), 1);
+    assert!(rt; list.len() == 1);
     let numbers = list.view(0).xperms().ok_or("not extended")?;
     let all: Vec<u16> = numbers.numbers().collect(rt.alloc())?;
-    assert_eq!(rt;
-        all.as_slice(),
-        [0x1200, 0x121f, 0x1220, 0x1289, 0x12ff].as_slice()
-    );
-    assert_eq!(rt; numbers.next_from(0x1300), None);
+    assert!(rt; all.as_slice() == [0x1200, 0x121f, 0x1220, 0x1289, 0x12ff].as_slice());
+    assert!(rt; numbers.next_from(0x1300) == None);
     Ok(())
 }
 
@@ -147,7 +136,7 @@ fn permissions_that_are_shown(rt: HostRuntime) -> Result<(), Fail> {
         (0x1, 0xfffffffd, 0xfffffffd),
         (0x2, 5, 5),
     ] {
-        assert_eq!(rt; shown_mask(specified, mask), want);
+        assert!(rt; shown_mask(specified, mask) == want);
     }
     Ok(())
 }
@@ -169,28 +158,19 @@ fn parts_of_conditional_nodes(rt: HostRuntime) -> Result<(), Fail> {
     let bytes = conditionals(rt.alloc(), &[([1, 2, 1, 0x1], 8), ([1, 1, 1, 0x40], 3)])?;
     assert!(rt; bytes.len() <= 67108864);
     let list = read_conditionals(rt.alloc(), &mut Cursor::new(&bytes), 31)?;
-    assert_eq!(rt; list.len(), 1);
-    assert_eq!(rt;
-        (list.branch_len(0, true), list.branch_len(0, false)),
-        (0, 2)
-    );
+    assert!(rt; list.len() == 1);
+    assert!(rt; (list.branch_len(0, true), list.branch_len(0, false)) == (0, 2));
     let rule = list.branch_view(0, false, 1);
-    assert_eq!(rt;
-        (rule.place(), rule.specified(), rule.mask()),
-        (64, 0x40, Some(3))
-    );
-    assert_eq!(rt; list.condition(0).len(), 4);
+    assert!(rt; (rule.place(), rule.specified(), rule.mask()) == (64, 0x40, Some(3)));
+    assert!(rt; list.condition(0).len() == 4);
     let node = list.view(0);
-    assert_eq!(rt; (node.state(), node.ntrue(), node.nfalse()), (0, 0, 2));
-    assert_eq!(rt; node.false_view(0).mask(), Some(8));
-    assert_eq!(rt;
-        node.dangling(&OneAndTwo).map(told),
-        Some(("Dangling", 72, "av.data"))
-    );
+    assert!(rt; (node.state(), node.ntrue(), node.nfalse()) == (0, 0, 2));
+    assert!(rt; node.false_view(0).mask() == Some(8));
+    assert!(rt; node.dangling(&OneAndTwo).map(told) == Some(("Dangling", 72, "av.data")));
     let mut owned = Vec::new(rt.alloc());
     owned.push(node.rec(rt.alloc())?)?;
     let mut out = Vec::new(rt.alloc());
     write_conditionals(&OwnedList::from_vec(owned), 31, &mut out)?;
-    assert_eq!(rt; out, bytes);
+    assert!(rt; out == bytes);
     Ok(())
 }

@@ -52,13 +52,13 @@ fn initial_sid_30(rt: HostRuntime) -> Result<(), Fail> {
     let bytes = with_context(rt.alloc(), b"\x1e\0\0\0")?;
     assert!(rt; bytes.len() <= 67108864);
     let entry = read_sid_entry(&mut Cursor::new(&bytes)).map_err(|fault| fault.cause.word())?;
-    assert_eq!(rt; entry.sid(), 30);
+    assert!(rt; entry.sid() == 30);
     let text = context_text(rt.alloc(), &entry.context(), &SmallNames)?;
-    assert_eq!(rt; text.as_slice(), b"u:r:t:s0:c0,c1".as_slice());
+    assert!(rt; text.as_slice() == b"u:r:t:s0:c0,c1".as_slice());
     assert!(rt; entry.dangling(&SmallNames).is_none());
     let mut out = Vec::new(rt.alloc());
     write_sid(&entry.rec(rt.alloc())?, 31, &mut out)?;
-    assert_eq!(rt; out, bytes);
+    assert!(rt; out == bytes);
     Ok(())
 }
 
@@ -70,7 +70,7 @@ fn file_system(rt: HostRuntime) -> Result<(), Fail> {
     let entry = read_fs_entry(&mut Cursor::new(&bytes)).map_err(|fault| fault.cause.word())?;
     let mut out = Vec::new(rt.alloc());
     write_fs(&entry.rec(rt.alloc())?, 31, &mut out)?;
-    assert_eq!(rt; out, bytes);
+    assert!(rt; out == bytes);
     Ok(())
 }
 
@@ -79,10 +79,10 @@ fn port_22(rt: HostRuntime) -> Result<(), Fail> {
     let bytes = with_context(rt.alloc(), b"\x06\0\0\0\x16\0\0\0\x16\0\0\0")?;
     assert!(rt; bytes.len() <= 67108864);
     let entry = read_port_entry(&mut Cursor::new(&bytes)).map_err(|fault| fault.cause.word())?;
-    assert_eq!(rt; (entry.protocol(), entry.low(), entry.high()), (6, 22, 22));
+    assert!(rt; (entry.protocol(), entry.low(), entry.high()) == (6, 22, 22));
     let mut out = Vec::new(rt.alloc());
     write_port(&entry.rec(rt.alloc())?, 31, &mut out)?;
-    assert_eq!(rt; out, bytes);
+    assert!(rt; out == bytes);
     Ok(())
 }
 
@@ -94,7 +94,7 @@ fn interface(rt: HostRuntime) -> Result<(), Fail> {
     let entry = read_netif_entry(&mut Cursor::new(&bytes)).map_err(|fault| fault.cause.word())?;
     let mut out = Vec::new(rt.alloc());
     write_netif(&entry.rec(rt.alloc())?, 31, &mut out)?;
-    assert_eq!(rt; out, bytes);
+    assert!(rt; out == bytes);
     Ok(())
 }
 
@@ -103,10 +103,10 @@ fn node_127_0_0_1(rt: HostRuntime) -> Result<(), Fail> {
     let bytes = with_context(rt.alloc(), b"\x7f\0\0\x01\xff\xff\xff\xff")?;
     assert!(rt; bytes.len() <= 67108864);
     let entry = read_node_entry(&mut Cursor::new(&bytes)).map_err(|fault| fault.cause.word())?;
-    assert_eq!(rt; (entry.address(), entry.mask()), ([127, 0, 0, 1], [255; 4]));
+    assert!(rt; (entry.address(), entry.mask()) == ([127, 0, 0, 1], [255; 4]));
     let mut out = Vec::new(rt.alloc());
     write_node(&entry.rec(rt.alloc())?, 31, &mut out)?;
-    assert_eq!(rt; out, bytes);
+    assert!(rt; out == bytes);
     Ok(())
 }
 
@@ -117,7 +117,7 @@ fn behaviour_of_a_file_system(rt: HostRuntime) -> Result<(), Fail> {
     let entry = read_fsuse_entry(&mut Cursor::new(&bytes)).map_err(|fault| fault.cause.word())?;
     let mut out = Vec::new(rt.alloc());
     write_fsuse(&entry.rec(rt.alloc())?, 31, &mut out)?;
-    assert_eq!(rt; out, bytes);
+    assert!(rt; out == bytes);
     Ok(())
 }
 
@@ -132,7 +132,7 @@ fn node6_1(rt: HostRuntime) -> Result<(), Fail> {
     let entry = read_node6_entry(&mut Cursor::new(&bytes)).map_err(|fault| fault.cause.word())?;
     let mut out = Vec::new(rt.alloc());
     write_node6(&entry.rec(rt.alloc())?, 31, &mut out)?;
-    assert_eq!(rt; out, bytes);
+    assert!(rt; out == bytes);
     Ok(())
 }
 
@@ -145,7 +145,7 @@ fn partition_keys(rt: HostRuntime) -> Result<(), Fail> {
     let entry = read_ibpkey_entry(&mut Cursor::new(&bytes)).map_err(|fault| fault.cause.word())?;
     let mut out = Vec::new(rt.alloc());
     write_ibpkey(&entry.rec(rt.alloc())?, 31, &mut out)?;
-    assert_eq!(rt; out, bytes);
+    assert!(rt; out == bytes);
     Ok(())
 }
 
@@ -157,7 +157,7 @@ fn port_of_a_device(rt: HostRuntime) -> Result<(), Fail> {
     let entry = read_ibendport_entry(&mut Cursor::new(&bytes)).map_err(|fault| fault.cause.word())?;
     let mut out = Vec::new(rt.alloc());
     write_ibendport(&entry.rec(rt.alloc())?, 31, &mut out)?;
-    assert_eq!(rt; out, bytes);
+    assert!(rt; out == bytes);
     Ok(())
 }
 
@@ -179,10 +179,10 @@ fn paths_of_genfs(rt: HostRuntime) -> Result<(), Fail> {
             Some(fault) => (fault.cause.word(), fault.place),
             None => ("", 0),
         };
-        assert_eq!(rt; found, (word, place));
+        assert!(rt; found == (word, place));
         let mut out = Vec::new(rt.alloc());
         write_genfs(&entry.rec(rt.alloc())?, 31, &mut out)?;
-        assert_eq!(rt; out, bytes);
+        assert!(rt; out == bytes);
     }
     Ok(())
 }
@@ -214,7 +214,7 @@ fn tables_of_contexts(rt: HostRuntime) -> Result<(), Fail> {
         (b"\xff\xff\xff\xff\x01\0\0\0", 31, "Short", 8),
     ] {
         assert!(rt; bytes.len() <= 67108864);
-        assert_eq!(rt; tables_fault(rt.alloc(), bytes, version)?, (word, place));
+        assert!(rt; tables_fault(rt.alloc(), bytes, version)? == (word, place));
     }
     Ok(())
 }

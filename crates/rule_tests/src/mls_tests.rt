@@ -56,28 +56,25 @@ fn parts_of_records(rt: HostRuntime) -> Result<(), Fail> {
     let bytes = spelled(rt.alloc(), &[2, 1, 2], &[1, 5])?;
     assert!(rt; bytes.len() <= 67108864);
     let range = read_range(&mut Cursor::new(&bytes)).map_err(|fault| fault.cause.word())?;
-    assert_eq!(rt;
-        (range.n(), range.low(), range.high(), range.size()),
-        (2, 1, Some(2), 60)
-    );
+    assert!(rt; (range.n(), range.low(), range.high(), range.size()) == (2, 1, Some(2), 60));
     let owned = range.rec(rt.alloc())?;
     let mut out = Vec::new(rt.alloc());
     write_range(&owned, 31, &mut out)?;
-    assert_eq!(rt; out, bytes);
+    assert!(rt; out == bytes);
     let bytes = spelled(rt.alloc(), &[3], &[6])?;
     assert!(rt; bytes.len() <= 67108864);
     let level = read_level(&mut Cursor::new(&bytes)).map_err(|fault| fault.cause.word())?;
-    assert_eq!(rt; (level.sens(), level.size()), (3, 28));
+    assert!(rt; (level.sens(), level.size()) == (3, 28));
     let mut out = Vec::new(rt.alloc());
     write_level(&level.rec(rt.alloc())?, 31, &mut out)?;
-    assert_eq!(rt; out, bytes);
+    assert!(rt; out == bytes);
     let table = TableKind::Levels;
     let fault = Fault {
         place: 0,
         field: Field { row: 14, part: 1 },
         cause: Cause::Dangling { table, value: 3 },
     };
-    assert_eq!(rt; level.dangling(&TwoLevels), Some(fault));
+    assert!(rt; level.dangling(&TwoLevels) == Some(fault));
     Ok(())
 }
 
@@ -132,7 +129,7 @@ fn texts_of_levels(rt: HostRuntime) -> Result<(), Fail> {
             .cause
             .word())?;
         let text = level_text(rt.alloc(), sens, &categories, &names)?;
-        assert_eq!(rt; text.as_slice(), want.as_bytes());
+        assert!(rt; text.as_slice() == want.as_bytes());
     }
     Ok(())
 }
@@ -150,7 +147,7 @@ fn texts_of_ranges(rt: HostRuntime) -> Result<(), Fail> {
         assert!(rt; bytes.len() <= 67108864);
         let range = read_range(&mut Cursor::new(&bytes)).map_err(|fault| fault.cause.word())?;
         let text = range_text(rt.alloc(), &range, &names)?;
-        assert_eq!(rt; text.as_slice(), want.as_bytes());
+        assert!(rt; text.as_slice() == want.as_bytes());
     }
     Ok(())
 }

@@ -18,13 +18,13 @@ fn entries_up_to_32(rt: HostRuntime) -> Result<(), Fail> {
     let Ok(NameTrans::Entries(list)) = read_name_trans(rt.alloc(), &mut cursor, 32) else {
         return Err(Fail::from("refused"));
     };
-    assert_eq!(rt; cursor.place(), 46);
+    assert!(rt; cursor.place() == 46);
     let mut out = Vec::new(rt.alloc());
     push_number(&mut out, 4, list.len() as u64)?;
     for i in 0..list.len() {
         write_name_trans(&list.view(i).rec(rt.alloc())?, 32, &mut out)?;
     }
-    assert_eq!(rt; out.as_slice(), ENTRIES.as_slice());
+    assert!(rt; out.as_slice() == ENTRIES.as_slice());
     Ok(())
 }
 
@@ -34,13 +34,13 @@ fn groups_from_33(rt: HostRuntime) -> Result<(), Fail> {
     let Ok(NameTrans::Groups(list)) = read_name_trans(rt.alloc(), &mut cursor, 33) else {
         return Err(Fail::from("refused"));
     };
-    assert_eq!(rt; cursor.place(), 49);
+    assert!(rt; cursor.place() == 49);
     let mut out = Vec::new(rt.alloc());
     push_number(&mut out, 4, list.len() as u64)?;
     for i in 0..list.len() {
         write_name_group(&list.view(i).rec(rt.alloc())?, 33, &mut out)?;
     }
-    assert_eq!(rt; out.as_slice(), GROUPS.as_slice());
+    assert!(rt; out.as_slice() == GROUPS.as_slice());
     Ok(())
 }
 
@@ -53,7 +53,7 @@ fn role_transitions(rt: HostRuntime) -> Result<(), Fail> {
     for i in 0..list.len() {
         write_role_trans(&list.view(i).rec(rt.alloc())?, 31, &mut out)?;
     }
-    assert_eq!(rt; out.as_slice(), bytes.as_slice());
+    assert!(rt; out.as_slice() == bytes.as_slice());
     Ok(())
 }
 
@@ -66,7 +66,7 @@ fn role_allows(rt: HostRuntime) -> Result<(), Fail> {
     for i in 0..list.len() {
         write_role_allow(&list.view(i).rec(rt.alloc())?, 31, &mut out)?;
     }
-    assert_eq!(rt; out.as_slice(), bytes.as_slice());
+    assert!(rt; out.as_slice() == bytes.as_slice());
     Ok(())
 }
 
@@ -80,7 +80,7 @@ fn range_transitions(rt: HostRuntime) -> Result<(), Fail> {
     for i in 0..list.len() {
         write_range_trans(&list.view(i).rec(rt.alloc())?, 31, &mut out)?;
     }
-    assert_eq!(rt; out.as_slice(), bytes.as_slice());
+    assert!(rt; out.as_slice() == bytes.as_slice());
     Ok(())
 }
 
@@ -110,7 +110,7 @@ fn dangling_default(rt: HostRuntime) {
         cause: Cause::Dangling { table, value: 9 },
     };
     match read_name_group_entry(&mut Cursor::new(bytes)) {
-        Ok(group) => assert_eq!(rt; group.dangling(&NoNine), Some(fault)),
+        Ok(group) => assert!(rt; group.dangling(&NoNine) == Some(fault)),
         Err(_) => assert!(rt; false, "refused"),
     }
 }
