@@ -1,8 +1,8 @@
 ghost use Rattle.std.specs.Prelude.{◌≤◌, length};
 
+use pol_classes::*;
 use pol_commons::read_commons;
 use pol_cursor::{Cursor, push_number};
-use pol_symbols::*;
 use pol_symtab::Taken;
 use std::alloc::{AllocError, Global};
 use std::test::Fail;
