@@ -8,7 +8,7 @@ use Rattle.std.proofs.lemmas.List.Elements.{All-nil, All-cons, filter-append, fi
 use Rattle.pol_cursor.specs.declared.TableKind.TheVariants.{Classes}
 use Rattle.pol_cursor.specs.References.{Placed}
 use Rattle.pol_symtab.proofs.Searches.{place_of}
-use Rattle.pol_symbols.specs.declared.ClassRec.{ClassRec}
+use Rattle.pol_classes.specs.declared.ClassRec.{ClassRec}
 use Rattle.pol_symbols.specs.declared.symbols.Symbols.{Symbols}
 use Rattle.info_lines.specs.NameOrder.{number_named}
 use Rattle.info_lines.proofs.Placing.{named_within}

@@ -7,7 +7,7 @@ use Rattle.pol_constraints.specs.declared.ConstraintItem.{ConstraintItem}
 use Rattle.pol_constraints.specs.declared.ConstraintRec.{ConstraintRec}
 use Rattle.pol_constraints.specs.ConstraintMeaning.{set_text}
 use Rattle.pol_commons.specs.declared.PermissionRec.{PermissionRec}
-use Rattle.pol_symbols.specs.declared.ClassRec.{ClassRec}
+use Rattle.pol_classes.specs.declared.ClassRec.{ClassRec}
 use Rattle.pol_symbols.specs.declared.symbols.Symbols.{Symbols}
 use Rattle.pol_symbols.specs.PolicySymbols.{name_in, permissions_of}
 use Rattle.info_lines.specs.NameLists.{in_order}

@@ -2,7 +2,7 @@
 use Rattle.std.specs.Prelude.{ℕ, ◌==◌, not, Bool, if◌then◌else◌, Option, option_map, List, [], ◌∷◌, ◌++◌, map, codes}
 use Rattle.std.specs.List.{filter, flat_map}
 use Rattle.pol_cursor.specs.References.{Placed}
-use Rattle.pol_symbols.specs.declared.ClassRec.{ClassRec}
+use Rattle.pol_classes.specs.declared.ClassRec.{ClassRec}
 use Rattle.pol_symbols.specs.declared.symbols.Symbols.{Symbols}
 use Rattle.info_classes.specs.declared.default_entry.DefaultKind.{DefaultKind}
 use Rattle.info_classes.specs.declared.default_entry.DefaultKind.TheVariants.{OfUser, OfRole, OfType, OfRange}

@@ -5,7 +5,7 @@ use Rattle.std.specs.Option.{option_and_then}
 use Rattle.pol_cursor.specs.declared.TableKind.TheVariants.{Classes, Types}
 use Rattle.pol_cursor.specs.References.{Placed}
 use Rattle.pol_datums.specs.declared.TypeRec.{TypeRec}
-use Rattle.pol_symbols.specs.declared.ClassRec.{ClassRec}
+use Rattle.pol_classes.specs.declared.ClassRec.{ClassRec}
 use Rattle.pol_symbols.specs.declared.symbols.Symbols.{Symbols}
 use Rattle.info_lines.specs.NameOrder.{primary_numbers, number_named}
 

@@ -5,8 +5,9 @@ ghost use Rattle.std.specs.List.{All};
 ghost use Rattle.info_classes.specs.RecordOrder.{records_at};
 ghost use Rattle.info_classes.specs.ConstraintLines.{constraints_of, entries_of, entries_in};
 
+use pol_classes::{ClassView, ConstraintList};
 use pol_constraints::ConstraintView;
-use pol_symbols::{ClassView, ConstraintList, Symbols};
+use pol_symbols::Symbols;
 use std::alloc::{AllocError, Global};
 
 /// What constraints are on.

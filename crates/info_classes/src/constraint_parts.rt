@@ -11,9 +11,10 @@ ghost use Rattle.info_classes.specs.ConstraintLines.{is_level_pair, compares_lev
 
 use crate::constraint_entry::{ConstraintEntry, ConstraintKind};
 use info_lines::{insert_name, push_set};
+use pol_classes::ClassView;
 use pol_commons::{PermissionList, inherited_from};
 use pol_constraints::{ConstraintItemView, ConstraintItems, ConstraintView};
-use pol_symbols::{ClassView, Symbols};
+use pol_symbols::Symbols;
 use std::alloc::{AllocError, Global};
 
 /// Adds the line of a constraint of a kind.

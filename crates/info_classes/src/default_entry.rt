@@ -5,7 +5,8 @@ ghost use Rattle.std.specs.List.{All};
 ghost use Rattle.info_classes.specs.RecordOrder.{records_at};
 ghost use Rattle.info_classes.specs.DefaultLines.{default_of, entries_in};
 
-use pol_symbols::{ClassView, Symbols};
+use pol_classes::ClassView;
+use pol_symbols::Symbols;
 use std::alloc::{AllocError, Global};
 
 /// What a new object has by default.

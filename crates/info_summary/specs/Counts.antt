@@ -9,7 +9,7 @@ use Rattle.pol_datums.specs.declared.CategoryRec.{CategoryRec}
 use Rattle.pol_datums.specs.declared.Flavour.{Flavour}
 use Rattle.pol_datums.specs.Flags.{is_primary_flag}
 use Rattle.pol_datums.specs.TypeRecord.{flavour_of}
-use Rattle.pol_symbols.specs.declared.ClassRec.{ClassRec}
+use Rattle.pol_classes.specs.declared.ClassRec.{ClassRec}
 use Rattle.pol_genfs.specs.declared.GenfsRec.{GenfsRec}
 use Rattle.pol_contexts.specs.declared.Contexts.{Contexts}
 use Rattle.pol_read.specs.declared.Parts.{Parts}

@@ -2,7 +2,7 @@
 use Rattle.std.specs.Prelude.{ℕ, ◌++◌, ◌==◌, [], Bool, true, false, List, length, codes, if◌then◌else◌}
 use Rattle.pol_commons.specs.declared.permission_rec.PermissionRec.{PermissionRec}
 use Rattle.pol_commons.specs.declared.common_rec.CommonRec.{CommonRec}
-use Rattle.pol_symbols.specs.declared.class_rec.ClassRec.{ClassRec}
+use Rattle.pol_classes.specs.declared.class_rec.ClassRec.{ClassRec}
 use Rattle.info_symbols.specs.PermissionSets.{permission_set}
 
 -- the common of a class, whose name is empty where it has none

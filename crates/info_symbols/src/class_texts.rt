@@ -4,8 +4,8 @@ ghost use Rattle.std.specs.Prelude.{◌≡◌, ◌++◌, OnOk};
 ghost use Rattle.info_symbols.specs.ClassLines.{class_line, common_line, inherits_text, own_text};
 
 use crate::permission_sets::push_permissions;
+use pol_classes::ClassView;
 use pol_commons::{CommonView, PermissionList};
-use pol_symbols::ClassView;
 use std::alloc::AllocError;
 
 /// Adds the line of a class.

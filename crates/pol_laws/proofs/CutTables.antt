@@ -5,7 +5,7 @@ use Rattle.pol_cursor.specs.Outcome.{Reader}
 use Rattle.pol_symtab.specs.SymbolTables.{Table, table_head_at, table_records_at, table_at}
 use Rattle.pol_commons.specs.declared.CommonRec.{CommonRec}
 use Rattle.pol_commons.specs.CommonTable.{first_context, common_under, after_common, commons_at}
-use Rattle.pol_symbols.specs.ClassTables.{class_start, after_class, class_under, class_table_at}
+use Rattle.pol_classes.specs.ClassTables.{class_start, after_class, class_under, class_table_at}
 use Rattle.pol_symbols.specs.PolicySymbols.{roles_at, types_at, users_at, booleans_at, levels_at, categories_at, rule_tables_at, other_tables_at, symbols_at}
 use Rattle.pol_avtab.specs.declared.AvKey.{AvKey}
 use Rattle.pol_avtab.specs.AvRecord.{is_extended, extended_at, data_at, part_at, av_at}

@@ -20,7 +20,7 @@ use Rattle.pol_commons.specs.Permissions.{permissions_at}
 use Rattle.pol_symtab.specs.SymbolFields.{symbol_length_at, symbol_name_at}
 use Rattle.pol_datums.specs.SymbolValues.{new_value_at, bounds_at}
 use Rattle.pol_expr.specs.ConditionRecord.{condition_at}
-use Rattle.pol_symbols.specs.ClassRecord.{head_at, default_at, class_at}
+use Rattle.pol_classes.specs.ClassRecord.{head_at, default_at, class_at}
 use Rattle.pol_symbols.specs.UserRecord.{user_at}
 use Rattle.pol_avtab.specs.declared.AvKey.{AvKey}
 use Rattle.pol_avtab.specs.XPerms.{xperms_of}

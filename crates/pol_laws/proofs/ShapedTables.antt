@@ -9,7 +9,7 @@ use Rattle.pol_symtab.proofs.FreshRecords.{Gives-part, Gives-done}
 use Rattle.pol_symtab.specs.SymbolTables.{Table, table_head_at, table_records_at, table_at, table_start}
 use Rattle.pol_commons.specs.declared.CommonRec.{CommonRec}
 use Rattle.pol_commons.specs.CommonTable.{commons_at}
-use Rattle.pol_symbols.specs.ClassTables.{class_under, after_class, class_start, class_table_at}
+use Rattle.pol_classes.specs.ClassTables.{class_under, after_class, class_start, class_table_at}
 use Rattle.pol_symbols.specs.PolicySymbols.{roles_at, types_at, users_at, booleans_at, levels_at, categories_at, rule_tables_at, other_tables_at, symbols_at}
 use Rattle.pol_avtab.specs.AvTables.{rule_at, after_rule, no_rules, placed_rules_at, table_at as rule_table_at, conditionals_at}
 use Rattle.pol_trans.specs.NameTransRecord.{name_trans_at}

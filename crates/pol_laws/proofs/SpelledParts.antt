@@ -18,13 +18,13 @@ use Rattle.pol_datums.specs.BooleanRecord.{spell_boolean, BooleanFits}
 use Rattle.pol_datums.specs.SensitivityRecord.{spell_sensitivity, SensitivityFits}
 use Rattle.pol_datums.specs.CategoryRecord.{spell_category, CategoryFits}
 use Rattle.pol_datums.proofs.DatumLaws.{role_spelled, type_spelled, boolean_spelled, sensitivity_spelled, category_spelled}
-use Rattle.pol_symbols.specs.ClassRecord.{spell_class, ClassFits}
-use Rattle.pol_symbols.specs.ClassTables.{class_under, after_class, class_start, class_table_at}
+use Rattle.pol_classes.specs.ClassRecord.{spell_class, ClassFits}
+use Rattle.pol_classes.specs.ClassTables.{class_under, after_class, class_start, class_table_at}
 use Rattle.pol_symbols.specs.UserRecord.{spell_user, UserFits}
 use Rattle.pol_symbols.specs.PolicySymbols.{roles_at, types_at, users_at, booleans_at, levels_at, categories_at, rule_tables_at, other_tables_at, symbols_at}
 use Rattle.pol_symbols.specs.declared.symbols.RuleTables.{RuleTables}
 use Rattle.pol_symbols.specs.declared.symbols.OtherTables.{OtherTables}
-use Rattle.pol_symbols.proofs.ClassLaws.{class_spelled}
+use Rattle.pol_classes.proofs.ClassLaws.{class_spelled}
 use Rattle.pol_symbols.proofs.UserLaws.{user_spelled}
 use Rattle.pol_avtab.specs.AvRecord.{spell_av}
 use Rattle.pol_avtab.specs.CondNodeRecord.{spell_condnode}

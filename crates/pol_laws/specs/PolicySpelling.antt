@@ -12,7 +12,7 @@ use Rattle.pol_datums.specs.TypeRecord.{spell_type}
 use Rattle.pol_datums.specs.BooleanRecord.{spell_boolean}
 use Rattle.pol_datums.specs.SensitivityRecord.{spell_sensitivity}
 use Rattle.pol_datums.specs.CategoryRecord.{spell_category}
-use Rattle.pol_symbols.specs.ClassRecord.{spell_class}
+use Rattle.pol_classes.specs.ClassRecord.{spell_class}
 use Rattle.pol_symbols.specs.UserRecord.{spell_user}
 use Rattle.pol_symbols.specs.declared.symbols.Symbols.{Symbols}
 use Rattle.pol_avtab.specs.AvRecord.{spell_av}

@@ -9,7 +9,7 @@ use Rattle.pol_constraints.specs.declared.ConstraintRec.{ConstraintRec}
 use Rattle.pol_constraints.specs.declared.NameSet.{NameSet}
 use Rattle.pol_constraints.specs.declared.TypeSet.{TypeSet}
 use Rattle.pol_constraints.specs.ConstraintRecord.{has_type_set}
-use Rattle.pol_symbols.specs.declared.ClassRec.{ClassRec}
+use Rattle.pol_classes.specs.declared.ClassRec.{ClassRec}
 use Rattle.pol_symbols.specs.declared.UserRec.{UserRec}
 use Rattle.pol_avtab.specs.declared.AvRec.{AvRec}
 use Rattle.pol_avtab.specs.declared.CondNodeRec.{CondNodeRec}

@@ -18,7 +18,7 @@ use Rattle.pol_commons.specs.CommonTable.{commons_at}
 use Rattle.pol_datums.specs.declared.TypeRec.{TypeRec}
 use Rattle.pol_datums.specs.SymbolValues.{value_at, bounds_at}
 use Rattle.pol_datums.specs.TypeRecord.{type_at}
-use Rattle.pol_symbols.specs.ClassTables.{class_table_at}
+use Rattle.pol_classes.specs.ClassTables.{class_table_at}
 use Rattle.pol_symbols.specs.PolicySymbols.{roles_at, types_at, rule_tables_at, other_tables_at, symbols_at}
 use Rattle.pol_trans.specs.RangeTransRecord.{range_trans_at}
 use Rattle.pol_contexts.specs.ContextTables.{contexts_at, table_at as context_table_at}

@@ -23,12 +23,12 @@ use Rattle.pol_datums.specs.BooleanRecord.{boolean_at}
 use Rattle.pol_datums.specs.SensitivityRecord.{sensitivity_at}
 use Rattle.pol_datums.specs.CategoryRecord.{category_at}
 use Rattle.pol_datums.specs.Flags.{is_primary_flag}
-use Rattle.pol_symbols.specs.declared.class_rec.ClassRec.{ClassRec}
+use Rattle.pol_classes.specs.declared.ClassRec.{ClassRec}
 use Rattle.pol_symbols.specs.declared.user_rec.UserRec.{UserRec}
 use Rattle.pol_symbols.specs.declared.symbols.Symbols.{Symbols}
 use Rattle.pol_symbols.specs.declared.symbols.RuleTables.{RuleTables}
 use Rattle.pol_symbols.specs.declared.symbols.OtherTables.{OtherTables}
-use Rattle.pol_symbols.specs.ClassTables.{class_table_at}
+use Rattle.pol_classes.specs.ClassTables.{class_table_at}
 use Rattle.pol_symbols.specs.UserRecord.{user_at}
 
 -- ---- how they are read

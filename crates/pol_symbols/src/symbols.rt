@@ -5,9 +5,8 @@ ghost use Rattle.pol_symtab.specs.SymbolTables.{declares};
 ghost use Rattle.pol_commons.specs.Permissions.{of_value};
 ghost use Rattle.pol_symbols.specs.PolicySymbols.{flavour_in, permissions_of, permission_name_in, permission_mask_in, prims_in, count_in, roles_at, types_at, users_at, booleans_at, levels_at, categories_at, rule_tables_at, other_tables_at, symbols_at, value_in, index_in, name_in, rank_in};
 
-use crate::class_table::{ClassTable, read_class_table};
-use crate::class_view::ClassView;
 use crate::user_kind::User;
+use pol_classes::{ClassTable, ClassView, read_class_table};
 use pol_commons::{CommonList, PermissionView, inherited_from, read_commons};
 use pol_cursor::{Cursor, Names, ReadError, TableKind};
 use pol_datums::{Boolean, Category, Flavour, Role, Sensitivity, Type};

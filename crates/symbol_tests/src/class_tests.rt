@@ -1,8 +1,8 @@
 ghost use Rattle.std.specs.Prelude.{◌≤◌, length};
 
+use pol_classes::*;
 use pol_commons::read_commons;
 use pol_cursor::{Cursor, push_number};
-use pol_symbols::*;
 use pol_symtab::Taken;
 use std::alloc::{AllocError, Global};
 use std::test::Fail;
@@ -50,7 +50,7 @@ fn classes_are_written_again(rt: HostRuntime) -> Result<(), Fail> {
     for version in [28, 29] {
         let bytes = dir(rt.alloc(), version)?;
         assert!(rt; bytes.len() <= 67108864);
-        assert_eq!(rt; written_again(rt.alloc(), &bytes, version)?, bytes);
+        assert!(rt; written_again(rt.alloc(), &bytes, version)? == bytes);
     }
     Ok(())
 }

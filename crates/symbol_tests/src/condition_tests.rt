@@ -48,9 +48,9 @@ fn first_dangling(rt: HostRuntime) -> Result<(), Fail> {
     match condition.dangling(&TwoNames) {
         None => assert!(rt; false, "no boolean dangles"),
         Some(fault) => {
-            assert_eq!(rt; fault.place, 28);
+            assert!(rt; fault.place == 28);
             let table = TableKind::Booleans;
-            assert_eq!(rt; fault.cause, Cause::Dangling { table, value: 3 });
+            assert!(rt; fault.cause == Cause::Dangling { table, value: 3 });
         }
     }
     Ok(())
@@ -84,9 +84,9 @@ fn texts_and_values(rt: HostRuntime) -> Result<(), Fail> {
         let Ok(condition) = condition_of(&bytes) else {
             return Err(Fail::from("refused"));
         };
-        assert_eq!(rt; condition.infix(rt.alloc(), &TwoNames)?.as_slice(), text);
-        assert_eq!(rt; condition.eval(&first), in_first);
-        assert_eq!(rt; condition.eval(&both), in_both);
+        assert!(rt; condition.infix(rt.alloc(), &TwoNames)?.as_slice() == text);
+        assert!(rt; condition.eval(&first) == in_first);
+        assert!(rt; condition.eval(&both) == in_both);
     }
     Ok(())
 }
@@ -102,11 +102,11 @@ fn booleans(rt: HostRuntime) -> Result<(), Fail> {
         return Err(Fail::from("too few items"));
     }
     let booleans = condition.booleans_of(rt.alloc())?;
-    assert_eq!(rt; booleans.count(), 2);
+    assert!(rt; booleans.count() == 2);
     assert!(rt; booleans.has(70) && booleans.has(2) && !booleans.has(9));
-    assert_eq!(rt; condition.kind(2), 5);
-    assert_eq!(rt; condition.boolean(2), 9);
-    assert_eq!(rt; condition.state(), 0);
+    assert!(rt; condition.kind(2) == 5);
+    assert!(rt; condition.boolean(2) == 9);
+    assert!(rt; condition.state() == 0);
     Ok(())
 }
 
@@ -118,6 +118,6 @@ fn owned_condition(rt: HostRuntime) -> Result<(), Fail> {
     };
     let mut out = Vec::new(rt.alloc());
     write_condition(&condition.rec(rt.alloc())?, 29, &mut out)?;
-    assert_eq!(rt; out, bytes);
+    assert!(rt; out == bytes);
     Ok(())
 }

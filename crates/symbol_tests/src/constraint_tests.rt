@@ -58,9 +58,9 @@ fn constraints(rt: HostRuntime) -> Result<(), Fail> {
         match read_constraint(&mut Cursor::new(&bytes[..len]), version, xtarget) {
             Ok(constraint) => {
                 assert!(rt; fault.is_none());
-                assert_eq!(rt; constraint.permissions(), 1);
+                assert!(rt; constraint.permissions() == 1);
             }
-            Err(found) => assert_eq!(rt; Some((found.place, found.cause)), fault),
+            Err(found) => assert!(rt; Some((found.place, found.cause)) == fault),
         }
     }
     Ok(())
@@ -121,7 +121,7 @@ fn texts_of_constraints(rt: HostRuntime) -> Result<(), Fail> {
         let len = bytes.len().min(1000);
         match read_constraint(&mut Cursor::new(&bytes[..len]), 28, true) {
             Ok(constraint) => {
-                assert_eq!(rt; constraint.infix(rt.alloc(), &TwoTypes)?.as_slice(), text);
+                assert!(rt; constraint.infix(rt.alloc(), &TwoTypes)?.as_slice() == text);
             }
             Err(fault) => return Err(Fail::from(fault.cause.word())),
         }
@@ -149,20 +149,17 @@ fn parts_of_constraints(rt: HostRuntime) -> Result<(), Fail> {
     if constraint.len() < 2 {
         return Err(Fail::from("too few items"));
     }
-    assert_eq!(rt;
-        (constraint.kind(0), constraint.attr(0), constraint.op(0)),
-        (5, 12, 2)
-    );
+    assert!(rt; (constraint.kind(0), constraint.attr(0), constraint.op(0)) == (5, 12, 2));
     assert!(rt; constraint.names(0).is_some_and(|names| names.has(0)));
     assert!(rt;
         constraint
             .written(0)
             .is_some_and(|set| set.types().has(2) && set.flags() == 1)
     );
-    assert_eq!(rt; constraint.kind(1), 1);
+    assert!(rt; constraint.kind(1) == 1);
     assert!(rt; constraint.names(1).is_none());
     let mut out = Vec::new(rt.alloc());
     write_constraint(&constraint.rec(rt.alloc())?, 29, &mut out)?;
-    assert_eq!(rt; out, bytes);
+    assert!(rt; out == bytes);
     Ok(())
 }

@@ -61,22 +61,13 @@ fn parts_of_roles(rt: HostRuntime) -> Result<(), Fail> {
     assert!(rt; bytes.len() == 49);
     let taken = Taken::new(rt.alloc());
     let role = read_role(&mut Cursor::new(bytes), &taken, 2).map_err(|fault| fault.cause.word())?;
-    assert_eq!(rt;
-        (role.value(), role.bounds(), role.name()),
-        (2, 5, b"r".as_slice())
-    );
-    assert_eq!(rt; (role.dominates().count(), role.types().count()), (0, 2));
-    assert_eq!(rt;
-        role.dangling(&NoNames),
-        dangling_at(8, 3, 8, TableKind::Roles, 5)
-    );
+    assert!(rt; (role.value(), role.bounds(), role.name()) == (2, 5, b"r".as_slice()));
+    assert!(rt; (role.dominates().count(), role.types().count()) == (0, 2));
+    assert!(rt; role.dangling(&NoNames) == dangling_at(8, 3, 8, TableKind::Roles, 5));
     let mut out = Vec::new(rt.alloc());
     write_role(&role.rec(rt.alloc())?, 31, &mut out)?;
-    assert_eq!(rt; out.as_slice(), bytes);
-    assert_eq!(rt;
-        symbol_of::<Role>(rt.alloc(), bytes)?,
-        (b"r".as_slice(), 2, true)
-    );
+    assert!(rt; out.as_slice() == bytes);
+    assert!(rt; symbol_of::<Role>(rt.alloc(), bytes)? == (b"r".as_slice(), 2, true));
     Ok(())
 }
 
@@ -86,21 +77,12 @@ fn parts_of_types(rt: HostRuntime) -> Result<(), Fail> {
     assert!(rt; bytes.len() == 19);
     let taken = Taken::new(rt.alloc());
     let alias = read_type(&mut Cursor::new(bytes), &taken, 2).map_err(|fault| fault.cause.word())?;
-    assert_eq!(rt;
-        (alias.value(), alias.properties(), alias.bounds()),
-        (1, 4, 2)
-    );
-    assert_eq!(rt;
-        alias.dangling(&NoNames),
-        dangling_at(9, 2, 4, TableKind::Types, 1)
-    );
+    assert!(rt; (alias.value(), alias.properties(), alias.bounds()) == (1, 4, 2));
+    assert!(rt; alias.dangling(&NoNames) == dangling_at(9, 2, 4, TableKind::Types, 1));
     let mut out = Vec::new(rt.alloc());
     write_type(&alias.rec(rt.alloc())?, 31, &mut out)?;
-    assert_eq!(rt; out.as_slice(), bytes);
-    assert_eq!(rt;
-        symbol_of::<Type>(rt.alloc(), bytes)?,
-        (b"a_t".as_slice(), 1, false)
-    );
+    assert!(rt; out.as_slice() == bytes);
+    assert!(rt; symbol_of::<Type>(rt.alloc(), bytes)? == (b"a_t".as_slice(), 1, false));
     Ok(())
 }
 
@@ -112,17 +94,11 @@ fn parts_of_booleans(rt: HostRuntime) -> Result<(), Fail> {
     let boolean = read_boolean(&mut Cursor::new(bytes), &taken, 2).map_err(|fault| fault
         .cause
         .word())?;
-    assert_eq!(rt;
-        (boolean.value(), boolean.state(), boolean.name()),
-        (2, 1, b"b".as_slice())
-    );
+    assert!(rt; (boolean.value(), boolean.state(), boolean.name()) == (2, 1, b"b".as_slice()));
     let mut out = Vec::new(rt.alloc());
     write_boolean(&boolean.rec(rt.alloc())?, 31, &mut out)?;
-    assert_eq!(rt; out.as_slice(), bytes);
-    assert_eq!(rt;
-        symbol_of::<Boolean>(rt.alloc(), bytes)?,
-        (b"b".as_slice(), 2, true)
-    );
+    assert!(rt; out.as_slice() == bytes);
+    assert!(rt; symbol_of::<Boolean>(rt.alloc(), bytes)? == (b"b".as_slice(), 2, true));
     Ok(())
 }
 
@@ -135,21 +111,12 @@ fn parts_of_sensitivities(rt: HostRuntime) -> Result<(), Fail> {
     let alias = read_sensitivity(&mut Cursor::new(bytes), &taken, 2).map_err(|fault| fault
         .cause
         .word())?;
-    assert_eq!(rt;
-        (alias.isalias(), alias.sens(), alias.categories().count()),
-        (1, 2, 2)
-    );
-    assert_eq!(rt;
-        alias.dangling(&NoNames),
-        dangling_at(12, 4, 10, TableKind::Levels, 2)
-    );
+    assert!(rt; (alias.isalias(), alias.sens(), alias.categories().count()) == (1, 2, 2));
+    assert!(rt; alias.dangling(&NoNames) == dangling_at(12, 4, 10, TableKind::Levels, 2));
     let mut out = Vec::new(rt.alloc());
     write_sensitivity(&alias.rec(rt.alloc())?, 31, &mut out)?;
-    assert_eq!(rt; out.as_slice(), bytes);
-    assert_eq!(rt;
-        symbol_of::<Sensitivity>(rt.alloc(), bytes)?,
-        (b"s1".as_slice(), 2, false)
-    );
+    assert!(rt; out.as_slice() == bytes);
+    assert!(rt; symbol_of::<Sensitivity>(rt.alloc(), bytes)? == (b"s1".as_slice(), 2, false));
     Ok(())
 }
 
@@ -161,20 +128,11 @@ fn parts_of_categories(rt: HostRuntime) -> Result<(), Fail> {
     let alias = read_category(&mut Cursor::new(bytes), &taken, 2).map_err(|fault| fault
         .cause
         .word())?;
-    assert_eq!(rt;
-        (alias.isalias(), alias.value(), alias.is_primary()),
-        (1, 2, false)
-    );
-    assert_eq!(rt;
-        alias.dangling(&NoNames),
-        dangling_at(13, 2, 4, TableKind::Categories, 2)
-    );
+    assert!(rt; (alias.isalias(), alias.value(), alias.is_primary()) == (1, 2, false));
+    assert!(rt; alias.dangling(&NoNames) == dangling_at(13, 2, 4, TableKind::Categories, 2));
     let mut out = Vec::new(rt.alloc());
     write_category(&alias.rec(rt.alloc())?, 31, &mut out)?;
-    assert_eq!(rt; out.as_slice(), bytes);
-    assert_eq!(rt;
-        symbol_of::<Category>(rt.alloc(), bytes)?,
-        (b"c1".as_slice(), 2, false)
-    );
+    assert!(rt; out.as_slice() == bytes);
+    assert!(rt; symbol_of::<Category>(rt.alloc(), bytes)? == (b"c1".as_slice(), 2, false));
     Ok(())
 }

@@ -23,20 +23,17 @@ fn parts_of_users(rt: HostRuntime) -> Result<(), Fail> {
     assert!(rt; bytes.len() == 73);
     let taken = Taken::new(rt.alloc());
     let user = read_user(&mut Cursor::new(bytes), &taken, 1).map_err(|fault| fault.cause.word())?;
-    assert_eq!(rt;
-        (user.value(), user.bounds(), user.roles().count()),
-        (1, 0, 1)
-    );
-    assert_eq!(rt; (user.range().low(), user.level().sens()), (3, 4));
+    assert!(rt; (user.value(), user.bounds(), user.roles().count()) == (1, 0, 1));
+    assert!(rt; (user.range().low(), user.level().sens()) == (3, 4));
     let table = TableKind::Levels;
     let fault = Fault {
         place: 41,
         field: Field { row: 15, part: 2 },
         cause: Cause::Dangling { table, value: 3 },
     };
-    assert_eq!(rt; user.dangling(&NoNames), Some(fault));
+    assert!(rt; user.dangling(&NoNames) == Some(fault));
     let mut out = Vec::new(rt.alloc());
     write_user(&user.rec(rt.alloc())?, 31, &mut out)?;
-    assert_eq!(rt; out.as_slice(), bytes);
+    assert!(rt; out.as_slice() == bytes);
     Ok(())
 }

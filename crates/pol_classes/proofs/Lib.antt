@@ -1,0 +1,4 @@
+pub mod ConstraintPlaces
+pub mod ClassLaws
+pub mod ClassForms
+pub mod ClassTableParts

@@ -1,0 +1,21 @@
+//! Classes of objects, with their permissions and constraints, and the table of them.
+#![tactic(auto)]
+
+mod causes;
+mod class_head;
+mod class_kind;
+mod class_rec;
+mod class_table;
+mod class_view;
+mod class_write;
+mod constraint_length;
+mod constraint_list;
+mod record_laws;
+
+pub use class_kind::{Class, ClassContext};
+pub use class_rec::{ClassRec, ClassRecList};
+pub use class_table::{ByTypeSets, ClassTable, read_class_table};
+pub use class_view::{ClassView, read_class};
+pub use class_write::write_class;
+pub use constraint_list::ConstraintList;
+pub use record_laws::{classes_have_laws, classes_have_two_forms};
