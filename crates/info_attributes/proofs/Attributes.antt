@@ -1,20 +1,17 @@
 -- The records of attributes, and their statements.
-use Rattle.std.proofs.Common.{◌≡◌, ℕ, ◌<◌, ◌≤◌, Bool, true, false, cond, List, [], ◌∷◌, ◌&&◌, Option, Some, None, length, map, slice_get, refl, sym, ap, ◌∙◌, arith}
-use Rattle.std.specs.Prelude.{nat_le}
+use Rattle.std.proofs.Common.{◌≡◌, ℕ, ◌<◌, Bool, true, false, cond, List, [], ◌∷◌, Option, Some, None, length, map, slice_get, refl, sym, ap, ◌∙◌}
 use Rattle.std.specs.List.{All, Contains, filter, range_with_len}
-use Rattle.std.proofs.lemmas.Bool.{and_parts, leb-true}
 use Rattle.std.proofs.lemmas.List.{length-map}
 use Rattle.std.proofs.lemmas.List.Elements.{All-weaker, All-contains, All-contains_itself}
 use Rattle.std.proofs.lemmas.Option.{none-some, same_Some, option_and_then_some}
 use Rattle.pol_cursor.specs.References.{Placed}
 use Rattle.pol_cursor.specs.declared.TableKind.TheVariants.{Types}
-use Rattle.pol_symtab.proofs.Searches.{place_of}
 use Rattle.pol_datums.specs.declared.TypeRec.{TypeRec}
 use Rattle.pol_datums.specs.declared.Flavour.TheVariants.{Attribute}
 use Rattle.pol_datums.specs.TypeRecord.{flavour_of}
-use Rattle.pol_symbols.specs.declared.symbols.Symbols.{Symbols}
-use Rattle.pol_symbols.specs.PolicySymbols.{index_in, value_in, flavour_in}
+use Rattle.pol_symbols.specs.PolicySymbols.{index_in, value_in}
 use Rattle.pol_read.specs.declared.parts.Parts.{Parts}
+use Rattle.pol_read.specs.TypeValues.{IsTypeValue}
 use Rattle.info_lines.specs.Listings.{line_of}
 use Rattle.info_lines.specs.NameOrder.{primary_numbers}
 use Rattle.info_lines.specs.NameSets.{names_of_values}
@@ -26,24 +23,27 @@ use Rattle.info_lines.specs.NameOrder.{number_named}
 use Rattle.info_symbols.specs.Flavours.{is_flavour}
 use Rattle.info_symbols.specs.TypeListings.{number_in, number_if_in, set_numbers}
 use Rattle.info_symbols.proofs.Listed.{lines_are, one_line}
-use Rattle.info_attributes.specs.PolicyMap.{IsAttribute, has_flavour, has_row, types_of, values_of_flavour}
+use Rattle.info_attributes.specs.PolicyMap.{IsAttribute, has_flavour, types_of, values_of_flavour}
 use Rattle.info_attributes.specs.AttributeLines.{attribute_statement, statement_lines, statement_text, attribute_statement_listing, attribute_statement_listing_named}
 use Rattle.info_attributes.proofs.Declared.{contains_range, keeps, kept}
 use Rattle.info_attributes.proofs.PrimaryTypes.{IsPrimary, all_primary, declared_by}
 
--- the value of a primary record of that flavour is that of an attribute
-is_attribute_value : (symbols : Symbols) (value : ℕ) (t : TypeRec) → 1 ≤ value → value ≤ symbols.types.nprim → (t.value ≡ value) × (flavour_in symbols value ≡ flavour_of t.properties) → is_flavour Attribute (flavour_of t.properties) ≡ true
-    → Contains (values_of_flavour symbols Attribute) t.value
-unfolding values_of_flavour
-is_attribute_value symbols value t least most says is =
-    let passes : has_flavour symbols Attribute value ≡ true = ap (is_flavour Attribute) says.1 ∙ is in
-    rw says.0 (keeps (has_flavour symbols Attribute) (range_with_len 1 symbols.types.nprim) value (contains_range symbols.types.nprim value least most) passes)
-
-is_attribute : (parts : Parts) (number : ℕ) → IsPrimary parts.symbols number → number_in parts Attributes number ≡ true → IsAttribute parts number
-is_attribute parts number primary is = record {
-  within = index_within parts.symbols Types primary.value number primary.at;
-  value = λ t at. is_attribute_value parts.symbols primary.value t.value primary.least primary.most (declared_by parts.symbols primary.value number t primary.at at) (rw at at is);
+is_attribute : (parts : Parts) (value number : ℕ) → index_in parts.symbols Types value ≡ Some number → number_in parts Attributes number ≡ true → IsAttribute parts number
+is_attribute parts value number at is = record {
+  within = index_within parts.symbols Types value number at;
+  declared = λ t there.
+      let says = declared_by parts.symbols value number t at there in
+      let passes : is_flavour Attribute (flavour_of t.value.properties) ≡ true = rw there at is in
+      ap (has_flavour parts.symbols Attribute) says.0 ∙ ap (is_flavour Attribute) says.1 ∙ passes;
 }
+
+-- its value is that of an attribute
+pub attribute_value : (parts : Parts) (number : ℕ) (t : Placed TypeRec) → IsAttribute parts number → slice_get parts.symbols.types.records number ≡ Some t → IsTypeValue parts.symbols t.value.value
+    → Contains (values_of_flavour parts.symbols Attribute) t.value.value
+unfolding values_of_flavour
+attribute_value parts number t is at within =
+    let nprim = parts.symbols.types.nprim in
+    keeps (has_flavour parts.symbols Attribute) (range_with_len 1 nprim) t.value.value (contains_range nprim t.value.value within.0 within.1) (is.declared t at)
 
 -- all that are listed are attributes
 pub listed_attributes : (parts : Parts) → All (IsAttribute parts) (set_numbers parts Attributes)
@@ -51,7 +51,10 @@ listed_attributes parts =
     let numbers = primary_numbers parts.symbols Types in
     let listed = filter (number_in parts Attributes) numbers in
     All-weaker (Contains listed) (IsAttribute parts)
-    (λ number there. let h = kept (number_in parts Attributes) numbers number there in is_attribute parts number (All-contains (IsPrimary parts.symbols) numbers number (all_primary parts.symbols) h.0) h.1)
+    (λ number there.
+    let h = kept (number_in parts Attributes) numbers number there in
+    let primary = All-contains (IsPrimary parts.symbols) numbers number (all_primary parts.symbols) h.0 in
+    is_attribute parts primary.value number primary.at h.1)
     listed (All-contains_itself listed)
 
 -- each has a line
@@ -80,28 +83,15 @@ if_in parts set (Some n) number e =
     let h = number_kept (number_in parts set n) n number e in
     (ap Some h.0, ap (number_in parts set) (sym h.0) ∙ h.1)
 
-with_row : (parts : Parts) (value number : ℕ) → index_in parts.symbols Types value ≡ Some number → has_row parts number ≡ true → IsPrimary parts.symbols number
-with_row parts value number at row =
-    let there = place_of parts.symbols.types.records number (index_within parts.symbols Types value number at) in
-    let says = declared_by parts.symbols value number there.0 at there.1 in
-    let within : (nat_le 1 there.0.value.value && nat_le there.0.value.value parts.symbols.types.nprim) ≡ true = rw there.1 at row in
-    let both = and_parts (nat_le 1 there.0.value.value) (nat_le there.0.value.value parts.symbols.types.nprim) within in
-    record {
-      value = value;
-      least = omega (arith, says.0, leb-true 1 there.0.value.value both.0);
-      most = omega (arith, says.0, leb-true there.0.value.value parts.symbols.types.nprim both.1);
-      at = at;
-    }
-
-pub named_attribute : (parts : Parts) (name : List ℕ) (number : ℕ) → Some number ≡ number_if_in parts Attributes (number_named parts.symbols Types name) → has_row parts number ≡ true → IsAttribute parts number
-named_attribute parts name number found row =
+pub named_attribute : (parts : Parts) (name : List ℕ) (number : ℕ) → Some number ≡ number_if_in parts Attributes (number_named parts.symbols Types name) → IsAttribute parts number
+named_attribute parts name number found =
     let h = if_in parts Attributes (number_named parts.symbols Types name) number (sym found) in
-    is_attribute parts number (option_and_then_some (index_in parts.symbols Types) (value_in parts.symbols Types name) number h.0 (λ value is at. with_row parts value number at row)) h.1
+    option_and_then_some (index_in parts.symbols Types) (value_in parts.symbols Types name) number h.0 (λ value is at. is_attribute parts value number at h.1)
 
-pub statement_named : (parts : Parts) (name : List ℕ) (number : ℕ) → Some number ≡ number_if_in parts Attributes (number_named parts.symbols Types name) → IsAttribute parts number
-    → Some (line_of (statement_lines parts) number ∷ []) ≡ attribute_statement_listing_named parts name
+pub statement_named : (parts : Parts) (name : List ℕ) (number : ℕ) → Some number ≡ number_if_in parts Attributes (number_named parts.symbols Types name) → Some (line_of (statement_lines parts) number ∷ []) ≡ attribute_statement_listing_named parts name
 unfolding attribute_statement_listing_named
-statement_named parts name number found is =
+statement_named parts name number found =
+    let is = named_attribute parts name number found in
     rw (← found) (one_line (statement_lines parts) number (rw (length-map parts.symbols.types.records (λ t. attribute_statement parts t.value)) is.within))
 
 pub statement_unnamed : (parts : Parts) (name : List ℕ) → None ≡ number_if_in parts Attributes (number_named parts.symbols Types name) → None ≡ attribute_statement_listing_named parts name

@@ -1,9 +1,9 @@
 -- The primary records of types by their numbers.
-use Rattle.std.proofs.Common.{◌≡◌, ℕ, ◌≤◌, List, [], ◌∷◌, Option, Some, None, slice_get, refl, ap}
+use Rattle.std.proofs.Common.{◌≡◌, ℕ, List, [], ◌∷◌, Option, Some, None, slice_get, refl, ap}
 use Rattle.std.specs.Prelude.{nat_eq}
-use Rattle.std.specs.List.{All, filter_map, cons_option, range_with_len}
+use Rattle.std.specs.List.{All, filter_map, cons_option}
 use Rattle.std.proofs.lemmas.Bool.{and_parts, eqb-true}
-use Rattle.std.proofs.lemmas.List.Elements.{All-nil, All-cons, All-contains}
+use Rattle.std.proofs.lemmas.List.Elements.{All-nil, All-cons}
 use Rattle.std.proofs.lemmas.Option.{option_and_then_some}
 use Rattle.pol_cursor.specs.References.{Placed}
 use Rattle.pol_cursor.specs.declared.TableKind.TheVariants.{Types}
@@ -11,16 +11,14 @@ use Rattle.pol_symtab.specs.SymbolTables.{declares}
 use Rattle.pol_datums.specs.declared.TypeRec.{TypeRec}
 use Rattle.pol_datums.specs.TypeRecord.{is_primary_type, flavour_of}
 use Rattle.pol_symbols.specs.declared.symbols.Symbols.{Symbols}
-use Rattle.pol_symbols.specs.PolicySymbols.{index_in, rank_in, flavour_in, flavour_found}
+use Rattle.pol_symbols.specs.PolicySymbols.{index_in, flavour_in, flavour_found}
 use Rattle.pol_symbols.proofs.SymbolSearch.{primary_found}
-use Rattle.info_lines.specs.NameOrder.{is_rank, value_of_rank, number_of_rank, primary_numbers}
-use Rattle.info_attributes.proofs.Declared.{found, range_within}
+use Rattle.info_lines.specs.NameOrder.{value_of_rank, number_of_rank, primary_numbers}
+use Rattle.info_attributes.proofs.Declared.{found}
 
--- A number is that of the primary record of a value from 1 to nprim.
+-- A number is that of the primary record of a value.
 pub record IsPrimary (symbols : Symbols) (number : ℕ) : Type 0 where
   pub value : ℕ
-  pub least : 1 ≤ value
-  pub most : value ≤ symbols.types.nprim
   pub at : index_in symbols Types value ≡ Some number
 
 all_given-go : (P : ℕ → Type 0) (o : Option ℕ) (xs : List ℕ) → ((y : ℕ) → o ≡ Some y → P y) → All P xs → All P (cons_option o xs)
@@ -33,10 +31,7 @@ all_given P h gives (x ∷ xs) = all_given-go P (h x) (filter_map h xs) (gives x
 
 one_primary : (symbols : Symbols) (rank number : ℕ) → number_of_rank symbols Types rank ≡ Some number → IsPrimary symbols number
 unfolding number_of_rank
-one_primary symbols rank number e = option_and_then_some (index_in symbols Types) (value_of_rank symbols Types rank) number e λ value is at.
-    let there = found (λ (value : ℕ). is_rank rank (rank_in symbols Types value)) (range_with_len 1 symbols.types.nprim) value is in
-    let within = All-contains (λ v. (1 ≤ v) × (v ≤ symbols.types.nprim)) (range_with_len 1 symbols.types.nprim) value (range_within symbols.types.nprim) there.0 in
-    record { value = value; least = within.0; most = within.1; at = at }
+one_primary symbols rank number e = option_and_then_some (index_in symbols Types) (value_of_rank symbols Types rank) number e λ value is at. record { value = value; at = at }
 
 -- all that are listed are
 pub all_primary : (symbols : Symbols) → All (IsPrimary symbols) (primary_numbers symbols Types)

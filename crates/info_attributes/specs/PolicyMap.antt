@@ -1,6 +1,6 @@
 -- The map of types to attributes of a policy, and the types that have an attribute by it.
-use Rattle.std.specs.Prelude.{◌≡◌, ℕ, ◌-◌, ◌<◌, Bool, false, ◌&&◌, nat_le, Option, Some, None, List, [], map, length, slice_get}
-use Rattle.std.specs.List.{Contains, filter, range_with_len}
+use Rattle.std.specs.Prelude.{◌≡◌, ℕ, ◌-◌, ◌<◌, Bool, true, ◌&&◌, Option, Some, None, List, [], map, length, slice_get}
+use Rattle.std.specs.List.{filter, range_with_len}
 use Rattle.pol_cursor.specs.References.{Placed}
 use Rattle.pol_bitmap.specs.declared.Node.{Node}
 use Rattle.pol_bitmap.specs.Nodes.{bits_of, has_bit}
@@ -62,15 +62,7 @@ pub record HasNoSets (map : Expansions) : Type 0 where
 
 -- ---- records
 
--- the value of the record of a number is that of an attribute
+-- the record of a number declares an attribute
 pub record IsAttribute (parts : Parts) (number : ℕ) : Type 0 where
   pub within : number < length parts.symbols.types.records
-  pub value : (t : Placed TypeRec) → slice_get parts.symbols.types.records number ≡ Some t → Contains (values_of_flavour parts.symbols Attribute) t.value.value
-
--- the value of a record has a row
-abbrev pub value_has_row : ℕ → Option (Placed TypeRec) → Bool
-value_has_row count None = false
-value_has_row count (Some t) = nat_le 1 t.value.value && nat_le t.value.value count
-
-abbrev pub has_row : Parts → ℕ → Bool
-has_row parts number = value_has_row parts.symbols.types.nprim (slice_get parts.symbols.types.records number)
+  pub declared : (t : Placed TypeRec) → slice_get parts.symbols.types.records number ≡ Some t → has_flavour parts.symbols Attribute t.value.value ≡ true

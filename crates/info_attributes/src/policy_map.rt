@@ -1,6 +1,6 @@
 //! The map of types to attributes of a policy, turned round.
 
-ghost use Rattle.std.specs.Prelude.{◌≡◌, IfOk};
+ghost use Rattle.std.specs.Prelude.{◌≡◌, ◌≤◌, IfOk, length};
 ghost use Rattle.std.specs.List.Sorted.{IsStrictlyIncreasing};
 ghost use Rattle.pol_bitmap.specs.Nodes.{bits_of};
 ghost use Rattle.info_attributes.specs.PolicyMap.{IsPolicyMap, HasNoSets, rows_of, values_of_flavour};
@@ -15,16 +15,11 @@ use pol_symbols::Symbols;
 use std::alloc::{AllocError, Global};
 
 /// The map of types to attributes of a policy, turned round. It goes through the rows once.
-///
-/// A policy with more than 65,535 type values, which no accepted one has, would be answered as want of memory.
 pub fn type_map(alloc: Global, policy: &Policy<'_>) -> Result<TypeMap, AllocError>
     ensures map { IfOk result (IsPolicyMap policy.now) }
     ensures none { IfOk result HasNoSets }
 {
     let symbols = policy.symbols();
-    if symbols.prims(TableKind::Types) > 65535 {
-        return Err(AllocError);
-    }
     let rows = rows(alloc, policy)?;
     let attributes = flavoured_set(alloc, symbols, Flavour::Attribute)?;
     let types = flavoured_set(alloc, symbols, Flavour::Plain)?;
@@ -34,10 +29,11 @@ pub fn type_map(alloc: Global, policy: &Policy<'_>) -> Result<TypeMap, AllocErro
 // The rows of the map, that of the type value 1 first.
 #[tactic(auto, unfolding(crate::specs::PolicyMap::rows_of))]
 fn rows<'a>(alloc: Global, policy: &Policy<'a>) -> Result<Vec<BitmapView<'a>>, AllocError>
-    ensures { IfOk result (λ rows. rows.items ≡ rows_of policy.now) }
+    ensures rows { IfOk result (λ rows. rows.items ≡ rows_of policy.now) }
+    ensures few { IfOk result (λ rows. length rows.items ≤ 65535) }
 {
     let mut rows = Vec::new(alloc);
-    for i in 0..policy.symbols().prims(TableKind::Types) {
+    for i in 0..policy.type_count() {
         rows.push(policy.row(i + 1))?;
     }
     Ok(rows)

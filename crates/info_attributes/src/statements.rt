@@ -1,12 +1,12 @@
 //! The statements of attributes.
 
-ghost use Rattle.std.specs.Prelude.{◌≡◌, ◌<◌, ◌++◌, ◌∷◌, [], IfOk, OnOk, length, map};
+ghost use Rattle.std.specs.Prelude.{◌≡◌, ◌++◌, ◌∷◌, [], IfOk, OnOk, map};
 ghost use Rattle.std.specs.List.{All, Contains};
 ghost use Rattle.pol_cursor.specs.declared.TableKind.TheVariants.{Types};
 ghost use Rattle.pol_datums.specs.declared.Flavour.TheVariants.{Attribute};
 ghost use Rattle.info_lines.specs.Listings.{line_of};
 ghost use Rattle.info_lines.specs.NameSets.{names_of_values};
-ghost use Rattle.info_attributes.specs.PolicyMap.{IsPolicyMap, IsAttribute, has_row, types_of, values_of_flavour};
+ghost use Rattle.info_attributes.specs.PolicyMap.{IsPolicyMap, IsAttribute, types_of, values_of_flavour};
 ghost use Rattle.info_attributes.specs.AttributeLines.{attribute_statement, attribute_statement_listing, attribute_statement_listing_named, statement_lines, statement_text, types_text};
 
 use crate::policy_map::type_map;
@@ -75,7 +75,7 @@ fn push_statement(
     ensures map { IsPolicyMap policy.now types.new }
     ensures text { OnOk result (buffer.new.items ≡ buffer.old.items ++ line_of (statement_lines policy.now) number) }
 {
-    let attribute = policy.symbols().types.view(number);
+    let attribute = policy.type_record(number);
     let names = names_with(alloc, policy, types, attribute.value())?;
     push_text(buffer, attribute.name(), &names)
 }
@@ -164,19 +164,7 @@ fn line_of_number<'p, 'a>(
     lines_of(alloc, policy, numbers)
 }
 
-// Whether the value of a record has a row in the map of types to attributes.
-fn has_row(policy: &Policy<'_>, number: u32) -> bool
-    requires { number < length policy.now.symbols.types.records }
-    ensures { result ≡ has_row policy.now number }
-{
-    let symbols = policy.symbols();
-    let value = symbols.types.view(number).value();
-    0 < value && value <= symbols.prims(TableKind::Types)
-}
-
 /// The statement of the attribute that a name finds, or `None` where there is none.
-///
-/// An attribute whose value has no row in the map, which no accepted policy has, would be answered as want of memory.
 #[tactic(auto, using(crate::proofs::Attributes::named_attribute, crate::proofs::Attributes::statement_named, crate::proofs::Attributes::statement_unnamed))]
 pub fn attribute_statements_named<'p, 'a>(
     alloc: Global,
@@ -187,9 +175,6 @@ pub fn attribute_statements_named<'p, 'a>(
 {
     match set_number_named(policy, TypeSet::Attributes, name) {
         Some(number) => {
-            if !has_row(policy, number) {
-                return Err(AllocError);
-            }
             let line = line_of_number(alloc, policy, number)?;
             Ok(Some(line))
         }

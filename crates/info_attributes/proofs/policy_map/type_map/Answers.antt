@@ -1,24 +1,21 @@
-use Rattle.std.proofs.Common.{length, List, ap, ◌∙◌, arith}
-use Rattle.pol_bitmap.specs.declared.Node.{Node}
+use Rattle.std.proofs.Common.{ap, ◌∙◌}
 use Rattle.pol_datums.specs.declared.Flavour.TheVariants.{Plain, Attribute}
 use Rattle.pol_symbols.specs.declared.symbols.Symbols.{Symbols}
 use Rattle.info_attributes.specs.PolicyMap.{values_of_flavour}
-use Rattle.info_attributes.proofs.PolicyMaps.{rows_length, have_rows, flavours_apart}
+use Rattle.info_attributes.proofs.PolicyMaps.{have_rows, flavours_apart}
 use Rattle.info_attributes.proofs.policy_map.type_map.Goals as goal
 
 pub build-requires-clause-few : goal.build-requires-clause-few
-build-requires-clause-few c =
-    let rows = c.deref.ensures.value ∙ c.in_ok-rows.ensures in
-    omega (arith, ap (length {A = List Node}) rows, rows_length c.args.policy.now, c.prims.ensures, ap (λ (symbols : Symbols). symbols.types.nprim) c.symbols-symbols.ensures, c.if-prims-gt65535.false)
+build-requires-clause-few c = rw c.deref.ensures.value c.in_ok-rows.ensures.few
 
 pub build-requires-clause-attributes : goal.build-requires-clause-attributes
 build-requires-clause-attributes c =
-    have_rows c.args.policy.now c.deref.result.now c.in_ok-attributes.attributes Attribute (c.deref.ensures.value ∙ c.in_ok-rows.ensures)
+    have_rows c.args.policy.now c.deref.result.now c.in_ok-attributes.attributes Attribute (c.deref.ensures.value ∙ c.in_ok-rows.ensures.rows)
     (c.in_ok-attributes.ensures ∙ ap (λ (symbols : Symbols). values_of_flavour symbols Attribute) c.symbols-symbols.ensures)
 
 pub build-requires-clause-types : goal.build-requires-clause-types
 build-requires-clause-types c =
-    have_rows c.args.policy.now c.deref.result.now c.in_ok-types.types Plain (c.deref.ensures.value ∙ c.in_ok-rows.ensures)
+    have_rows c.args.policy.now c.deref.result.now c.in_ok-types.types Plain (c.deref.ensures.value ∙ c.in_ok-rows.ensures.rows)
     (c.in_ok-types.ensures ∙ ap (λ (symbols : Symbols). values_of_flavour symbols Plain) c.symbols-symbols.ensures)
 
 pub build-requires-clause-apart : goal.build-requires-clause-apart

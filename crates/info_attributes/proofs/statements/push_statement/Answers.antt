@@ -1,17 +1,19 @@
-use Rattle.std.proofs.Common.{◌≡◌, ◌++◌, List, ℕ, Some, Bor, OnOk, slice_get, map, sym, ap, subst, ◌∙◌}
+use Rattle.std.proofs.Common.{◌≡◌, ◌++◌, List, ℕ, Bor, OnOk, map, sym, ap, subst, ◌∙◌}
 use Rattle.pol_cursor.specs.declared.TableKind.TheVariants.{Types}
-use Rattle.pol_symbols.specs.declared.symbols.Symbols.{Symbols}
 use Rattle.info_lines.specs.NameSets.{names_of_values}
 use Rattle.info_attributes.specs.PolicyMap.{types_of}
 use Rattle.info_attributes.specs.AttributeLines.{statement_text}
-use Rattle.info_attributes.proofs.Attributes.{statement_at}
+use Rattle.info_attributes.proofs.Attributes.{attribute_value, statement_at}
 use Rattle.info_attributes.proofs.statements.push_statement.Goals as goal
+
+pub names_with-requires-clause-attribute : goal.names_with-requires-clause-attribute
+names_with-requires-clause-attribute c =
+    rw c.value.ensures (attribute_value c.args.policy.now c.args.number c.type_record-attribute.result c.requires.attribute c.type_record-attribute.ensures.is c.type_record-attribute.ensures.value)
 
 pub returns-clause-text : goal.returns-clause-text
 returns-clause-text c =
     let parts = c.args.policy.now in
-    let t = c.view-attribute.result in
-    let at = subst (λ (symbols : Symbols). slice_get symbols.types.records c.args.number ≡ Some t) c.symbols.ensures c.view-attribute.ensures in
+    let t = c.type_record-attribute.result in
     let names = ap (map (λ (name : Bor (List ℕ)). name.now)) c.deref.ensures.value ∙ c.in_ok-names.ensures.names ∙ ap (λ (value : ℕ). names_of_values parts.symbols Types (types_of parts value)) c.value.ensures in
-    let line = ap (λ (name : List ℕ). statement_text name (map (λ (name : Bor (List ℕ)). name.now) c.deref.result.now)) c.name.ensures ∙ ap (statement_text t.value.name) names ∙ sym (statement_at parts c.args.number t at) in
+    let line = ap (λ (name : List ℕ). statement_text name (map (λ (name : Bor (List ℕ)). name.now) c.deref.result.now)) c.name.ensures ∙ ap (statement_text t.value.name) names ∙ sym (statement_at parts c.args.number t c.type_record-attribute.ensures.is) in
     subst (λ (line : List ℕ). OnOk c.push_text.result (c.push_text.new.buffer.items ≡ c.args.buffer.now.items ++ line)) line c.push_text.ensures
