@@ -152,22 +152,11 @@ impl<'a> AvView<'a> {
     pub fn dangling<N: Names>(&self, names: &N) -> Option<Fault>
         ensures { result ≡ dangling_of (N.named names.now) (av_references self.now) }
     {
+        let place = self.place;
         let mentions = [
-            Mention::new(AV, 1, self.place, TableKind::Types, self.source() as u32),
-            Mention::new(
-                AV,
-                2,
-                self.place + 2,
-                TableKind::Types,
-                self.target() as u32,
-            ),
-            Mention::new(
-                AV,
-                3,
-                self.place + 4,
-                TableKind::Classes,
-                self.class() as u32,
-            ),
+            Mention::new(AV, 1, place, TableKind::Types, self.source() as u32),
+            Mention::new(AV, 2, place + 2, TableKind::Types, self.target() as u32),
+            Mention::new(AV, 3, place + 4, TableKind::Classes, self.class() as u32),
         ];
         match first_dangling(names, &mentions) {
             Some(fault) => Some(fault),

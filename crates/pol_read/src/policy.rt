@@ -165,7 +165,7 @@ impl<'a> Policy<'a> {
     }
 }
 
-/// Reads a policy of at most 64 MiB. Nothing is reserved by a count that the file claims.
+/// Reads a policy of at most 64 MiB. Nothing is reserved by a claimed count alone.
 ///
 /// The error is the first fault in file order; where there is none, it is the first reference whose value no primary record
 /// declares, as `Dangling`. A policy of more than 400,000,000 stored rules, which is more than 64 MiB hold, would be answered as
