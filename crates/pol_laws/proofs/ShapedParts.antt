@@ -4,7 +4,7 @@ use Rattle.std.proofs.lemmas.List.Elements.{All-head, All-tail}
 use Rattle.pol_cursor.specs.declared.Field.{Field}
 use Rattle.pol_cursor.specs.Outcome.{Reader}
 use Rattle.pol_cursor.specs.Parts.{list_of, optional, records_at, counted, number}
-use Rattle.pol_cursor.specs.References.{Placed, placed}
+use Rattle.pol_cursor.specs.References.{placed}
 use Rattle.pol_cursor.specs.Contexts.{records_after}
 use Rattle.pol_symtab.specs.Freshness.{Gives}
 use Rattle.pol_symtab.proofs.FreshRecords.{Gives-part, Gives-done}

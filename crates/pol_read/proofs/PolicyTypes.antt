@@ -21,7 +21,8 @@ use Rattle.pol_datums.specs.TypeRecord.{type_at}
 use Rattle.pol_classes.specs.ClassTables.{class_table_at}
 use Rattle.pol_symbols.specs.PolicySymbols.{roles_at, types_at, rule_tables_at, other_tables_at, symbols_at}
 use Rattle.pol_trans.specs.RangeTransRecord.{range_trans_at}
-use Rattle.pol_contexts.specs.ContextTables.{contexts_at, table_at as context_table_at}
+use Rattle.pol_context.specs.EntryLists.{table_at as context_table_at}
+use Rattle.pol_contexts.specs.ContextTables.{contexts_at}
 use Rattle.pol_genfs.specs.GenfsRecord.{genfs_at}
 use Rattle.pol_read.specs.declared.parts.Parts.{Parts}
 use Rattle.pol_read.specs.TypeMapRows.{type_map_at}

@@ -23,7 +23,7 @@ pub fn check_references(parts: &Parts<'_>) -> Result<(), Fault>
     check_labels(&parts.labels, &parts.symbols)
 }
 
-// That of the symbol tables.
+// The same of the symbol tables.
 #[tactic(auto, using(crate::proofs::DanglingLists::undeclared_first, crate::proofs::DanglingLists::undeclared_later, crate::proofs::DanglingLists::both_declared, crate::proofs::DanglingLists::others_decide))]
 fn check_symbols(symbols: &Symbols<'_>) -> Result<(), Fault>
     ensures { AreDeclared result (name_in symbols.now) (symbol_references symbols.now) }
@@ -35,7 +35,7 @@ fn check_symbols(symbols: &Symbols<'_>) -> Result<(), Fault>
     check_table(&symbols.categories, symbols)
 }
 
-// That of the rules.
+// The same of the rules.
 #[tactic(auto, using(crate::proofs::DanglingLists::undeclared_first, crate::proofs::DanglingLists::undeclared_later, crate::proofs::DanglingLists::both_declared, crate::proofs::DanglingLists::others_decide))]
 fn check_rules<N: Names>(rules: &RuleLists<'_>, names: &N) -> Result<(), Fault>
     ensures { AreDeclared result (N.named names.now) (rule_references rules.now) }
@@ -47,7 +47,7 @@ fn check_rules<N: Names>(rules: &RuleLists<'_>, names: &N) -> Result<(), Fault>
     check_name_transitions(&rules.name_trans, names)
 }
 
-// That of the conditional nodes.
+// The same of the conditional nodes.
 fn check_nodes<N: Names>(nodes: &Conditionals<'_>, names: &N) -> Result<(), Fault>
     ensures { AreDeclared result (N.named names.now) (references_in condnode_references nodes.now) }
 {
@@ -60,7 +60,7 @@ fn check_nodes<N: Names>(nodes: &Conditionals<'_>, names: &N) -> Result<(), Faul
     Ok(())
 }
 
-// That of the file-name transitions.
+// The same of the file-name transitions.
 fn check_name_transitions<N: Names>(transitions: &NameTrans<'_>, names: &N) -> Result<(), Fault>
     ensures { AreDeclared result (N.named names.now) (name_transition_references transitions.now) }
 {
@@ -70,7 +70,7 @@ fn check_name_transitions<N: Names>(transitions: &NameTrans<'_>, names: &N) -> R
     }
 }
 
-// That of what stands behind the rules.
+// The same of what stands behind the rules.
 #[tactic(auto, using(crate::proofs::DanglingLists::undeclared_first, crate::proofs::DanglingLists::undeclared_later, crate::proofs::DanglingLists::both_declared, crate::proofs::DanglingLists::others_decide))]
 fn check_labels<N: Names>(labels: &LabelLists<'_>, names: &N) -> Result<(), Fault>
     ensures { AreDeclared result (N.named names.now) (label_references labels.now) }
@@ -80,7 +80,7 @@ fn check_labels<N: Names>(labels: &LabelLists<'_>, names: &N) -> Result<(), Faul
     check_records(&labels.range_trans, names)
 }
 
-// That of the tables of contexts.
+// The same of the tables of contexts.
 #[tactic(auto, using(crate::proofs::DanglingLists::undeclared_first, crate::proofs::DanglingLists::undeclared_later, crate::proofs::DanglingLists::both_declared, crate::proofs::DanglingLists::others_decide))]
 fn check_contexts<N: Names>(contexts: &Contexts<'_>, names: &N) -> Result<(), Fault>
     ensures { AreDeclared result (N.named names.now) (context_references contexts.now) }
