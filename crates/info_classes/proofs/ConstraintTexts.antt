@@ -3,35 +3,36 @@ use Rattle.std.proofs.Common.{◌≡◌, ℕ, false, Option, Some, None, List, [
 use Rattle.std.specs.Prelude.{MatchOption, nat_eq}
 use Rattle.std.proofs.lemmas.Bool.{ne_eqb}
 use Rattle.pol_cursor.specs.References.{Named}
+use Rattle.pol_bitmap.specs.declared.Node.{Node}
 use Rattle.pol_bitmap.specs.Nodes.{bits_of}
 use Rattle.pol_expr.specs.declared.Symbol.{Symbol}
 use Rattle.pol_expr.specs.declared.Symbol.TheVariants as symbols
 use Rattle.pol_constraints.specs.declared.Junction.{Junction}
 use Rattle.pol_constraints.specs.declared.Junction.TheVariants.{And, Or}
 use Rattle.pol_constraints.specs.declared.ConstraintItem.{ConstraintItem}
-use Rattle.pol_constraints.specs.declared.NameSet.{NameSet}
 use Rattle.pol_expr.specs.Trees.{Leaf, Not, Binary, applied, postorder}
 use Rattle.pol_constraints.specs.ConstraintRecord.{constraint_limit, IsExpression}
-use Rattle.pol_constraints.specs.ConstraintMeaning.{ConstraintTree, left_word, right_word, side_word, side_table, op_word, names_of, set_text, IsSideText, IsSymbol, AreSymbols, IsConstraintText}
+use Rattle.pol_constraints.specs.ConstraintMeaning.{ConstraintTree, left_word, right_word, side_word, side_table, op_word, names_of, IsSideText, IsSymbol, AreSymbols, IsConstraintText}
+use Rattle.pol_texts.specs.SetTexts.{set_text}
 use Rattle.pol_expr.proofs.Stacks.{after, after-postorder, IsMeaning, some_tree}
 use Rattle.pol_constraints.proofs.ConstraintTexts.{symbols_postfix}
-use Rattle.info_lines.proofs.OrderedNames.{in_order_is}
+use Rattle.pol_texts.proofs.OrderedNames.{in_order_is}
 use Rattle.info_classes.specs.ConstraintTexts.{comparison_text, item_symbol, trees_after, tree_text, constraint_text}
 
 -- ---- symbols
 
-comparison_is : (named : Named) (item : ConstraintItem) (set : Option NameSet) (text : List ℕ)
+comparison_is : (named : Named) (item : ConstraintItem) (set : Option (List Node)) (text : List ℕ)
     → MatchOption set (text ≡ left_word item.attr ++ op_word item.op ++ right_word item.attr) (λ set. IsSideText named item set text) → text ≡ comparison_text named item set
 comparison_is named item None text h = h
 comparison_is named item (Some set) text h =
-    h.2 ∙ ap (λ (names : List ℕ). side_word item.attr ++ op_word item.op ++ names) (h.1.2 ∙ ap set_text (in_order_is (names_of named (side_table item.attr) (bits_of set.names)) h.1.0 h.1.1))
+    h.2 ∙ ap (λ (names : List ℕ). side_word item.attr ++ op_word item.op ++ names) (h.1.2 ∙ ap set_text (in_order_is (names_of named (side_table item.attr) (bits_of set)) h.1.0 h.1.1))
 
 symbol_is : (named : Named) (item : ConstraintItem) (s : Symbol (List ℕ) Junction) → IsSymbol named item s → s ≡ item_symbol named item
 symbol_is named item (symbols.Leaf text) h =
     let one : nat_eq item.kind 1 ≡ false = ne_eqb item.kind 1 (λ e. omega (arith, e, h.0)) in
     let two : nat_eq item.kind 2 ≡ false = ne_eqb item.kind 2 (λ e. omega (arith, e, h.0)) in
     let three : nat_eq item.kind 3 ≡ false = ne_eqb item.kind 3 (λ e. omega (arith, e, h.0)) in
-    rw (one, two, three) (ap (λ (t : List ℕ). symbols.Leaf t) (comparison_is named item item.set text h.1))
+    rw (one, two, three) (ap (λ (t : List ℕ). symbols.Leaf t) (comparison_is named item item.names text h.1))
 symbol_is named item symbols.Not h = rw h refl
 symbol_is named item (symbols.Binary And) h = rw h refl
 symbol_is named item (symbols.Binary Or) h = rw h refl

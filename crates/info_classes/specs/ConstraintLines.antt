@@ -5,16 +5,16 @@ use Rattle.std.specs.Int.{bit_at}
 use Rattle.pol_cursor.specs.References.{Placed}
 use Rattle.pol_constraints.specs.declared.ConstraintItem.{ConstraintItem}
 use Rattle.pol_constraints.specs.declared.ConstraintRec.{ConstraintRec}
-use Rattle.pol_constraints.specs.ConstraintMeaning.{set_text}
+use Rattle.pol_texts.specs.SetTexts.{set_text}
 use Rattle.pol_commons.specs.declared.PermissionRec.{PermissionRec}
 use Rattle.pol_classes.specs.declared.ClassRec.{ClassRec}
 use Rattle.pol_symbols.specs.declared.symbols.Symbols.{Symbols}
 use Rattle.pol_symbols.specs.PolicySymbols.{name_in, permissions_of}
-use Rattle.info_lines.specs.NameLists.{in_order}
+use Rattle.pol_texts.specs.NameLists.{in_order}
 use Rattle.info_classes.specs.declared.constraint_entry.ConstraintKind.{ConstraintKind}
 use Rattle.info_classes.specs.declared.constraint_entry.ConstraintKind.TheVariants.{OnPermissions, OnChange}
 use Rattle.info_classes.specs.declared.constraint_entry.ConstraintEntry.{ConstraintEntry}
-use Rattle.info_classes.specs.RecordOrder.{classes_in_order, class_named}
+use Rattle.info_classes.specs.RecordOrder.{classes_listed}
 use Rattle.info_classes.specs.ConstraintTexts.{constraint_text}
 
 -- ---- parts of a line
@@ -65,22 +65,6 @@ entries_of kind class = map (λ constraint. record { class = class; constraint =
 abbrev pub entries_in : ConstraintKind → List (Placed ClassRec) → List ConstraintEntry
 entries_in kind classes = flat_map (entries_of kind) classes
 
--- those of all classes, in the order of the classes' names
-abbrev pub kind_listing : Symbols → ConstraintKind → List (List ℕ)
-kind_listing symbols kind = map (constraint_line symbols kind) (entries_in kind (classes_in_order symbols))
-
--- those of the class that a name finds
-abbrev pub kind_listing_named : Symbols → ConstraintKind → List ℕ → Option (List (List ℕ))
-kind_listing_named symbols kind name = option_map (λ class. map (constraint_line symbols kind) (entries_of kind class)) (class_named symbols name)
-
-unfoldable pub constraint_listing : Symbols → List (List ℕ)
-constraint_listing symbols = kind_listing symbols OnPermissions
-
-unfoldable pub constraint_listing_named : Symbols → List ℕ → Option (List (List ℕ))
-constraint_listing_named symbols name = kind_listing_named symbols OnPermissions name
-
-unfoldable pub validatetrans_listing : Symbols → List (List ℕ)
-validatetrans_listing symbols = kind_listing symbols OnChange
-
-unfoldable pub validatetrans_listing_named : Symbols → List ℕ → Option (List (List ℕ))
-validatetrans_listing_named symbols name = kind_listing_named symbols OnChange name
+-- those of all classes in the order of the classes' names, or of the class that a name finds, if it finds one
+unfoldable pub constraint_listing : Symbols → ConstraintKind → Option (List ℕ) → Option (List (List ℕ))
+constraint_listing symbols kind name = option_map (λ classes. map (constraint_line symbols kind) (entries_in kind classes)) (classes_listed symbols name)

@@ -7,7 +7,7 @@ use Rattle.pol_symbols.specs.declared.symbols.Symbols.{Symbols}
 use Rattle.info_classes.specs.declared.default_entry.DefaultKind.{DefaultKind}
 use Rattle.info_classes.specs.declared.default_entry.DefaultKind.TheVariants.{OfUser, OfRole, OfType, OfRange}
 use Rattle.info_classes.specs.declared.default_entry.DefaultEntry.{DefaultEntry}
-use Rattle.info_classes.specs.RecordOrder.{classes_in_order, class_named}
+use Rattle.info_classes.specs.RecordOrder.{classes_listed}
 
 -- ---- a line
 
@@ -62,10 +62,6 @@ entries_of class = map (λ kind. record { class = class; kind = kind }) (filter 
 abbrev pub entries_in : List (Placed ClassRec) → List DefaultEntry
 entries_in classes = flat_map entries_of classes
 
--- those of all classes, in the order of the classes' names
-unfoldable pub default_listing : Symbols → List (List ℕ)
-default_listing symbols = map default_line (entries_in (classes_in_order symbols))
-
--- those of the class that a name finds
-unfoldable pub default_listing_named : Symbols → List ℕ → Option (List (List ℕ))
-default_listing_named symbols name = option_map (λ class. map default_line (entries_of class)) (class_named symbols name)
+-- those of all classes in the order of the classes' names, or of the class that a name finds, if it finds one
+unfoldable pub default_listing : Symbols → Option (List ℕ) → Option (List (List ℕ))
+default_listing symbols name = option_map (λ classes. map default_line (entries_in classes)) (classes_listed symbols name)

@@ -34,7 +34,7 @@ impl<'p, 'a> Model for BoundsLines<'p, 'a> {
 }
 
 impl<'p, 'a> BoundsLines<'p, 'a> {
-    // Those of all bounded types. So many that their numbers do not fit count as want of memory.
+    // Those of all bounded types. So many that their numbers do not fit are answered as out of memory.
     #[tactic(auto, unfolding(crate::specs::BoundsLines::bounds_listing))]
     fn new(alloc: Global, symbols: &'p Symbols<'a>) -> Result<BoundsLines<'p, 'a>, AllocError>
         ensures { IfOk result (λ lines. lines ≡ bounds_listing symbols.now) }

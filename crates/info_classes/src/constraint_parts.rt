@@ -5,7 +5,7 @@ ghost use Rattle.std.specs.Int.{bit_at};
 ghost use Rattle.std.specs.List.{filter, fold, list_any};
 ghost use Rattle.pol_constraints.specs.ConstraintRecord.{IsExpression};
 ghost use Rattle.pol_symbols.specs.PolicySymbols.{name_in, permissions_of};
-ghost use Rattle.info_lines.specs.NameLists.{with_name, in_order};
+ghost use Rattle.pol_texts.specs.NameLists.{with_name, in_order};
 ghost use Rattle.info_classes.specs.ConstraintTexts.{constraint_text};
 ghost use Rattle.info_classes.specs.ConstraintLines.{is_level_pair, compares_levels, mls_word, has_permission, permissions_text, subject_text, constraint_line};
 

@@ -1,16 +1,15 @@
 //! The listings of constraints.
 
-ghost use Rattle.std.specs.Prelude.{◌≡◌, ◌<◌, IfOk, IfSome, length, map};
+ghost use Rattle.std.specs.Prelude.{◌≡◌, ◌<◌, IfOk, length, map, option_map};
 ghost use Rattle.std.specs.List.{All};
 ghost use Rattle.info_lines.specs.Listings.{HasLine, line_of};
 ghost use Rattle.info_classes.specs.RecordOrder.{records_at};
-ghost use Rattle.info_classes.specs.ConstraintLines.{constraint_line, entries_in, kind_listing, kind_listing_named, constraint_listing, constraint_listing_named, validatetrans_listing, validatetrans_listing_named};
+ghost use Rattle.info_classes.specs.ConstraintLines.{constraint_line, constraint_listing, entries_in};
 
 use crate::constraint_entry::{ConstraintEntry, ConstraintKind, constraint_entries};
 use crate::constraint_parts::push_constraint;
-use info_lines::{FileLines, LineText, number_named, primary_order};
+use info_lines::{FileLines, LineText, numbers_listed};
 use pol_cursor::TableKind;
-use pol_read::Policy;
 use pol_symbols::Symbols;
 use std::alloc::{AllocError, Global};
 use std::marker::Model;
@@ -35,7 +34,7 @@ impl<'p, 'a> Model for ConstraintLines<'p, 'a> {
 }
 
 impl<'p, 'a> ConstraintLines<'p, 'a> {
-    // Those of a kind of the classes of these numbers. So many that their numbers do not fit count as want of memory.
+    // Those of a kind of the classes of these numbers. So many that their numbers do not fit are answered as out of memory.
     fn new(
         alloc: Global,
         symbols: &'p Symbols<'a>,
@@ -96,79 +95,19 @@ fn lines_of_classes<'p, 'a>(
     Ok(FileLines::new(lines, count))
 }
 
-// Those of a kind of all classes.
-fn kind_lines<'p, 'a>(
-    alloc: Global,
-    symbols: &'p Symbols<'a>,
-    kind: ConstraintKind,
-) -> Result<FileLines<ConstraintLines<'p, 'a>>, AllocError>
-    ensures { IfOk result (λ lines. lines ≡ kind_listing symbols.now kind) }
-{
-    let numbers = primary_order(alloc, symbols, TableKind::Classes)?;
-    lines_of_classes(alloc, symbols, kind, &numbers)
-}
-
-// Those of a kind of the class that a name finds, or `None` where it finds none.
-#[tactic(auto, using(info_lines::proofs::Placing::named_within))]
-fn kind_lines_named<'p, 'a>(
-    alloc: Global,
-    symbols: &'p Symbols<'a>,
-    kind: ConstraintKind,
-    name: &[u8],
-) -> Result<Option<FileLines<ConstraintLines<'p, 'a>>>, AllocError>
-    ensures { IfOk result (λ lines. lines ≡ kind_listing_named symbols.now kind name.now) }
-{
-    match number_named(symbols, TableKind::Classes, name) {
-        Some(number) => {
-            let lines = lines_of_classes(alloc, symbols, kind, &[number])?;
-            Ok(Some(lines))
-        }
-        None => Ok(None),
-    }
-}
-
-/// The constraints on permissions, in the order of the classes' names.
+/// The constraints of a kind, in the order of the classes' names, or where a name is given, those of the class that it finds.
+/// `None` exactly where it finds none.
 #[tactic(auto, unfolding(crate::specs::ConstraintLines::constraint_listing))]
 pub fn constraint_lines<'p, 'a>(
     alloc: Global,
-    policy: &'p Policy<'a>,
-) -> Result<FileLines<ConstraintLines<'p, 'a>>, AllocError>
-    ensures { IfOk result (λ lines. lines ≡ constraint_listing policy.now.symbols) }
-{
-    kind_lines(alloc, policy.symbols(), ConstraintKind::OnPermissions)
-}
-
-/// Those of the class that a name finds, or `None` where it finds none.
-#[tactic(auto, unfolding(crate::specs::ConstraintLines::constraint_listing_named))]
-pub fn constraint_lines_named<'p, 'a>(
-    alloc: Global,
-    policy: &'p Policy<'a>,
-    name: &[u8],
+    symbols: &'p Symbols<'a>,
+    kind: ConstraintKind,
+    name: Option<&[u8]>,
 ) -> Result<Option<FileLines<ConstraintLines<'p, 'a>>>, AllocError>
-    ensures { IfOk result (λ lines. lines ≡ constraint_listing_named policy.now.symbols name.now) }
+    ensures { IfOk result (λ lines. lines ≡ constraint_listing symbols.now kind (option_map (λ name. name.now) name.entry)) }
 {
-    kind_lines_named(alloc, policy.symbols(), ConstraintKind::OnPermissions, name)
-}
-
-/// The constraints on a change of context, in the order of the classes' names.
-#[tactic(auto, unfolding(crate::specs::ConstraintLines::validatetrans_listing))]
-pub fn validatetrans_lines<'p, 'a>(
-    alloc: Global,
-    policy: &'p Policy<'a>,
-) -> Result<FileLines<ConstraintLines<'p, 'a>>, AllocError>
-    ensures { IfOk result (λ lines. lines ≡ validatetrans_listing policy.now.symbols) }
-{
-    kind_lines(alloc, policy.symbols(), ConstraintKind::OnChange)
-}
-
-/// Those of the class that a name finds, or `None` where it finds none.
-#[tactic(auto, unfolding(crate::specs::ConstraintLines::validatetrans_listing_named))]
-pub fn validatetrans_lines_named<'p, 'a>(
-    alloc: Global,
-    policy: &'p Policy<'a>,
-    name: &[u8],
-) -> Result<Option<FileLines<ConstraintLines<'p, 'a>>>, AllocError>
-    ensures { IfOk result (λ lines. lines ≡ validatetrans_listing_named policy.now.symbols name.now) }
-{
-    kind_lines_named(alloc, policy.symbols(), ConstraintKind::OnChange, name)
+    let Some(numbers) = numbers_listed(alloc, symbols, TableKind::Classes, name)? else {
+        return Ok(None);
+    };
+    Ok(Some(lines_of_classes(alloc, symbols, kind, &numbers)?))
 }

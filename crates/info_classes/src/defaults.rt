@@ -1,15 +1,14 @@
 //! The listings of default rules.
 
-ghost use Rattle.std.specs.Prelude.{◌≡◌, ◌<◌, ◌++◌, IfOk, OnOk, length, map};
+ghost use Rattle.std.specs.Prelude.{◌≡◌, ◌<◌, ◌++◌, IfOk, OnOk, length, map, option_map};
 ghost use Rattle.std.specs.List.{All};
 ghost use Rattle.info_lines.specs.Listings.{HasLine, line_of};
 ghost use Rattle.info_classes.specs.RecordOrder.{records_at};
-ghost use Rattle.info_classes.specs.DefaultLines.{default_word, end_word, range_words, choice_words, default_line, entries_in, default_listing, default_listing_named};
+ghost use Rattle.info_classes.specs.DefaultLines.{default_word, end_word, range_words, choice_words, default_line, entries_in, default_listing};
 
 use crate::default_entry::{DefaultEntry, DefaultKind, default_entries, default_of};
-use info_lines::{FileLines, LineText, number_named, primary_order};
+use info_lines::{FileLines, LineText, numbers_listed};
 use pol_cursor::TableKind;
-use pol_read::Policy;
 use pol_symbols::Symbols;
 use std::alloc::{AllocError, Global};
 use std::marker::Model;
@@ -32,7 +31,7 @@ impl<'a> Model for DefaultLines<'a> {
 }
 
 impl<'a> DefaultLines<'a> {
-    // Those of the classes of these numbers. So many that their numbers do not fit count as want of memory.
+    // Those of the classes of these numbers. So many that their numbers do not fit are answered as out of memory.
     fn new(
         alloc: Global,
         symbols: &Symbols<'a>,
@@ -136,34 +135,18 @@ fn lines_of_classes<'a>(
     Ok(FileLines::new(lines, count))
 }
 
-/// The default rules of all classes, in the order of the classes' names.
+/// The default rules, in the order of the classes' names, or where a name is given, those of the class that it finds. `None`
+/// exactly where it finds none.
 #[tactic(auto, unfolding(crate::specs::DefaultLines::default_listing))]
 pub fn default_lines<'a>(
     alloc: Global,
-    policy: &Policy<'a>,
-) -> Result<FileLines<DefaultLines<'a>>, AllocError>
-    ensures { IfOk result (λ lines. lines ≡ default_listing policy.now.symbols) }
-{
-    let symbols = policy.symbols();
-    let numbers = primary_order(alloc, symbols, TableKind::Classes)?;
-    lines_of_classes(alloc, symbols, &numbers)
-}
-
-/// Those of the class that a name finds, or `None` where it finds none.
-#[tactic(auto, unfolding(crate::specs::DefaultLines::default_listing_named), using(info_lines::proofs::Placing::named_within))]
-pub fn default_lines_named<'a>(
-    alloc: Global,
-    policy: &Policy<'a>,
-    name: &[u8],
+    symbols: &Symbols<'a>,
+    name: Option<&[u8]>,
 ) -> Result<Option<FileLines<DefaultLines<'a>>>, AllocError>
-    ensures { IfOk result (λ lines. lines ≡ default_listing_named policy.now.symbols name.now) }
+    ensures { IfOk result (λ lines. lines ≡ default_listing symbols.now (option_map (λ name. name.now) name.entry)) }
 {
-    let symbols = policy.symbols();
-    match number_named(symbols, TableKind::Classes, name) {
-        Some(number) => {
-            let lines = lines_of_classes(alloc, symbols, &[number])?;
-            Ok(Some(lines))
-        }
-        None => Ok(None),
-    }
+    let Some(numbers) = numbers_listed(alloc, symbols, TableKind::Classes, name)? else {
+        return Ok(None);
+    };
+    Ok(Some(lines_of_classes(alloc, symbols, &numbers)?))
 }

@@ -7,14 +7,9 @@ mod constraint_parts;
 mod constraints;
 mod default_entry;
 mod defaults;
-#[cfg(test)]
-mod tests;
 
 pub use bounds::{BoundsLines, bounds_lines};
 pub use constraint_entry::{ConstraintEntry, ConstraintKind};
-pub use constraints::{
-    ConstraintLines, constraint_lines, constraint_lines_named, validatetrans_lines,
-    validatetrans_lines_named,
-};
+pub use constraints::{ConstraintLines, constraint_lines};
 pub use default_entry::{DefaultEntry, DefaultKind};
-pub use defaults::{DefaultLines, default_lines, default_lines_named};
+pub use defaults::{DefaultLines, default_lines};

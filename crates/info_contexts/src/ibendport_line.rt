@@ -1,5 +1,5 @@
 // The lines of the contexts of InfiniBand devices at ports.
-ghost use Rattle.std.specs.Prelude.{◌≡◌, ◌++◌, OnOk, decimal};
+ghost use Rattle.std.specs.Prelude.{◌≡◌, ◌++◌, OnOk};
 ghost use Rattle.info_lines.specs.Listings.{HasLine, line_of};
 ghost use Rattle.info_contexts.specs.IbEndPortLines.{device_text, ibendport_line, ibendport_listing};
 
@@ -8,7 +8,7 @@ use info_lines::LineText;
 use pol_contexts::{IbEndPortList, IbEndPortView};
 use pol_cursor::Names;
 use pol_symbols::Symbols;
-use pol_texts::{push_name_text, push_ports_text};
+use pol_texts::{push_decimal, push_name_text};
 use std::alloc::AllocError;
 use std::marker::Model;
 
@@ -70,12 +70,5 @@ fn push_device(buffer: &mut Vec<u8>, name: &[u8], port: u32) -> Result<(), Alloc
     buffer.extend_from_slice(b"ibendportcon ")?;
     push_name_text(buffer, name)?;
     buffer.push(b' ')?;
-    push_number(buffer, port)
-}
-
-// Appends the number of a port.
-fn push_number(buffer: &mut Vec<u8>, port: u32) -> Result<(), AllocError>
-    ensures { OnOk result (buffer.new.items ≡ buffer.old.items ++ decimal port) }
-{
-    push_ports_text(buffer, port, port)
+    push_decimal(buffer, u64::from(port))
 }

@@ -52,7 +52,7 @@ pub fn fsuse_lines<'p, 'a>(
 }
 
 /// Those of the paths of the file systems of the name that have no labels of their own, or of all where none is given. So many
-/// paths that their numbers do not fit count as want of memory.
+/// paths that their numbers do not fit are answered as out of memory.
 #[tactic(auto, using(crate::proofs::NamedEntries::chosen_there, crate::proofs::NamedEntries::chosen_lines, info_lines::proofs::FileOrder::as_many))]
 pub fn genfs_lines<'p, 'a>(
     alloc: Global,

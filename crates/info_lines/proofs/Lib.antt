@@ -1,6 +1,7 @@
-pub mod Placing
-pub mod RisingNames
-pub mod OrderedNames
-pub mod NameSets
-pub mod ListingLines
+pub mod DistinctRecords
 pub mod FileOrder
+pub mod ListedOnce
+pub mod ListedTables
+pub mod ListingLines
+pub mod NameSets
+pub mod Placing

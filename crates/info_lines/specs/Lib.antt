@@ -1,7 +1,7 @@
 pub mod Lines
+pub mod ListedOnce
 pub mod Listings
 pub mod NameOrder
-pub mod NameLists
 pub mod NameSets
 pub mod Placing
 pub mod Titles

@@ -5,7 +5,7 @@ use Rattle.std.specs.List.{filter_map}
 use Rattle.pol_cursor.specs.declared.TableKind.{TableKind}
 use Rattle.pol_symbols.specs.declared.symbols.Symbols.{Symbols}
 use Rattle.pol_symbols.specs.PolicySymbols.{name_in}
-use Rattle.info_lines.specs.NameLists.{in_order}
+use Rattle.pol_texts.specs.NameLists.{in_order}
 
 -- the names of those of these values that a primary record declares, in the order of their bytes
 unfoldable pub names_of_values : Symbols → TableKind → List ℕ → List (List ℕ)

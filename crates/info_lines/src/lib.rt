@@ -2,15 +2,16 @@
 #![tactic(auto)]
 
 mod file_lines;
+mod laws;
 mod lines;
 mod listing;
-mod name_lists;
 mod name_order;
 mod name_sets;
 
 pub use file_lines::{ChainedLines, FileLines};
+pub use laws::primary_records_are_listed_once;
 pub use lines::{LineText, Lines, NumberedLines};
 pub use listing::Listing;
-pub use name_lists::{insert_name, push_set};
-pub use name_order::{number_named, primary_order};
+pub use name_order::{number_named, numbers_listed, primary_order};
 pub use name_sets::{names_of_bits, names_of_values, values_of_bits};
+pub use pol_texts::{insert_name, push_set};

@@ -1,1 +1,2 @@
 pub mod CapabilityNumbers
+pub mod KnownNames

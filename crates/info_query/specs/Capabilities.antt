@@ -1,7 +1,7 @@
 -- The lines of a policy's capabilities, which a policy has as numbers (libsepol's polcaps.c).
 use Rattle.std.specs.Prelude.{ℕ, Bool, true, false, Option, List, [], ◌∷◌, ◌++◌, map, decimal, codes, slice_get, unwrap_or}
 use Rattle.pol_bitmap.specs.Nodes.{bits_of}
-use Rattle.pol_read.specs.declared.parts.Parts.{Parts}
+use Rattle.pol_file.specs.declared.parts.Parts.{Parts}
 use Rattle.info_contexts.specs.NamedEntries.{of_name}
 
 -- the names of the capabilities from 0 on

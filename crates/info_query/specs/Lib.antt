@@ -1,2 +1,3 @@
 pub mod Capabilities
 pub mod Listings
+pub mod Names

@@ -6,9 +6,9 @@ ghost use Rattle.info_contexts.specs.NamedEntries.{is_asked};
 ghost use Rattle.info_query.specs.Capabilities.{capability_line, capability_listing, capability_name, known_names};
 
 use info_lines::{LineText, NumberedLines};
-use itoa::Buffer;
 use pol_bitmap::BitmapView;
 use pol_read::Policy;
+use pol_texts::push_decimal;
 use std::alloc::{AllocError, Global};
 
 /// The lines of capabilities by their numbers, each of which has one.
@@ -93,7 +93,7 @@ fn push_name(number: u32, buffer: &mut Vec<u8>) -> Result<(), AllocError>
 {
     match known_name(number) {
         Some(name) => buffer.extend_from_slice(name.as_bytes()),
-        None => push_number(number, buffer),
+        None => push_number(buffer, number),
     }
 }
 
@@ -115,11 +115,16 @@ fn known_name(number: u32) -> Option<&'static str>
 }
 
 // Adds the number of a capability that has no name.
-fn push_number(number: u32, buffer: &mut Vec<u8>) -> Result<(), AllocError>
+fn push_number(buffer: &mut Vec<u8>, number: u32) -> Result<(), AllocError>
     ensures { OnOk result (buffer.new.items ≡ buffer.old.items ++ (codes "capability_" ++ decimal number)) }
 {
-    let mut digits = Buffer::new();
-    buffer.extend_from_slice(b"capability_")?;
-    buffer.extend_from_slice(digits.format(number).as_bytes())?;
-    Ok(())
+    push_numbered(buffer, b"capability_", number)
+}
+
+// Adds a word and a number behind it.
+fn push_numbered(buffer: &mut Vec<u8>, word: &[u8], number: u32) -> Result<(), AllocError>
+    ensures { OnOk result (buffer.new.items ≡ buffer.old.items ++ word.now ++ decimal number) }
+{
+    buffer.extend_from_slice(word)?;
+    push_decimal(buffer, u64::from(number))
 }

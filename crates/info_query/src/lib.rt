@@ -3,5 +3,7 @@
 
 mod capabilities;
 mod listing_lines;
+mod names;
 
 pub use listing_lines::{ListingLines, lines_of};
+pub use names::name_is_known;

@@ -1,17 +1,15 @@
 // The lines of each listing, as they are asked for.
-ghost use Rattle.std.specs.Prelude.{◌≡◌, true, false, IfOk, option_map};
-ghost use Rattle.info_symbols.specs.SymbolListings.{symbol_listing, symbol_listing_named};
-ghost use Rattle.info_symbols.specs.TypeListings.{type_listing, type_listing_named, permissive_listing, permissive_listing_named};
-ghost use Rattle.info_classes.specs.ConstraintLines.{constraint_listing, constraint_listing_named, validatetrans_listing, validatetrans_listing_named};
-ghost use Rattle.info_classes.specs.DefaultLines.{default_listing, default_listing_named};
-ghost use Rattle.info_query.specs.Listings.{attribute_lines, attribute_lines_named, left_of, lines_of, looked_up};
+ghost use Rattle.std.specs.Prelude.{◌≡◌, true, IfOk, option_map};
+ghost use Rattle.info_symbols.specs.SymbolListings.{symbol_listing};
+ghost use Rattle.info_symbols.specs.TypeListings.{set_listing};
+ghost use Rattle.info_classes.specs.ConstraintLines.{constraint_listing};
+ghost use Rattle.info_classes.specs.DefaultLines.{default_listing};
+ghost use Rattle.info_query.specs.Listings.{attribute_lines, left_of, lines_of};
 
 use crate::capabilities::{CapabilityLines, capability_lines};
-use info_attributes::{AttributeLines, attribute_statements, attribute_statements_named};
 use info_classes::{
-    BoundsLines, ConstraintLines, DefaultLines, bounds_lines, constraint_lines,
-    constraint_lines_named, default_lines, default_lines_named, validatetrans_lines,
-    validatetrans_lines_named,
+    BoundsLines, ConstraintKind, ConstraintLines, DefaultLines, bounds_lines, constraint_lines,
+    default_lines,
 };
 use info_contexts::{
     FsUseLines, GenfsLines, IbEndPortLines, IbPkeyLines, NetifLines, Node6Lines, NodeLines,
@@ -20,8 +18,8 @@ use info_contexts::{
 };
 use info_lines::{ChainedLines, FileLines, Lines, Listing, NumberedLines};
 use info_symbols::{
-    SymbolLines, TypeLines, attribute_lines, attribute_lines_named, permissive_lines,
-    permissive_lines_named, symbol_lines, symbol_lines_named, type_lines, type_lines_named,
+    AttributeLines, SymbolLines, TypeLines, TypeSet, attribute_statements,
+    attribute_statements_named, set_lines, symbol_lines,
 };
 use pol_cursor::TableKind;
 use pol_read::Policy;
@@ -115,11 +113,11 @@ pub fn lines_of<'p, 'a>(
     match listing {
         Listing::Classes => table_lines(alloc, policy, TableKind::Classes, expand, name),
         Listing::Commons => table_lines(alloc, policy, TableKind::Commons, expand, name),
-        Listing::Constraints => constraints(alloc, policy, name),
-        Listing::Validatetrans => validatetrans(alloc, policy, name),
+        Listing::Constraints => constraints(alloc, policy, ConstraintKind::OnPermissions, name),
+        Listing::Validatetrans => constraints(alloc, policy, ConstraintKind::OnChange, name),
         Listing::Defaults => defaults(alloc, policy, name),
         Listing::Roles => table_lines(alloc, policy, TableKind::Roles, expand, name),
-        Listing::Types => types(alloc, policy, expand, name),
+        Listing::Types => types(alloc, policy, TypeSet::PlainTypes, expand, name),
         Listing::Attributes => attributes(alloc, policy, expand, name),
         Listing::Users => table_lines(alloc, policy, TableKind::Users, expand, name),
         Listing::Booleans => table_lines(alloc, policy, TableKind::Booleans, expand, name),
@@ -135,7 +133,7 @@ pub fn lines_of<'p, 'a>(
         Listing::Portcons => Ok(Some(ListingLines::Portcons(port_lines(policy)))),
         Listing::Ibpkeycons => Ok(Some(ListingLines::Ibpkeycons(ibpkey_lines(policy)))),
         Listing::Ibendportcons => Ok(Some(ListingLines::Ibendportcons(ibendport_lines(policy)))),
-        Listing::Permissives => permissives(alloc, policy, expand, name),
+        Listing::Permissives => types(alloc, policy, TypeSet::PermissiveTypes, expand, name),
         Listing::Capabilities => Ok(Some(ListingLines::Capabilities(capability_lines(
             alloc, policy, expand, name,
         )?))),
@@ -151,147 +149,81 @@ fn table_lines<'p, 'a>(
     expand: bool,
     name: Option<&[u8]>,
 ) -> Found<'p, 'a>
-    ensures { IfOk result (λ lines. option_map left_of lines ≡ looked_up (symbol_listing policy.now.symbols table expand)
-        (symbol_listing_named policy.now.symbols table expand) (option_map (λ name. name.now) name.entry)) }
+    ensures { IfOk result (λ lines. option_map left_of lines ≡ symbol_listing policy.now.symbols table expand (option_map (λ name. name.now) name.entry)) }
 {
-    let symbols = policy.symbols();
-    match name {
-        None => Ok(Some(ListingLines::Symbols(symbol_lines(alloc, symbols, table, expand)?))),
-        Some(name) => match symbol_lines_named(alloc, symbols, table, expand, name)? {
-            Some(lines) => Ok(Some(ListingLines::Symbols(lines))),
-            None => Ok(None),
-        },
+    match symbol_lines(alloc, policy.symbols(), table, expand, name)? {
+        Some(lines) => Ok(Some(ListingLines::Symbols(lines))),
+        None => Ok(None),
     }
 }
 
-// Those of constraints on permissions.
-fn constraints<'p, 'a>(alloc: Global, policy: &'p Policy<'a>, name: Option<&[u8]>) -> Found<'p, 'a>
-    ensures { IfOk result (λ lines. option_map left_of lines ≡ looked_up (constraint_listing policy.now.symbols)
-        (constraint_listing_named policy.now.symbols) (option_map (λ name. name.now) name.entry)) }
-{
-    match name {
-        None => Ok(Some(ListingLines::Constraints(constraint_lines(alloc, policy)?))),
-        Some(name) => match constraint_lines_named(alloc, policy, name)? {
-            Some(lines) => Ok(Some(ListingLines::Constraints(lines))),
-            None => Ok(None),
-        },
-    }
-}
-
-// Those of constraints on a change of context.
-fn validatetrans<'p, 'a>(
+// Those of the constraints of a kind.
+fn constraints<'p, 'a>(
     alloc: Global,
     policy: &'p Policy<'a>,
+    kind: ConstraintKind,
     name: Option<&[u8]>,
 ) -> Found<'p, 'a>
-    ensures { IfOk result (λ lines. option_map left_of lines ≡ looked_up (validatetrans_listing policy.now.symbols)
-        (validatetrans_listing_named policy.now.symbols) (option_map (λ name. name.now) name.entry)) }
+    ensures { IfOk result (λ lines. option_map left_of lines ≡ constraint_listing policy.now.symbols kind (option_map (λ name. name.now) name.entry)) }
 {
-    match name {
-        None => Ok(Some(ListingLines::Constraints(validatetrans_lines(alloc, policy)?))),
-        Some(name) => match validatetrans_lines_named(alloc, policy, name)? {
-            Some(lines) => Ok(Some(ListingLines::Constraints(lines))),
-            None => Ok(None),
-        },
+    match constraint_lines(alloc, policy.symbols(), kind, name)? {
+        Some(lines) => Ok(Some(ListingLines::Constraints(lines))),
+        None => Ok(None),
     }
 }
 
 // Those of default rules.
 fn defaults<'p, 'a>(alloc: Global, policy: &'p Policy<'a>, name: Option<&[u8]>) -> Found<'p, 'a>
-    ensures { IfOk result (λ lines. option_map left_of lines ≡ looked_up (default_listing policy.now.symbols)
-        (default_listing_named policy.now.symbols) (option_map (λ name. name.now) name.entry)) }
+    ensures { IfOk result (λ lines. option_map left_of lines ≡ default_listing policy.now.symbols (option_map (λ name. name.now) name.entry)) }
 {
-    match name {
-        None => Ok(Some(ListingLines::Defaults(default_lines(alloc, policy)?))),
-        Some(name) => match default_lines_named(alloc, policy, name)? {
-            Some(lines) => Ok(Some(ListingLines::Defaults(lines))),
-            None => Ok(None),
-        },
+    match default_lines(alloc, policy.symbols(), name)? {
+        Some(lines) => Ok(Some(ListingLines::Defaults(lines))),
+        None => Ok(None),
     }
 }
 
-// Those of types that are no attributes.
+// Those of a set of types.
 fn types<'p, 'a>(
     alloc: Global,
     policy: &'p Policy<'a>,
+    set: TypeSet,
     expand: bool,
     name: Option<&[u8]>,
 ) -> Found<'p, 'a>
-    ensures { IfOk result (λ lines. option_map left_of lines ≡ looked_up (type_listing policy.now expand)
-        (type_listing_named policy.now expand) (option_map (λ name. name.now) name.entry)) }
+    ensures { IfOk result (λ lines. option_map left_of lines ≡ set_listing policy.now set expand (option_map (λ name. name.now) name.entry)) }
 {
-    match name {
-        None => Ok(Some(ListingLines::Types(type_lines(alloc, policy, expand)?))),
-        Some(name) => match type_lines_named(alloc, policy, expand, name)? {
-            Some(lines) => Ok(Some(ListingLines::Types(lines))),
-            None => Ok(None),
-        },
-    }
-}
-
-// Those of permissive types.
-fn permissives<'p, 'a>(
-    alloc: Global,
-    policy: &'p Policy<'a>,
-    expand: bool,
-    name: Option<&[u8]>,
-) -> Found<'p, 'a>
-    ensures { IfOk result (λ lines. option_map left_of lines ≡ looked_up (permissive_listing policy.now expand)
-        (permissive_listing_named policy.now expand) (option_map (λ name. name.now) name.entry)) }
-{
-    match name {
-        None => Ok(Some(ListingLines::Types(permissive_lines(alloc, policy, expand)?))),
-        Some(name) => match permissive_lines_named(alloc, policy, expand, name)? {
-            Some(lines) => Ok(Some(ListingLines::Types(lines))),
-            None => Ok(None),
-        },
+    match set_lines(alloc, policy, set, expand, name)? {
+        Some(lines) => Ok(Some(ListingLines::Types(lines))),
+        None => Ok(None),
     }
 }
 
 // Those of attributes.
+#[tactic(auto, unfolding(crate::specs::Listings::attribute_lines))]
 fn attributes<'p, 'a>(
     alloc: Global,
     policy: &'p Policy<'a>,
     expand: bool,
     name: Option<&[u8]>,
 ) -> Found<'p, 'a>
-    ensures { IfOk result (λ lines. option_map left_of lines ≡ looked_up (attribute_lines policy.now expand)
-        (attribute_lines_named policy.now expand) (option_map (λ name. name.now) name.entry)) }
+    ensures { IfOk result (λ lines. option_map left_of lines ≡ attribute_lines policy.now expand (option_map (λ name. name.now) name.entry)) }
 {
     if expand {
         statements(alloc, policy, name)
     } else {
-        attribute_names(alloc, policy, name)
+        types(alloc, policy, TypeSet::Attributes, false, name)
     }
 }
 
 // Those of attributes with their types.
+#[tactic(auto, unfolding(crate::specs::Listings::attribute_lines))]
 fn statements<'p, 'a>(alloc: Global, policy: &'p Policy<'a>, name: Option<&[u8]>) -> Found<'p, 'a>
-    ensures { IfOk result (λ lines. option_map left_of lines ≡ looked_up (attribute_lines policy.now true)
-        (attribute_lines_named policy.now true) (option_map (λ name. name.now) name.entry)) }
+    ensures { IfOk result (λ lines. option_map left_of lines ≡ attribute_lines policy.now true (option_map (λ name. name.now) name.entry)) }
 {
     match name {
         None => Ok(Some(ListingLines::Attributes(attribute_statements(alloc, policy)?))),
         Some(name) => match attribute_statements_named(alloc, policy, name)? {
             Some(lines) => Ok(Some(ListingLines::Attributes(lines))),
-            None => Ok(None),
-        },
-    }
-}
-
-// Those of attributes by their names.
-fn attribute_names<'p, 'a>(
-    alloc: Global,
-    policy: &'p Policy<'a>,
-    name: Option<&[u8]>,
-) -> Found<'p, 'a>
-    ensures { IfOk result (λ lines. option_map left_of lines ≡ looked_up (attribute_lines policy.now false)
-        (attribute_lines_named policy.now false) (option_map (λ name. name.now) name.entry)) }
-{
-    match name {
-        None => Ok(Some(ListingLines::Types(attribute_lines(alloc, policy)?))),
-        Some(name) => match attribute_lines_named(alloc, policy, name)? {
-            Some(lines) => Ok(Some(ListingLines::Types(lines))),
             None => Ok(None),
         },
     }

@@ -1,7 +1,7 @@
 -- How many lines a summary has.
 use Rattle.std.proofs.Common.{◌≡◌, List, map, length, sym, ap, ◌∙◌}
 use Rattle.std.proofs.lemmas.List.{length-map}
-use Rattle.pol_read.specs.declared.Parts.{Parts}
+use Rattle.pol_file.specs.declared.Parts.{Parts}
 use Rattle.info_summary.specs.declared.entry.Entry.{Entry}
 use Rattle.info_summary.specs.SummaryLines.{entry_line}
 use Rattle.info_summary.specs.Summary.{summary_lines}

@@ -12,9 +12,10 @@ use Rattle.pol_datums.specs.TypeRecord.{flavour_of}
 use Rattle.pol_classes.specs.declared.ClassRec.{ClassRec}
 use Rattle.pol_genfs.specs.declared.GenfsRec.{GenfsRec}
 use Rattle.pol_contexts.specs.declared.Contexts.{Contexts}
-use Rattle.pol_read.specs.declared.Parts.{Parts}
-use Rattle.info_symbols.specs.Flavours.{is_flavour}
-use Rattle.info_symbols.specs.TypeListings.{permissive_listing}
+use Rattle.pol_file.specs.declared.Parts.{Parts}
+use Rattle.pol_expand.specs.Flavours.{is_flavour}
+use Rattle.info_symbols.specs.declared.TypeSet.TheVariants.{PermissiveTypes}
+use Rattle.info_symbols.specs.TypeListings.{set_numbers}
 
 -- ---- symbols: the primary records, without aliases
 
@@ -46,9 +47,9 @@ path_count systems = sum_by (λ system. length system.value.paths) systems
 abbrev pub node_count : Contexts → ℕ
 node_count contexts = length contexts.node + length contexts.node6
 
--- the types, no attributes, whose domains are permissive
+-- the types, no attributes, that are listed as permissive
 abbrev pub permissive_count : Parts → ℕ
-permissive_count policy = length (permissive_listing policy false)
+permissive_count policy = length (set_numbers policy PermissiveTypes)
 
 -- each bit is a capability
 abbrev pub capability_count : Parts → ℕ

@@ -2,9 +2,9 @@
 use Rattle.std.specs.Prelude.{ℕ, ◌/◌, ◌%◌, ◌==◌, List, [], ◌∷◌, ◌++◌, length, codes, if◌then◌else◌}
 use Rattle.pol_datums.specs.declared.Flavour.TheVariants.{Plain, Attribute}
 use Rattle.pol_symbols.specs.declared.Symbols.{Symbols}
-use Rattle.pol_read.specs.declared.RuleKind.TheVariants.{Allow, Auditallow, Dontaudit, AllowXperm, AuditallowXperm, DontauditXperm, TypeTransition, TypeChange, TypeMember, RoleAllow, RoleTransition, RangeTransition}
-use Rattle.pol_read.specs.declared.LabelLists.{LabelLists}
-use Rattle.pol_read.specs.declared.Parts.{Parts}
+use Rattle.pol_rules.specs.declared.RuleKind.TheVariants.{Allow, Auditallow, Dontaudit, AllowXperm, AuditallowXperm, DontauditXperm, TypeTransition, TypeChange, TypeMember, RoleAllow, RoleTransition, RangeTransition}
+use Rattle.pol_file.specs.declared.LabelLists.{LabelLists}
+use Rattle.pol_file.specs.declared.Parts.{Parts}
 use Rattle.info_summary.specs.SummaryLines.{summary_line, count_line}
 use Rattle.info_summary.specs.RuleCounts.{rule_count}
 use Rattle.info_summary.specs.Counts.{flavour_count, sensitivity_count, category_count, constraint_count, validatetrans_count, path_count, node_count, permissive_count, capability_count}

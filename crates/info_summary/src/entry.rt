@@ -2,7 +2,7 @@
 ghost use Rattle.std.specs.Prelude.{◌≡◌, ◌++◌, OnOk};
 ghost use Rattle.info_summary.specs.SummaryLines.{summary_line, count_line, value_text, entry_line};
 
-use itoa::Buffer;
+use pol_texts::push_decimal;
 use std::alloc::AllocError;
 
 /// A number, or a word.
@@ -44,10 +44,7 @@ fn push_value(buffer: &mut Vec<u8>, value: Value) -> Result<(), AllocError>
     ensures { OnOk result (buffer.new.items ≡ buffer.old.items ++ value_text value) }
 {
     match value {
-        Value::Number(number) => {
-            let mut digits = Buffer::new();
-            buffer.extend_from_slice(digits.format(number).as_bytes())
-        }
+        Value::Number(number) => push_decimal(buffer, number),
         Value::Word(word) => buffer.extend_from_slice(word.as_bytes()),
     }
 }

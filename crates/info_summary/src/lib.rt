@@ -6,8 +6,6 @@ mod entry;
 mod rule_counts;
 mod summary_text;
 mod symbol_counts;
-#[cfg(test)]
-mod tests;
 
 pub use entry::{Entry, Value};
 pub use summary_text::{SummaryLines, SummaryText, summary};

@@ -9,8 +9,8 @@ use crate::context_counts::context_counts;
 use crate::entry::{Entry, Value, count, push_entry};
 use crate::rule_counts::rule_counts;
 use crate::symbol_counts::{constraint_counts, symbol_counts};
-use info_lines::{FileLines, LineText, Lines};
-use info_symbols::permissive_lines;
+use info_lines::{FileLines, LineText};
+use info_symbols::{TypeSet, set_numbers};
 use pol_read::Policy;
 use std::alloc::{AllocError, Global};
 use std::marker::Model;
@@ -99,7 +99,7 @@ fn unknown_word(config: u32) -> &'static str
 fn count_permissive(alloc: Global, policy: &Policy<'_>) -> Result<u64, AllocError>
     ensures { IfOk result (λ count. count ≡ permissive_count policy.now) }
 {
-    Ok(permissive_lines(alloc, policy, false)?.count())
+    Ok(set_numbers(alloc, policy, TypeSet::PermissiveTypes)?.len() as u64)
 }
 
 // The counts of permissive types and of capabilities.

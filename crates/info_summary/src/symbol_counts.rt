@@ -5,9 +5,9 @@ ghost use Rattle.info_summary.specs.Counts.{flavour_count, sensitivity_count, ca
 ghost use Rattle.info_summary.specs.Summary.{symbol_lines, constraint_lines};
 
 use crate::entry::{Entry, count};
-use info_symbols::is_flavour;
 use pol_classes::ClassTable;
 use pol_datums::{Category, Flavour, Sensitivity, Type};
+use pol_expand::is_flavour;
 use pol_symbols::Symbols;
 use pol_symtab::SymbolTable;
 

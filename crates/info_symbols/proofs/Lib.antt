@@ -1,2 +1,4 @@
 pub mod Listed
 pub mod AliasLists
+pub mod PrimaryTypes
+pub mod Attributes

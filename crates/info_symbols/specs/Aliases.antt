@@ -7,9 +7,9 @@ use Rattle.pol_cursor.specs.declared.TableKind.TheVariants.{Types, Levels, Categ
 use Rattle.pol_cursor.specs.References.{Placed}
 use Rattle.pol_datums.specs.TypeRecord.{is_primary_type}
 use Rattle.pol_datums.specs.Flags.{is_primary_flag}
-use Rattle.pol_constraints.specs.ConstraintMeaning.{set_text}
+use Rattle.pol_texts.specs.SetTexts.{set_text}
 use Rattle.pol_symbols.specs.declared.symbols.Symbols.{Symbols}
-use Rattle.info_lines.specs.NameLists.{in_order}
+use Rattle.pol_texts.specs.NameLists.{in_order}
 
 -- a record is an alias of a value: it is not primary, and the value is the one that it stands for
 abbrev pub is_alias_of : {A : Type 0} → (A → Bool) → (A → ℕ) → ℕ → Placed A → Bool

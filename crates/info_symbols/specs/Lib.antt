@@ -6,7 +6,7 @@ pub mod ClassLines
 pub mod Aliases
 pub mod AliasLists
 pub mod MlsLines
-pub mod Flavours
 pub mod TypeStatements
 pub mod RoleLines
 pub mod UserLines
+pub mod AttributeStatement

@@ -1,8 +1,8 @@
 -- The permissions of a class or a common as the text of a set.
 use Rattle.std.specs.Prelude.{ℕ, List, map}
 use Rattle.pol_commons.specs.declared.permission_rec.PermissionRec.{PermissionRec}
-use Rattle.pol_constraints.specs.ConstraintMeaning.{set_text}
-use Rattle.info_lines.specs.NameLists.{in_order}
+use Rattle.pol_texts.specs.SetTexts.{set_text}
+use Rattle.pol_texts.specs.NameLists.{in_order}
 
 -- their names in order: one name is itself, otherwise they stand in braces
 abbrev pub permission_set : List PermissionRec → List ℕ

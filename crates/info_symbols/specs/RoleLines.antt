@@ -4,7 +4,7 @@ use Rattle.pol_cursor.specs.declared.TableKind.TheVariants.{Types}
 use Rattle.pol_bitmap.specs.Nodes.{bits_of}
 use Rattle.pol_datums.specs.declared.RoleRec.{RoleRec}
 use Rattle.pol_symbols.specs.declared.symbols.Symbols.{Symbols}
-use Rattle.pol_constraints.specs.ConstraintMeaning.{set_text}
+use Rattle.pol_texts.specs.SetTexts.{set_text}
 use Rattle.info_lines.specs.NameSets.{names_of_bits}
 
 -- the types of a role by their names, where it has some

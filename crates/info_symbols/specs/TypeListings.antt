@@ -1,18 +1,17 @@
 -- The listings of types, attributes and permissive types, as seinfo of SETools prints them.
 use Rattle.std.specs.Prelude.{ℕ, ◌++◌, ◌∷◌, [], ◌&&◌, Bool, true, false, Option, Some, None, option_map, List, map, codes, slice_get, nat_eq, if◌then◌else◌}
 use Rattle.std.specs.List.{filter, list_any}
-use Rattle.std.specs.Option.{option_and_then}
 use Rattle.pol_cursor.specs.declared.TableKind.TheVariants.{Types}
 use Rattle.pol_cursor.specs.References.{Placed}
 use Rattle.pol_bitmap.specs.Nodes.{bits_of}
 use Rattle.pol_datums.specs.declared.TypeRec.{TypeRec}
 use Rattle.pol_datums.specs.declared.Flavour.TheVariants.{Plain, Attribute}
 use Rattle.pol_datums.specs.TypeRecord.{flavour_of}
-use Rattle.pol_read.specs.declared.parts.Parts.{Parts}
+use Rattle.pol_file.specs.declared.parts.Parts.{Parts}
 use Rattle.info_symbols.specs.declared.type_sets.TypeSet.{TypeSet}
 use Rattle.info_symbols.specs.declared.type_sets.TypeSet.TheVariants.{PlainTypes, Attributes, PermissiveTypes}
 use Rattle.info_lines.specs.NameOrder.{primary_numbers, number_named}
-use Rattle.info_symbols.specs.Flavours.{is_flavour}
+use Rattle.pol_expand.specs.Flavours.{is_flavour}
 use Rattle.info_symbols.specs.TypeStatements.{type_statement}
 use Rattle.info_symbols.specs.SymbolListings.{lines_at}
 
@@ -53,40 +52,31 @@ shows_types set expand = false
 abbrev pub type_lines : Parts → TypeSet → Bool → List (List ℕ)
 type_lines parts set expand = map (λ t. type_line parts set expand t.value) parts.symbols.types.records
 
--- ---- the listings
+-- ---- the numbers that are listed
 
 -- the primary records of the set, in the order of their names
 abbrev pub set_numbers : Parts → TypeSet → List ℕ
 set_numbers parts set = filter (number_in parts set) (primary_numbers parts.symbols Types)
-
-abbrev pub set_listing : Parts → TypeSet → Bool → List (List ℕ)
-set_listing parts set expand = lines_at (type_lines parts set expand) (set_numbers parts set)
-
-abbrev pub type_listing : Parts → Bool → List (List ℕ)
-type_listing parts expand = set_listing parts PlainTypes expand
-
-abbrev pub attribute_listing : Parts → List (List ℕ)
-attribute_listing parts = set_listing parts Attributes false
-
-abbrev pub permissive_listing : Parts → Bool → List (List ℕ)
-permissive_listing parts expand = set_listing parts PermissiveTypes expand
-
--- ---- those of a name
 
 -- one number, where its record is in the set
 abbrev pub number_if_in : Parts → TypeSet → Option ℕ → Option ℕ
 number_if_in parts set None = None
 number_if_in parts set (Some number) = if number_in parts set number then Some number else None
 
-abbrev pub set_listing_named : Parts → TypeSet → Bool → List ℕ → Option (List (List ℕ))
-set_listing_named parts set expand name =
-    option_map (λ line. line ∷ []) (option_and_then (slice_get (type_lines parts set expand)) (number_if_in parts set (number_named parts.symbols Types name)))
+-- the set in which a name is looked up: each type is known where permissive types are listed, and is listed where it is permissive
+abbrev pub searched_set : TypeSet → TypeSet
+searched_set PlainTypes = PlainTypes
+searched_set Attributes = Attributes
+searched_set PermissiveTypes = PlainTypes
 
-abbrev pub type_listing_named : Parts → Bool → List ℕ → Option (List (List ℕ))
-type_listing_named parts expand name = set_listing_named parts PlainTypes expand name
+-- those of all of the set, or of a record that a name finds, where the name is known
+unfoldable pub set_numbers_listed : Parts → TypeSet → Option (List ℕ) → Option (List ℕ)
+set_numbers_listed parts set None = Some (set_numbers parts set)
+set_numbers_listed parts set (Some name) =
+    option_map (λ number. filter (number_in parts set) (number ∷ [])) (number_if_in parts (searched_set set) (number_named parts.symbols Types name))
 
-abbrev pub attribute_listing_named : Parts → List ℕ → Option (List (List ℕ))
-attribute_listing_named parts name = set_listing_named parts Attributes false name
+-- ---- the listings
 
-abbrev pub permissive_listing_named : Parts → Bool → List ℕ → Option (List (List ℕ))
-permissive_listing_named parts expand name = set_listing_named parts PermissiveTypes expand name
+-- the lines of a set, or of what a name finds in it, where the name is known
+unfoldable pub set_listing : Parts → TypeSet → Bool → Option (List ℕ) → Option (List (List ℕ))
+set_listing parts set expand name = option_map (lines_at (type_lines parts set expand)) (set_numbers_listed parts set name)

@@ -8,9 +8,9 @@ use Rattle.pol_datums.specs.declared.TypeRec.{TypeRec}
 use Rattle.pol_datums.specs.declared.Flavour.TheVariants.{Attribute}
 use Rattle.pol_symbols.specs.declared.symbols.Symbols.{Symbols}
 use Rattle.pol_symbols.specs.PolicySymbols.{flavour_in}
-use Rattle.pol_read.specs.declared.parts.Parts.{Parts}
+use Rattle.pol_file.specs.declared.parts.Parts.{Parts}
 use Rattle.info_lines.specs.NameSets.{names_of_values, values_of_bits}
-use Rattle.info_symbols.specs.Flavours.{is_flavour}
+use Rattle.pol_expand.specs.Flavours.{is_flavour}
 use Rattle.info_symbols.specs.Aliases.{alias_names, alias_text}
 
 -- the table of types may declare the value

@@ -6,7 +6,7 @@ use Rattle.pol_mls.specs.MlsTexts.{level_text, range_text}
 use Rattle.pol_symbols.specs.declared.user_rec.UserRec.{UserRec}
 use Rattle.pol_symbols.specs.declared.symbols.Symbols.{Symbols}
 use Rattle.pol_symbols.specs.PolicySymbols.{name_in}
-use Rattle.pol_constraints.specs.ConstraintMeaning.{set_text}
+use Rattle.pol_texts.specs.SetTexts.{set_text}
 use Rattle.info_lines.specs.NameSets.{names_of_bits}
 
 -- the roles of a user by their names

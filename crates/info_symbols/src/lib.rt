@@ -2,8 +2,8 @@
 #![tactic(auto)]
 
 mod aliases;
+mod attribute_statement;
 mod class_texts;
-mod flavours;
 mod mls_texts;
 mod permission_sets;
 mod role_text;
@@ -12,9 +12,6 @@ mod type_sets;
 mod type_texts;
 mod user_text;
 
-pub use flavours::is_flavour;
-pub use table_lines::{SymbolLines, symbol_lines, symbol_lines_named};
-pub use type_sets::{
-    TypeLines, TypeSet, attribute_lines, attribute_lines_named, permissive_lines,
-    permissive_lines_named, set_number_named, set_numbers, type_lines, type_lines_named,
-};
+pub use attribute_statement::{AttributeLines, attribute_statements, attribute_statements_named};
+pub use table_lines::{SymbolLines, symbol_lines};
+pub use type_sets::{TypeLines, TypeSet, set_lines, set_number_named, set_numbers};

@@ -1,16 +1,16 @@
 //! The listings of symbol tables.
 
-ghost use Rattle.std.specs.Prelude.{◌≡◌, ◌∷◌, ◌++◌, [], IfOk, OnOk};
+ghost use Rattle.std.specs.Prelude.{◌≡◌, ◌++◌, IfOk, OnOk, option_map};
 ghost use Rattle.info_lines.specs.Listings.{HasLine, line_of};
 ghost use Rattle.info_symbols.specs.SymbolLines.{boolean_line, state_word, symbol_lines};
-ghost use Rattle.info_symbols.specs.SymbolListings.{symbol_listing, symbol_listing_named};
+ghost use Rattle.info_symbols.specs.SymbolListings.{symbol_listing};
 
 use crate::aliases::Aliases;
 use crate::class_texts::{push_class, push_common};
 use crate::mls_texts::{push_category, push_sensitivity};
 use crate::role_text::push_role;
 use crate::user_text::push_user;
-use info_lines::{LineText, NumberedLines, number_named, primary_order};
+use info_lines::{LineText, NumberedLines, numbers_listed};
 use pol_cursor::TableKind;
 use pol_datums::BooleanView;
 use pol_symbols::Symbols;
@@ -124,51 +124,21 @@ fn state_word(state: u32) -> &'static [u8]
     if state == 1 { b"true" } else { b"false" }
 }
 
-/// The lines of the primary records of a table, in the order of their names.
-#[tactic(auto, using(crate::proofs::Listed::listed, crate::proofs::Listed::have_lines))]
+/// The lines of the primary records of a table, in the order of their names, or where a name is given, of the one that it finds.
+/// `None` exactly where it finds none.
+#[tactic(auto, using(crate::proofs::Listed::listed, crate::proofs::Listed::none_listed, crate::proofs::Listed::have_lines))]
 pub fn symbol_lines<'p, 'a>(
     alloc: Global,
     symbols: &'p Symbols<'a>,
     table: TableKind,
     expand: bool,
-) -> Result<NumberedLines<SymbolLines<'p, 'a>>, AllocError>
-    ensures { IfOk result (λ lines. lines ≡ symbol_listing symbols.now table expand) }
-{
-    let numbers = primary_order(alloc, symbols, table)?;
-    let lines = SymbolLines::new(alloc, symbols, table, expand)?;
-    Ok(NumberedLines::new(lines, numbers))
-}
-
-/// One line.
-pub(crate) fn one_line<T: LineText + Drop>(
-    alloc: Global,
-    texts: T,
-    number: u32,
-) -> Result<NumberedLines<T>, AllocError>
-    requires { T.has texts number }
-    ensures { IfOk result (λ lines. lines ≡ T.text texts number ∷ []) }
-{
-    let mut numbers = Vec::new(alloc);
-    numbers.push(number)?;
-    Ok(NumberedLines::new(texts, numbers))
-}
-
-/// The line of the primary record that a name finds in a table, or `None` where there is none.
-#[tactic(auto, using(crate::proofs::Listed::symbol_named, crate::proofs::Listed::symbol_unnamed, info_lines::proofs::Placing::named_within, crate::proofs::Listed::as_many))]
-pub fn symbol_lines_named<'p, 'a>(
-    alloc: Global,
-    symbols: &'p Symbols<'a>,
-    table: TableKind,
-    expand: bool,
-    name: &[u8],
+    name: Option<&[u8]>,
 ) -> Result<Option<NumberedLines<SymbolLines<'p, 'a>>>, AllocError>
-    ensures { IfOk result (λ lines. lines ≡ symbol_listing_named symbols.now table expand name.now) }
+    ensures { IfOk result (λ lines. lines ≡ symbol_listing symbols.now table expand (option_map (λ name. name.now) name.entry)) }
 {
-    match number_named(symbols, table, name) {
-        Some(number) => {
-            let lines = SymbolLines::new(alloc, symbols, table, expand)?;
-            Ok(Some(one_line(alloc, lines, number)?))
-        }
-        None => Ok(None),
-    }
+    let Some(numbers) = numbers_listed(alloc, symbols, table, name)? else {
+        return Ok(None);
+    };
+    let lines = SymbolLines::new(alloc, symbols, table, expand)?;
+    Ok(Some(NumberedLines::new(lines, numbers)))
 }

@@ -1,21 +1,20 @@
 //! The listings of types, attributes and permissive types.
 
-ghost use Rattle.std.specs.Prelude.{◌≡◌, ◌<◌, ◌++◌, IfOk, IfSome, OnOk, length};
+ghost use Rattle.std.specs.Prelude.{◌≡◌, ◌<◌, ◌++◌, IfOk, IfSome, OnOk, length, option_map};
 ghost use Rattle.std.specs.List.{All, filter};
 ghost use Rattle.info_lines.specs.Listings.{HasLine, line_of};
 ghost use Rattle.info_lines.specs.NameOrder.{number_named};
 ghost use Rattle.pol_cursor.specs.declared.TableKind.TheVariants.{Types};
-ghost use Rattle.info_symbols.specs.Flavours.{is_flavour};
+ghost use Rattle.pol_expand.specs.Flavours.{is_flavour};
 ghost use Rattle.info_symbols.specs.AliasLists.{AreAliases};
-ghost use Rattle.info_symbols.specs.TypeListings.{is_permissive, is_in, number_in, permissive_line, shows_types, type_line, type_lines, set_numbers, set_listing, type_listing, attribute_listing, permissive_listing, number_if_in, set_listing_named, type_listing_named, attribute_listing_named, permissive_listing_named};
+ghost use Rattle.info_symbols.specs.TypeListings.{is_permissive, is_in, number_in, number_if_in, permissive_line, searched_set, set_listing, set_numbers, set_numbers_listed, shows_types, type_line, type_lines};
 
 use crate::aliases::Aliases;
-use crate::flavours::is_flavour;
-use crate::table_lines::one_line;
 use crate::type_texts::push_type_statement;
 use info_lines::{LineText, NumberedLines, number_named, primary_order};
 use pol_cursor::TableKind;
 use pol_datums::{Flavour, TypeView};
+use pol_expand::is_flavour;
 use pol_read::Policy;
 use std::alloc::{AllocError, Global};
 use std::marker::Model;
@@ -153,6 +152,7 @@ fn is_permissive(policy: &Policy<'_>, value: u32) -> bool
 }
 
 // The numbers of the records that are in the set.
+#[tactic(auto, using(crate::proofs::Listed::kept_within))]
 fn numbers_in(
     alloc: Global,
     policy: &Policy<'_>,
@@ -160,7 +160,8 @@ fn numbers_in(
     numbers: &[u32],
 ) -> Result<Vec<u32>, AllocError>
     requires { All (λ n. n < length policy.now.symbols.types.records) numbers.now }
-    ensures { IfOk result (λ kept. kept.items ≡ filter (number_in policy.now set) numbers.now) }
+    ensures kept { IfOk result (λ kept. kept.items ≡ filter (number_in policy.now set) numbers.now) }
+    ensures within { IfOk result (λ kept. All (λ n. n < length policy.now.symbols.types.records) kept.items) }
 {
     let mut kept = Vec::new(alloc);
     for number in numbers {
@@ -171,20 +172,13 @@ fn numbers_in(
     Ok(kept)
 }
 
-// The lines of a set.
-#[tactic(auto, using(crate::proofs::Listed::kept_lines))]
-fn set_lines<'p, 'a>(
-    alloc: Global,
-    policy: &'p Policy<'a>,
-    set: TypeSet,
-    expand: bool,
-) -> Result<NumberedLines<TypeLines<'p, 'a>>, AllocError>
-    ensures { IfOk result (λ lines. lines ≡ set_listing policy.now set expand) }
+/// The numbers of the primary records of a set, in the order of their names.
+pub fn set_numbers(alloc: Global, policy: &Policy<'_>, set: TypeSet) -> Result<Vec<u32>, AllocError>
+    ensures numbers { IfOk result (λ numbers. numbers.items ≡ set_numbers policy.now set) }
+    ensures within { IfOk result (λ numbers. All (λ n. n < length policy.now.symbols.types.records) numbers.items) }
 {
     let all = primary_order(alloc, policy.symbols(), TableKind::Types)?;
-    let numbers = numbers_in(alloc, policy, set, &all)?;
-    let lines = TypeLines::new(alloc, policy, set, expand)?;
-    Ok(NumberedLines::new(lines, numbers))
+    numbers_in(alloc, policy, set, &all)
 }
 
 /// The number of the record that a name finds, where it is in the set.
@@ -205,97 +199,52 @@ pub fn set_number_named(policy: &Policy<'_>, set: TypeSet, name: &[u8]) -> Optio
     }
 }
 
-// The line of the record that a name finds in a set, or `None` where there is none.
-#[tactic(auto, using(crate::proofs::Listed::type_named, crate::proofs::Listed::type_unnamed))]
-fn set_lines_named<'p, 'a>(
-    alloc: Global,
-    policy: &'p Policy<'a>,
-    set: TypeSet,
-    expand: bool,
-    name: &[u8],
-) -> Result<Option<NumberedLines<TypeLines<'p, 'a>>>, AllocError>
-    ensures { IfOk result (λ lines. lines ≡ set_listing_named policy.now set expand name.now) }
+// The set in which a name is looked up.
+fn searched_set(set: TypeSet) -> TypeSet
+    ensures { result ≡ searched_set set }
 {
-    match set_number_named(policy, set, name) {
-        Some(number) => {
-            let lines = TypeLines::new(alloc, policy, set, expand)?;
-            Ok(Some(one_line(alloc, lines, number)?))
-        }
+    match set {
+        TypeSet::PlainTypes | TypeSet::PermissiveTypes => TypeSet::PlainTypes,
+        TypeSet::Attributes => TypeSet::Attributes,
+    }
+}
+
+// The numbers of the records of a set that are listed, or `None` where no name is known.
+#[tactic(auto, unfolding(crate::specs::TypeListings::set_numbers_listed))]
+fn set_numbers_listed(
+    alloc: Global,
+    policy: &Policy<'_>,
+    set: TypeSet,
+    name: Option<&[u8]>,
+) -> Result<Option<Vec<u32>>, AllocError>
+    ensures numbers { IfOk result (λ numbers. option_map (λ numbers. numbers.items) numbers ≡ set_numbers_listed policy.now set (option_map (λ name. name.now) name.entry)) }
+    ensures within { IfOk result (λ numbers. IfSome numbers (λ numbers. All (λ n. n < length policy.now.symbols.types.records) numbers.items)) }
+{
+    let Some(name) = name else {
+        return Ok(Some(set_numbers(alloc, policy, set)?));
+    };
+    match set_number_named(policy, searched_set(set), name) {
+        Some(number) => Ok(Some(numbers_in(alloc, policy, set, &[number])?)),
         None => Ok(None),
     }
 }
 
-/// The types, without the attributes, in the order of their names.
-pub fn type_lines<'p, 'a>(
+/// The lines of a set in the order of the names, plain or expanded (attributes are expanded elsewhere), or where a name is given,
+/// those of the record that it finds. `None` exactly where it finds none. A type that is not permissive is found among the
+/// permissive types, and has no line there.
+#[tactic(auto, using(crate::proofs::Listed::set_listed, crate::proofs::Listed::none_of_set, crate::proofs::Listed::have_type_lines))]
+pub fn set_lines<'p, 'a>(
     alloc: Global,
     policy: &'p Policy<'a>,
+    set: TypeSet,
     expand: bool,
-) -> Result<NumberedLines<TypeLines<'p, 'a>>, AllocError>
-    ensures { IfOk result (λ lines. lines ≡ type_listing policy.now expand) }
-{
-    set_lines(alloc, policy, TypeSet::PlainTypes, expand)
-}
-
-/// The names of the attributes, in their order.
-pub fn attribute_lines<'p, 'a>(
-    alloc: Global,
-    policy: &'p Policy<'a>,
-) -> Result<NumberedLines<TypeLines<'p, 'a>>, AllocError>
-    ensures { IfOk result (λ lines. lines ≡ attribute_listing policy.now) }
-{
-    set_lines(alloc, policy, TypeSet::Attributes, false)
-}
-
-/// The types whose domains are permissive, in the order of their names.
-pub fn permissive_lines<'p, 'a>(
-    alloc: Global,
-    policy: &'p Policy<'a>,
-    expand: bool,
-) -> Result<NumberedLines<TypeLines<'p, 'a>>, AllocError>
-    ensures { IfOk result (λ lines. lines ≡ permissive_listing policy.now expand) }
-{
-    set_lines(alloc, policy, TypeSet::PermissiveTypes, expand)
-}
-
-/// The line of the type that a name finds, or `None` where there is none.
-pub fn type_lines_named<'p, 'a>(
-    alloc: Global,
-    policy: &'p Policy<'a>,
-    expand: bool,
-    name: &[u8],
+    name: Option<&[u8]>,
 ) -> Result<Option<NumberedLines<TypeLines<'p, 'a>>>, AllocError>
-    ensures { IfOk result (λ lines. lines ≡ type_listing_named policy.now expand name.now) }
+    ensures { IfOk result (λ lines. lines ≡ set_listing policy.now set expand (option_map (λ name. name.now) name.entry)) }
 {
-    set_lines_named(alloc, policy, TypeSet::PlainTypes, expand, name)
-}
-
-/// The name of the attribute that a name finds, or `None` where there is none.
-pub fn attribute_lines_named<'p, 'a>(
-    alloc: Global,
-    policy: &'p Policy<'a>,
-    name: &[u8],
-) -> Result<Option<NumberedLines<TypeLines<'p, 'a>>>, AllocError>
-    ensures { IfOk result (λ lines. lines ≡ attribute_listing_named policy.now name.now) }
-{
-    set_lines_named(alloc, policy, TypeSet::Attributes, false, name)
-}
-
-/// The line of the permissive type that a name finds, or `None` where there is none.
-pub fn permissive_lines_named<'p, 'a>(
-    alloc: Global,
-    policy: &'p Policy<'a>,
-    expand: bool,
-    name: &[u8],
-) -> Result<Option<NumberedLines<TypeLines<'p, 'a>>>, AllocError>
-    ensures { IfOk result (λ lines. lines ≡ permissive_listing_named policy.now expand name.now) }
-{
-    set_lines_named(alloc, policy, TypeSet::PermissiveTypes, expand, name)
-}
-
-/// The numbers of the records of a set, in the order of their names.
-pub fn set_numbers(alloc: Global, policy: &Policy<'_>, set: TypeSet) -> Result<Vec<u32>, AllocError>
-    ensures { IfOk result (λ numbers. numbers.items ≡ set_numbers policy.now set) }
-{
-    let all = primary_order(alloc, policy.symbols(), TableKind::Types)?;
-    numbers_in(alloc, policy, set, &all)
+    let Some(numbers) = set_numbers_listed(alloc, policy, set, name)? else {
+        return Ok(None);
+    };
+    let lines = TypeLines::new(alloc, policy, set, expand)?;
+    Ok(Some(NumberedLines::new(lines, numbers)))
 }

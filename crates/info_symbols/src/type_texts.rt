@@ -7,10 +7,10 @@ ghost use Rattle.info_symbols.specs.AliasLists.{AreAliases};
 ghost use Rattle.info_symbols.specs.TypeStatements.{attribute_names, attributes_of_type, attributes_text, is_attribute, may_be_type, type_statement};
 
 use crate::aliases::{Aliases, push_aliases};
-use crate::flavours::is_flavour;
 use info_lines::{names_of_values, values_of_bits};
 use pol_cursor::TableKind;
 use pol_datums::{Flavour, TypeView};
+use pol_expand::is_flavour;
 use pol_read::Policy;
 use pol_symbols::Symbols;
 use std::alloc::{AllocError, Global};

@@ -9,7 +9,7 @@ use Rattle.pol_avtab.specs.declared.av_rec.AvPart.{AvPart}
 use Rattle.pol_avtab.specs.declared.av_rec.AvPart.TheVariants.{Extended}
 use Rattle.pol_avtab.specs.declared.av_key.AvKey.{AvKey}
 use Rattle.pol_avtab.specs.declared.av_rec.AvRec.{AvRec}
-use Rattle.pol_avtab.specs.AvKeys.{kind_of, key_of}
+use Rattle.pol_avtab.specs.AvKeys.{kind_of}
 use Rattle.pol_avtab.specs.AvRecord.{is_extended, specified_test, xkind_test, extended_at, part_at, av_at, specified_in, part_in, av_in, av_length, av_end}
 
 extended_is : (a b : ℕ) (bits : List ℕ) (a' b' : ℕ) (bits' : List ℕ) → a ≡ a' → b ≡ b' → bits ≡ bits' → Extended a b bits ≡ Extended a' b' bits'
@@ -67,9 +67,6 @@ module _ (bytes : List ℕ) (place second third fourth fifth next source target 
       rw (head.behind, head.source_is, head.target_is, head.class_is, head.specified_is) refl in
       rw (e, f, g, h, test, part) (ap (λ (av : AvRec). Got av next) (sym is))
 
-  key_got : record { source = source; target = target; class = class; specified = kind_of specified } ≡ key_of (av_in bytes place)
-  key_got = rw (head.source_is, head.target_is, head.class_is, head.specified_is) refl
-
 -- what was read of the same buffer
 in_buffer : {A : Type 0} (r : Reader A) (x : A) (bytes : List ℕ) (old new : Position) → old.bytes ≡ bytes → Gave r x old new → r bytes old.place ≡ Got x new.place
 in_buffer r x bytes old new same e = subst (λ (b : List ℕ). r b old.place ≡ Got x new.place) same e.0
@@ -100,15 +97,3 @@ av_read version earlier old second third fourth fifth new source target class sp
       ends = ends;
       long = rw same at long;
     }
-
--- the numbers before the part are its key
-pub key_read : (old second third fourth fifth : Position) (source target class specified : ℕ)
-    → Gave (number (field 16 1) 2) source old second → Gave (number (field 16 2) 2) target second third → Gave (number (field 16 3) 2) class third fourth → Gave (number (field 16 4) 2) specified fourth fifth
-    → record { source = source; target = target; class = class; specified = kind_of specified } ≡ key_of (av_in old.bytes old.place)
-key_read old second third fourth fifth source target class specified e f g h =
-    let bytes = old.bytes in
-    let third_same : third.bytes ≡ bytes = f.1 ∙ e.1 in
-    let fourth_same : fourth.bytes ≡ bytes = g.1 ∙ third_same in
-    key_got bytes old.place second.place third.place fourth.place fifth.place 0 source target class specified
-    (in_buffer (number (field 16 1) 2) source bytes old second refl e) (in_buffer (number (field 16 2) 2) target bytes second third e.1 f)
-    (in_buffer (number (field 16 3) 2) class bytes third fourth third_same g) (in_buffer (number (field 16 4) 2) specified bytes fourth fifth fourth_same h)

@@ -4,3 +4,4 @@ pub mod HeldNumbers
 pub mod AvLaws
 pub mod RulePlaces
 pub mod Groups
+pub mod KeyWords

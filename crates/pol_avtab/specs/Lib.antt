@@ -4,3 +4,4 @@ pub mod XPerms
 pub mod CondNodeRecord
 pub mod AvTables
 pub mod PlaceGroups
+pub mod InnerKeys

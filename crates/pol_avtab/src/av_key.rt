@@ -1,3 +1,4 @@
+ghost use Rattle.std.specs.Prelude.{◌≡◌};
 ghost use Rattle.std.proofs.Common.{rules};
 ghost use Rattle.std.specs.Cmp.Rules.{hashing};
 ghost use Rattle.std.specs.Hash as fed;
@@ -18,6 +19,16 @@ pub struct AvKey {
     pub specified: u16,
 }
 
+impl AvKey {
+    /// Its four numbers in one.
+    pub(crate) fn word(self) -> u64
+        ensures { result ≡ word_of self }
+    {
+        let high = self.class as u64 + 0x10000 * self.specified as u64;
+        self.source as u64 + 0x10000 * (self.target as u64 + 0x10000 * high)
+    }
+}
+
 // The four numbers are hashed as one word, which is one step in place of four.
 impl Hash for AvKey {
     ghost hash_input = { λ key. fed.u64 (word_of key) };
@@ -25,7 +36,6 @@ impl Hash for AvKey {
     ghost respects_eq = { Prim.search (hashing, rules) };
 
     fn hash<H: Hasher>(&self, state: &mut H) {
-        let high = self.class as u64 + 0x10000 * self.specified as u64;
-        state.write_u64(self.source as u64 + 0x10000 * (self.target as u64 + 0x10000 * high));
+        state.write_u64(self.word());
     }
 }

@@ -1,4 +1,4 @@
-ghost use Rattle.std.specs.Prelude.{◌≡◌, ◌*◌, ◌≤◌, [], IfOk, OnOk, OnErr};
+ghost use Rattle.std.specs.Prelude.{◌≡◌, [], OnOk, OnErr};
 ghost use Rattle.pol_avtab.specs.AvKeys.{key_of, has_key, with_key};
 
 use crate::av_key::AvKey;
@@ -31,38 +31,19 @@ impl AvKeys {
         AvKeys { keys }
     }
 
-    /// No key, with room for those of so many rules, which are no more than a policy of the largest size can hold.
-    pub fn with_capacity(alloc: Global, room: u32) -> Result<AvKeys, AllocError>
-        requires { 12 * room ≤ 67108864 }
-        ensures { IfOk result (λ keys. keys ≡ []) }
-    {
-        let keys = IndexSet::with_capacity(alloc, room as usize)?;
-        Ok(AvKeys { keys })
-    }
-
-    /// Whether a rule has the key. It looks at no other key.
+    /// Whether a rule has the key. It looks at no other key, and at none where there are none.
     pub fn has(&self, key: AvKey) -> bool
         ensures { result ≡ has_key self.now key }
     {
-        self.keys.contains(&key)
+        !self.keys.is_empty() && self.keys.contains(&key)
     }
 
-    /// Adds the key of a rule. After want of memory the keys are as they were.
+    /// Adds the key of a rule. Out of memory, the keys are as they were.
     pub fn add(&mut self, view: &AvView<'_>) -> Result<(), AllocError>
         ensures ok { OnOk result (self.new ≡ with_key self.old (key_of view.now.value)) }
         ensures err { OnErr result (self.new ≡ self.old) }
     {
-        self.insert(view.key())?;
+        self.keys.insert_full(view.key())?;
         Ok(())
-    }
-
-    // Adds a key, and answers whether a rule had it.
-    pub(crate) fn insert(&mut self, key: AvKey) -> Result<bool, AllocError>
-        ensures had { IfOk result (λ had. had ≡ has_key self.old key) }
-        ensures ok { OnOk result (self.new ≡ with_key self.old key) }
-        ensures err { OnErr result (self.new ≡ self.old) }
-    {
-        let (_, is_new) = self.keys.insert_full(key)?;
-        Ok(!is_new)
     }
 }

@@ -2,29 +2,33 @@
 
 ghost use Rattle.std.specs.Prelude.{◌≡◌, None, IfOk, OnOk};
 ghost use Rattle.pol_cursor.specs.Outcome.{Answers, Yields};
-ghost use Rattle.pol_avtab.specs.AvRecord.{av_at, av_in, av_end, HasAv};
-ghost use Rattle.pol_avtab.specs.AvTables.{rule_at, after_rule};
+ghost use Rattle.pol_avtab.specs.AvRecord.{av_at, av_in, av_end, HasAv, av_references};
+ghost use Rattle.pol_avtab.specs.InnerKeys.{rule_behind, after_collecting};
 
 use crate::av_keys::AvKeys;
 use crate::av_rec::AvRec;
-use crate::av_view::{AvView, pass_rule, read_av};
-use pol_cursor::{Cursor, Fault, Inner, ReadAfter, ReadError, Record, RecordView};
+use crate::av_view::{AvView, read_av};
+use pol_cursor::{
+    Copied, Cursor, Fault, Inner, Names, ReadAfter, ReadError, Record, RecordView, Referring,
+};
+use std::alloc::{AllocError, Global};
 use std::marker::Model;
 
-/// What a rule of the table is read under: the version, and the keys of the rules before it. It is handed on from rule to
-/// rule, so the keys are kept behind a pointer.
+/// What a rule of the table is read under: the version, and the keys of the rules before it, or none where keys are not
+/// collected. It is handed on from rule to rule, so the keys are kept behind a pointer.
 #[derive(Drop)]
 pub struct AvContext {
     pub(crate) version: u32,
     pub(crate) keys: Box<AvKeys>,
+    pub(crate) collects: bool,
 }
 
 impl Model for AvContext {
-    ghost use Rattle.pol_avtab.specs.AvTables.{Earlier};
+    ghost use Rattle.pol_avtab.specs.InnerKeys.{Collecting};
 
-    ghost Value = { Earlier };
+    ghost Value = { Collecting };
 
-    ghost view = { λ c. record { version = c.version; keys = c.keys.value } };
+    ghost view = { λ c. record { version = c.version; keys = c.keys.value; collects = c.collects } };
 }
 
 /// The kind of access vectors.
@@ -49,21 +53,37 @@ impl<'a> RecordView<'a> for Av {
     }
 }
 
+impl<'a> Copied<'a> for Av {
+    fn rec(view: &Self::View, alloc: Global) -> Result<Self::Owned, AllocError> {
+        view.rec(alloc)
+    }
+}
+
+impl<'a> Referring<'a> for Av {
+    ghost references = { av_references };
+
+    fn dangling<N: Names>(view: &Self::View, names: &N) -> Option<Fault> {
+        view.dangling(names)
+    }
+}
+
 // In the table.
 impl<'a> ReadAfter<'a> for Av {
     type Context = AvContext;
 
-    ghost reads = { rule_at };
+    ghost reads = { rule_behind };
 
-    ghost after = { after_rule };
+    ghost after = { after_collecting };
 
     fn pass(c: &mut Cursor<'a>, mut context: AvContext) -> Result<AvContext, ReadError>
-        ensures exact { Yields (λ _. av_in c.old.bytes c.old.place) result (rule_at context) c.old c.new }
+        ensures exact { Yields (λ _. av_in c.old.bytes c.old.place) result (rule_behind context) c.old c.new }
         ensures stands { OnOk result (HasAv c.old.bytes c.old.place) }
-        ensures after { IfOk result (λ context_new. context_new ≡ after_rule context (av_in c.old.bytes c.old.place)) }
+        ensures after { IfOk result (λ context_new. context_new ≡ after_collecting context (av_in c.old.bytes c.old.place)) }
     {
-        let _bytes = c.bytes();
-        pass_rule(c, context.version, &mut context.keys)?;
+        let view = read_av(c, context.version, Some(&context.keys))?;
+        if context.collects {
+            context.keys.add(&view)?;
+        }
         Ok(context)
     }
 }

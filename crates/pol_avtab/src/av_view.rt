@@ -1,18 +1,18 @@
-ghost use Rattle.std.specs.Prelude.{◌≡◌, ◌+◌, ◌≤◌, true, false, IfOk, OnOk, Ok, Some, None, option_map, length, if◌then◌else◌};
-ghost use Rattle.pol_cursor.specs.Outcome.{Answers, Yields};
+ghost use Rattle.std.specs.Prelude.{◌≡◌, ◌+◌, ◌≤◌, true, false, IfOk, OnOk, Ok, Some, None, option_map, is_some, not, length, if◌then◌else◌};
+ghost use Rattle.pol_cursor.specs.Outcome.{Answers};
 ghost use Rattle.pol_cursor.specs.References.{dangling_of};
-ghost use Rattle.pol_avtab.specs.AvKeys.{key_of, has_key, with_key};
-ghost use Rattle.pol_avtab.specs.AvRecord.{extended_at, part_at, av_at, av_in, part_in, av_length, av_end, HasAv, av_references, part_references, is_default};
+ghost use Rattle.pol_avtab.specs.AvKeys.{key_of, has_key};
+ghost use Rattle.pol_avtab.specs.AvRecord.{is_extended, extended_at, part_at, av_at, av_in, part_in, av_length, av_end, HasAv, av_references, part_references, is_default};
 ghost use Rattle.pol_avtab.specs.XPerms.{mask_of, xperms_of};
 
 use crate::av_key::AvKey;
 use crate::av_keys::AvKeys;
 use crate::av_rec::{AvPart, AvRec};
 use crate::causes::{is_default, is_extended, kind_cause, kind_of, xkind_cause};
-use crate::parts::{bits_in, u8_in};
+use crate::parts::u8_in;
 use crate::xperms::XPerms;
 use pol_cursor::{
-    Cursor, Fault, Field, Mention, Names, ReadError, TableKind, dangling, first_dangling, refuse,
+    Cursor, Fault, Field, Mention, Names, TableKind, array_in, dangling, first_dangling, refuse,
     u16_in, u32_in,
 };
 use std::alloc::{AllocError, Global};
@@ -106,7 +106,8 @@ impl<'a> AvView<'a> {
 
     /// The permissions by their bits, or the value of a default type, where it is not extended.
     pub fn mask(&self) -> Option<u32>
-        ensures { result ≡ mask_of self.now.value.part }
+        ensures is { result ≡ mask_of self.now.value.part }
+        ensures there { is_some result ≡ not (is_extended self.now.value.specified) }
     {
         if is_extended(self.specified()) {
             None
@@ -117,7 +118,8 @@ impl<'a> AvView<'a> {
 
     /// Its ioctl numbers, where it is extended.
     pub fn xperms(&self) -> Option<XPerms<'a>>
-        ensures { result ≡ xperms_of self.now.value.part }
+        ensures is { result ≡ xperms_of self.now.value.part }
+        ensures there { is_some result ≡ is_extended self.now.value.specified }
     {
         if is_extended(self.specified()) {
             Some(XPerms::at(self.bytes, self.place + 8))
@@ -128,27 +130,30 @@ impl<'a> AvView<'a> {
 
     /// 1 for numbers of one driver, 2 for whole drivers, where it is extended.
     pub fn xkind(&self) -> Option<u8>
-        ensures { result ≡ option_map (λ x. x.xkind) (xperms_of self.now.value.part) }
+        ensures is { result ≡ option_map (λ x. x.xkind) (xperms_of self.now.value.part) }
+        ensures there { is_some result ≡ is_extended self.now.value.specified }
     {
         Some(self.xperms()?.xkind())
     }
 
     /// The driver, where it is extended. It has no meaning where the kind is 2.
     pub fn driver(&self) -> Option<u8>
-        ensures { result ≡ option_map (λ x. x.driver) (xperms_of self.now.value.part) }
+        ensures is { result ≡ option_map (λ x. x.driver) (xperms_of self.now.value.part) }
+        ensures there { is_some result ≡ is_extended self.now.value.specified }
     {
         Some(self.xperms()?.driver())
     }
 
     /// The 32 bytes of the bits, where it is extended.
     pub fn bits(&self) -> Option<[u8; 32]>
-        ensures { result ≡ option_map (λ x. x.bits) (xperms_of self.now.value.part) }
+        ensures is { result ≡ option_map (λ x. x.bits) (xperms_of self.now.value.part) }
+        ensures there { is_some result ≡ is_extended self.now.value.specified }
     {
         Some(self.xperms()?.bits())
     }
 
     /// The first of source, target, class and default type that no primary record declares, as a fault at its field.
-    #[tactic(auto, using(crate::proofs::Places::dangling_none, crate::proofs::Places::dangling_some))]
+    #[tactic(auto, using(pol_cursor::proofs::DanglingLists::dangling_none, pol_cursor::proofs::DanglingLists::undeclared_first))]
     pub fn dangling<N: Names>(&self, names: &N) -> Option<Fault>
         ensures { result ≡ dangling_of (N.named names.now) (av_references self.now) }
     {
@@ -199,7 +204,7 @@ impl<'a> AvView<'a> {
             AvPart::Extended {
                 xkind: u8_in(self.bytes, place),
                 driver: u8_in(self.bytes, place + 1),
-                bits: bits_in(self.bytes, place + 2),
+                bits: array_in(self.bytes, place + 2),
             }
         } else {
             AvPart::Data(u32_in(self.bytes, place))
@@ -257,33 +262,6 @@ fn among(earlier: Option<&AvKeys>, key: AvKey) -> Option<bool>
     ensures { result ≡ option_map (λ keys. has_key keys key) (option_map (λ keys. keys.now) earlier.entry) }
 {
     Some(earlier?.has(key))
-}
-
-/// Passes over the rule of a table at the cursor, and adds its key to those of the rules before it.
-#[tactic(auto, unfolding(crate::specs::AvRecord::av_at))]
-pub fn pass_rule(c: &mut Cursor<'_>, version: u32, keys: &mut AvKeys) -> Result<(), ReadError>
-    ensures exact { Yields (λ _. av_in c.old.bytes c.old.place) result (av_at version (Some keys.old)) c.old c.new }
-    ensures next { OnOk result (c.new.place ≡ av_end c.old.bytes c.old.place) }
-    ensures long { OnOk result (c.new.place ≤ length c.old.bytes) }
-    ensures added { OnOk result (keys.new ≡ with_key keys.old (key_of (av_in c.old.bytes c.old.place))) }
-{
-    let source = c.u16(Field { row: AV, part: 1 })?;
-    let target = c.u16(Field { row: AV, part: 2 })?;
-    let class = c.u16(Field { row: AV, part: 3 })?;
-    let place = c.place();
-    let field = Field { row: AV, part: 4 };
-    let specified = c.u16(field)?;
-    let key = AvKey {
-        source,
-        target,
-        class,
-        specified: kind_of(specified),
-    };
-    // One look at the keys tells whether it is there and adds it.
-    let has = keys.insert(key)?;
-    refuse(kind_cause(version, Some(has), key), place, field)?;
-    pass_part(c, is_extended(specified))?;
-    Ok(())
 }
 
 // Passes over the part that has to be there.

@@ -1,30 +1,48 @@
-ghost use Rattle.std.specs.Prelude.{◌≡◌, ◌++◌, OnOk};
+ghost use Rattle.pol_cursor.specs.Writing.{Writes};
 ghost use Rattle.pol_avtab.specs.AvRecord.{spell_av};
 
 use crate::av_rec::{AvPart, AvRec};
-use pol_cursor::push_number;
+use pol_cursor::{Part, Written};
 use std::alloc::AllocError;
 
-/// Appends the bytes of an access vector, which are the same in each version.
-///
-/// After want of memory a part of them may be there.
+/// Appends the bytes of an access vector, which are the same in each version. Out of memory, a beginning of them was appended.
 pub fn write_av(av: &AvRec, _version: u32, out: &mut Vec<u8>) -> Result<(), AllocError>
-    ensures { OnOk result (out.new.items ≡ out.old.items ++ spell_av av.now) }
+    ensures { Writes out.old.items out.new.items (spell_av av.now) result }
 {
-    push_number(out, 2, av.source as u64)?;
-    push_number(out, 2, av.target as u64)?;
-    push_number(out, 2, av.class as u64)?;
-    push_number(out, 2, av.specified as u64)?;
-    match &av.part {
-        AvPart::Data(mask) => push_number(out, 4, *mask as u64),
-        AvPart::Extended {
-            xkind,
-            driver,
-            bits,
-        } => {
-            push_number(out, 1, *xkind as u64)?;
-            push_number(out, 1, *driver as u64)?;
-            out.extend_from_slice(bits)
+    av.write(out)
+}
+
+impl Written for AvRec {
+    ghost use Rattle.pol_avtab.specs.AvRecord.{spell_av};
+
+    ghost spelling = { spell_av };
+
+    fn write(&self, out: &mut Vec<u8>) -> Result<(), AllocError> {
+        let source = Part::U16(self.source as u64);
+        let target = Part::U16(self.target as u64);
+        let class = Part::U16(self.class as u64);
+        let specified = Part::U16(self.specified as u64);
+        (source, target, class, (specified, &self.part)).write(out)
+    }
+}
+
+impl Written for AvPart {
+    ghost use Rattle.pol_avtab.specs.AvRecord.{spell_part};
+
+    ghost spelling = { spell_part };
+
+    fn write(&self, out: &mut Vec<u8>) -> Result<(), AllocError> {
+        match self {
+            AvPart::Data(mask) => Part::U32(*mask as u64).write(out),
+            AvPart::Extended {
+                xkind,
+                driver,
+                bits,
+            } => {
+                let xkind = Part::U8(*xkind as u64);
+                let driver = Part::U8(*driver as u64);
+                (xkind, driver, Part::Bytes(bits)).write(out)
+            }
         }
     }
 }

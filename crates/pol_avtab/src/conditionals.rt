@@ -1,6 +1,6 @@
 ghost use Rattle.std.specs.Prelude.{◌≡◌, ◌<◌, ◌^◌, Some, IfOk, OnOk, length, map, option_map, slice_get};
 ghost use Rattle.pol_cursor.specs.Outcome.{Yields};
-ghost use Rattle.pol_avtab.specs.CondNodeRecord.{condnode_at, condnode_in, HasCondNode, node_condition, branch_rules, rules_of_branch};
+ghost use Rattle.pol_avtab.specs.CondNodeRecord.{condnode_at, condnode_in, HasCondNode, node_condition, branch_rules, rules_of_branch, condnode_references};
 ghost use Rattle.pol_avtab.specs.AvTables.{conditionals_at};
 ghost use Rattle.pol_avtab.specs.PlaceGroups.{places_of};
 
@@ -9,7 +9,8 @@ use crate::condnode_rec::CondNodeRec;
 use crate::condnode_view::{CondNodeView, read_condnode};
 use crate::place_groups::PlaceGroups;
 use pol_cursor::{
-    Cursor, Field, ReadAfter, ReadError, Record, RecordView, Records, read_records_after,
+    Copied, Cursor, Fault, Field, Names, ReadAfter, ReadError, Record, RecordView, Records,
+    Referring, read_records_after,
 };
 use pol_expr::ConditionView;
 use std::alloc::{AllocError, Global};
@@ -34,6 +35,20 @@ impl<'a> RecordView<'a> for CondNode {
 
     fn at(bytes: &'a [u8], place: u32) -> CondNodeView<'a> {
         CondNodeView::at(bytes, place)
+    }
+}
+
+impl<'a> Copied<'a> for CondNode {
+    fn rec(view: &Self::View, alloc: Global) -> Result<Self::Owned, AllocError> {
+        view.rec(alloc)
+    }
+}
+
+impl<'a> Referring<'a> for CondNode {
+    ghost references = { condnode_references };
+
+    fn dangling<N: Names>(view: &Self::View, names: &N) -> Option<Fault> {
+        view.dangling(names)
     }
 }
 

@@ -7,10 +7,9 @@ ghost use Rattle.pol_avtab.specs.AvRecord.{av_references};
 ghost use Rattle.pol_avtab.specs.CondNodeRecord.{conditional_rules_at, condnode_at, condnode_in, condnode_end, HasCondNode, HasRules, rules_in, rules_end, true_count_place, false_count_place, node_condition, branch_rules, condnode_references};
 
 use crate::av_kind::Av;
-use crate::av_rec::AvRec;
 use crate::av_view::AvView;
 use crate::condnode_rec::CondNodeRec;
-use pol_cursor::{Cursor, Fault, Field, Names, OwnedList, Run, end_of_run, read_run, u32_in};
+use pol_cursor::{Cursor, Fault, Field, Names, Run, end_of_run, read_run, u32_in};
 use pol_expr::{ConditionView, read_condition};
 use std::alloc::{AllocError, Global};
 use std::marker::Model;
@@ -119,7 +118,7 @@ impl<'a> CondNodeView<'a> {
 
     /// The first boolean of the condition, or then the first reference of the rules, that no record declares, as a fault at
     /// its field.
-    #[tactic(auto, using(crate::proofs::Places::dangling_none, crate::proofs::Places::dangling_some))]
+    #[tactic(auto, using(pol_cursor::proofs::DanglingLists::dangling_none, pol_cursor::proofs::DanglingLists::undeclared_first))]
     pub fn dangling<N: Names>(&self, names: &N) -> Option<Fault>
         ensures { result ≡ dangling_of (N.named names.now) (condnode_references self.now) }
     {
@@ -139,14 +138,14 @@ impl<'a> CondNodeView<'a> {
     {
         Ok(CondNodeRec {
             condition: self.condition().rec(alloc)?,
-            true_rules: owned_rules(alloc, self.true_rules())?,
-            false_rules: owned_rules(alloc, self.false_rules())?,
+            true_rules: self.true_rules().rec(alloc)?,
+            false_rules: self.false_rules().rec(alloc)?,
         })
     }
 }
 
 // The first reference of rules that no record declares.
-#[tactic(auto, using(crate::proofs::Places::dangling_none, crate::proofs::Places::dangling_some))]
+#[tactic(auto, using(pol_cursor::proofs::DanglingLists::dangling_none, pol_cursor::proofs::DanglingLists::undeclared_first))]
 fn first_of_rules<N: Names>(rules: Run<'_, Av>, names: &N) -> Option<Fault>
     ensures { result ≡ dangling_of (N.named names.now) (flat_map av_references rules.entry) }
 {
@@ -157,17 +156,6 @@ fn first_of_rules<N: Names>(rules: Run<'_, Av>, names: &N) -> Option<Fault>
         }
     }
     None
-}
-
-// Rules, owned.
-fn owned_rules(alloc: Global, rules: Run<'_, Av>) -> Result<OwnedList<AvRec>, AllocError>
-    ensures { IfOk result (λ list. list ≡ values_of rules.entry) }
-{
-    let mut items = Vec::new(alloc);
-    for rule in rules {
-        items.push(rule.rec(alloc)?)?;
-    }
-    Ok(OwnedList::from_vec(items))
 }
 
 // The place of the number of rules that hold where the condition at a place is true.

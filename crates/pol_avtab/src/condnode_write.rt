@@ -1,50 +1,51 @@
-ghost use Rattle.std.specs.Prelude.{◌≡◌, ◌++◌, OnOk};
+ghost use Rattle.pol_cursor.specs.Writing.{Writes};
 ghost use Rattle.pol_avtab.specs.CondNodeRecord.{spell_condnode};
 ghost use Rattle.pol_avtab.specs.AvTables.{spell_table, spell_conditionals};
 
-use crate::av_write::write_av;
-use crate::condnode_rec::{AvRecList, CondNodeRec};
-use pol_cursor::{OwnedList, push_number};
-use pol_expr::write_condition;
+use crate::condnode_rec::{AvRecList, CondNodeRec, CondNodeRecList};
+use pol_cursor::{Part, Written};
 use std::alloc::AllocError;
 
-/// Appends the bytes of a table of access vectors, which are the same in each version: their number, and then they.
-///
-/// After want of memory a part of them may be there.
-pub fn write_table(rules: &AvRecList, version: u32, out: &mut Vec<u8>) -> Result<(), AllocError>
-    ensures { OnOk result (out.new.items ≡ out.old.items ++ spell_table rules.now) }
+/// Appends the bytes of a table of access vectors, which are the same in each version: their number, and then they. Out of
+/// memory, a beginning of the bytes was appended; so it is with the writers below.
+pub fn write_table(rules: &AvRecList, _version: u32, out: &mut Vec<u8>) -> Result<(), AllocError>
+    ensures { Writes out.old.items out.new.items (spell_table rules.now) result }
 {
-    push_number(out, 4, rules.len() as u64)?;
-    for rule in rules.as_slice() {
-        write_av(rule, version, out)?;
-    }
-    Ok(())
+    (Part::U32(rules.len() as u64), rules).write(out)
 }
 
 /// Appends the bytes of a conditional node, which are the same in each version: its condition, and then the two lists.
-///
-/// After want of memory a part of them may be there.
-pub fn write_condnode(node: &CondNodeRec, version: u32, out: &mut Vec<u8>) -> Result<(), AllocError>
-    ensures { OnOk result (out.new.items ≡ out.old.items ++ spell_condnode node.now) }
+pub fn write_condnode(
+    node: &CondNodeRec,
+    _version: u32,
+    out: &mut Vec<u8>,
+) -> Result<(), AllocError>
+    ensures { Writes out.old.items out.new.items (spell_condnode node.now) result }
 {
-    write_condition(&node.condition, version, out)?;
-    write_table(&node.true_rules, version, out)?;
-    write_table(&node.false_rules, version, out)
+    node.write(out)
 }
 
 /// Appends the bytes of a list of conditional nodes, which are the same in each version: their number, and then they.
-///
-/// After want of memory a part of them may be there.
 pub fn write_conditionals(
-    nodes: &OwnedList<CondNodeRec>,
-    version: u32,
+    nodes: &CondNodeRecList,
+    _version: u32,
     out: &mut Vec<u8>,
 ) -> Result<(), AllocError>
-    ensures { OnOk result (out.new.items ≡ out.old.items ++ spell_conditionals nodes.now) }
+    ensures { Writes out.old.items out.new.items (spell_conditionals nodes.now) result }
 {
-    push_number(out, 4, nodes.len() as u64)?;
-    for node in nodes.as_slice() {
-        write_condnode(node, version, out)?;
+    (Part::U32(nodes.len() as u64), nodes).write(out)
+}
+
+impl Written for CondNodeRec {
+    ghost use Rattle.pol_avtab.specs.CondNodeRecord.{spell_condnode};
+
+    ghost spelling = { spell_condnode };
+
+    fn write(&self, out: &mut Vec<u8>) -> Result<(), AllocError> {
+        let true_count = Part::U32(self.true_rules.len() as u64);
+        let false_count = Part::U32(self.false_rules.len() as u64);
+        let true_rules = (true_count, &self.true_rules);
+        let false_rules = (false_count, &self.false_rules);
+        (&self.condition, true_rules, false_rules).write(out)
     }
-    Ok(())
 }

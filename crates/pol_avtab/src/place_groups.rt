@@ -63,7 +63,7 @@ impl PlaceGroups {
     }
 }
 
-// Appends the places of rules. After want of memory a front of them may be there.
+// Appends the places of rules. Out of memory, a front of them may be there.
 fn push_places(places: &mut Vec<u32>, rules: Run<'_, Av>) -> Result<(), AllocError>
     ensures ok { OnOk result (places.new.items ≡ places.old.items ++ places_of rules.entry) }
     ensures kept { places.new.items ≡ places.old.items ++ drop (length places.old.items) places.new.items }

@@ -4,9 +4,9 @@ ghost use Rattle.pol_bitmap.specs.Nodes.{IsLeastFrom};
 ghost use Rattle.pol_avtab.specs.XPerms.{xperms_in, has_xbit, holds, numbers_of, shown_mask, IsNextBit};
 
 use crate::causes::kind_of;
-use crate::parts::{bits_in, u8_in};
+use crate::parts::u8_in;
 use crate::xnumbers::XNumbers;
-use pol_cursor::u32_in;
+use pol_cursor::{array_in, u32_in};
 use std::marker::Model;
 
 /// The ioctl numbers of an extended access vector in the buffer. Contracts see its parts, and by `numbers_of` the rising list
@@ -56,7 +56,7 @@ impl<'a> XPerms<'a> {
     pub fn bits(&self) -> [u8; 32]
         ensures { result ≡ self.now.bits }
     {
-        bits_in(self.bytes, self.place as usize + 2)
+        array_in(self.bytes, self.place as usize + 2)
     }
 
     /// Whether it holds an ioctl number.

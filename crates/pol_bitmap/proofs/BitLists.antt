@@ -1,5 +1,5 @@
 -- The bits of nodes as a list: they are those that the nodes have, they rise, and their number is that of the ones of the maps.
-use Rattle.std.proofs.Common.{◌≡◌, ℕ, zero, suc, ◌+◌, ◌-◌, ◌/◌, ◌%◌, ◌^◌, ◌<◌, ◌≤◌, Bool, true, false, List, [], ◌∷◌, ◌++◌, length, inl, inr, refl, sym, ap, subst, ◌∙◌, ◌↔◌, add-one, add-zero, arith}
+use Rattle.std.proofs.Common.{◌≡◌, ℕ, zero, suc, ◌+◌, ◌-◌, ◌/◌, ◌%◌, ◌^◌, ◌<◌, ◌≤◌, Bool, true, false, List, [], ◌∷◌, ◌++◌, length, inl, inr, refl, sym, ap, ◌∙◌, ◌↔◌, add-one, add-zero, arith}
 use Rattle.std.specs.Prelude.{◌==◌, slice_index}
 use Rattle.std.specs.List.{All, AllByRecursion, Contains, filter, range_with_len}
 use Rattle.std.specs.List.Sorted.{IsStrictlyIncreasing}
@@ -9,45 +9,10 @@ use Rattle.std.specs.Prelude.{count_ones, IsTrue}
 use Rattle.std.proofs.lemmas.Nat.{shr_below}
 use Rattle.std.proofs.lemmas.Nat.Bits.{bit_at_lowest, bit_at-suc}
 use Rattle.std.proofs.lemmas.Bool.{cond_both, and_from, and_parts, or_cases, or_left, or_right, lt-ltb, le-leb, eqb-true, eqb-false, leb-true, ltb-true, cases_Bool}
-use Rattle.std.proofs.lemmas.List.Elements.{All-cons, All-nil, All-head, All-tail, All-append, All-contains, All-contains_itself, All-filter, All-weaker, All-from_get_or, Contains-get_or, Contains-append_left, Contains-append_right, Contains-append_cases, filter_passes}
-use Rattle.std.proofs.lemmas.List.FromFn.{length-range_with_len, get_or-range_with_len}
+use Rattle.std.proofs.lemmas.List.Elements.{All-nil, All-head, All-tail, All-append, All-contains, All-contains_itself, All-filter, All-weaker, Contains-append_left, Contains-append_right, Contains-append_cases, filter_passes}
 use Rattle.pol_bitmap.specs.declared.node.Node.{Node}
 use Rattle.pol_bitmap.specs.Nodes.{IsRisingFrom, node_bits, bits_of, node_has, has_bit}
-
--- ---- elements of lists
-
-contains_nothing : (x : ℕ) → Contains [] x → ⊥
-contains_nothing x h = omega (arith, h.1)
-
-contains_one : (x y : ℕ) → Contains (y ∷ []) x → y ≡ x
-contains_one x y h = All-contains (λ (z : ℕ). y ≡ z) (y ∷ []) x (All-cons (λ (z : ℕ). y ≡ z) y [] refl (All-nil (λ (z : ℕ). y ≡ z))) h
-
-contains_first : (x : ℕ) (xs : List ℕ) → Contains (x ∷ xs) x
-contains_first x xs = Contains-get_or (x ∷ xs) 0 x (omega arith)
-
--- what passes a test is kept
-contains_kept : (p : ℕ → Bool) (xs : List ℕ) (x : ℕ) → p x ≡ true → Contains xs x → Contains (filter p xs) x
-contains_kept p [] x e h = absurd (contains_nothing x h)
-contains_kept p (y ∷ ys) x e h = elim (Contains-append_cases (y ∷ []) ys x h) [
-  | inl one ↦ let same : y ≡ x = contains_one x y one in
-      let passes : p y ≡ true = ap p same ∙ e in
-      rw passes (subst (λ (z : ℕ). Contains (z ∷ filter p ys) x) (sym same) (contains_first x (filter p ys)))
-  | inr rest ↦ cond_both (p y) (y ∷ filter p ys) (filter p ys) (λ (zs : List ℕ). Contains zs x) (λ t. Contains-append_right (y ∷ []) (filter p ys) x (contains_kept p ys x e rest)) (λ t. contains_kept p ys x e rest)
-]
-
--- ---- the numbers from a on
-
-range_holds : (a n : ℕ) → All (λ b. (a ≤ b) × (b < a + n)) (range_with_len a n)
-range_holds a n = All-from_get_or (λ b. (a ≤ b) × (b < a + n)) (range_with_len a n) 0 λ i lt.
-    let within : i < n = omega (arith, lt, length-range_with_len a n) in
-    let e = get_or-range_with_len a n i 0 within in
-    rw e (omega arith, omega arith)
-
-contains_range : (a n b : ℕ) → a ≤ b → b < a + n → Contains (range_with_len a n) b
-contains_range a n b le lt =
-    let within : b - a < n = omega arith in
-    let at : a + (b - a) ≡ b = omega arith in
-    subst (Contains (range_with_len a n)) (get_or-range_with_len a n (b - a) 0 within ∙ at) (Contains-get_or (range_with_len a n) (b - a) 0 (omega (arith, length-range_with_len a n)))
+use Rattle.pol_bitmap.proofs.Elements.{contains_nothing, contains_one, contains_first, keeps, range_holds, contains_range}
 
 -- ---- a bit of the list is a bit that a node has
 
@@ -70,7 +35,7 @@ unfolding node_bits
 bits-from_node_has n b e =
     let p = and_parts _ _ e in
     let q = and_parts _ _ p.0 in
-    contains_kept (map_has n) (range_with_len n.start 64) b p.1 (contains_range n.start 64 b (leb-true n.start b q.0) (ltb-true b (n.start + 64) q.1))
+    keeps (map_has n) (range_with_len n.start 64) b (contains_range n.start 64 b (leb-true n.start b q.0) (ltb-true b (n.start + 64) q.1)) p.1
 
 pub has_bit-from_bits : (ns : List Node) (b : ℕ) → Contains (bits_of ns) b → has_bit ns b ≡ true
 has_bit-from_bits [] b h = absurd (contains_nothing b h)

@@ -1,11 +1,12 @@
 pub mod Laws
 pub mod NodePlaces
+pub mod Elements
 pub mod NodeBits
 pub mod BitLists
 pub mod Shifts
 pub mod LowestBits
 pub mod Merging
-pub mod SetBits
+pub mod BitSets
 pub mod SetPlaces
 pub mod SetMaking
 pub mod Numbering

@@ -207,6 +207,10 @@ union-end first second out a b h none = elim none [
   | inr e ↦ rw (e, append-nil) (Merging-rest ◌||◌ first second out a b a h h.left (λ base p q. p) (λ bit. rw e (sym (or_nothing (has_bit a bit)))))
 ]
 
+and_always : (a : Bool) → (a && true) ≡ a
+and_always true = refl
+and_always false = refl
+
 -- ---- the maps
 
 -- what holds of all binary digits
@@ -242,6 +246,13 @@ pub map_only_right : (left right : ℕ) → left < 2 ^ 64 → IsMapBy only_right
 map_only_right left right fit k lt =
     map_and right (bit_not w64 left) k lt ∙ ap (λ (v : ℕ). (bit_at right k == 1) && (v == 1)) (bit_at_not w64 left k fit lt) ∙ ap (λ (x : Bool). (bit_at right k == 1) && x) (other_is (bit_at left k) (bit_at-lt left k))
 
+-- a bit of the left that the right does not have
+abbrev pub only_left : Bool → Bool → Bool
+only_left left right = only_right right left
+
+pub map_only_left : (left right : ℕ) → right < 2 ^ 64 → IsMapBy only_left left right (bit_and left (bit_not w64 right))
+map_only_left left right fit = map_only_right right left fit
+
 pub none_left : (ns : List Node) → true ≡ (length ns == 0) → ns ≡ []
 none_left ns e = nil_from_length ns (eqb-true (length ns) 0 (sym e))
 
@@ -249,6 +260,13 @@ none_left ns e = nil_from_length ns (eqb-true (length ns) 0 (sym e))
 pub common_none : (a b : List Node) → (a ≡ []) ⊎ (b ≡ []) → (bit : ℕ) → (has_bit a bit && has_bit b bit) ≡ false
 common_none a b (inl e) bit = rw e refl
 common_none a b (inr e) bit = rw e (and_never (has_bit a bit) false refl)
+
+-- Where one is used up, what is left of the left is not in the right.
+pub difference-end : (first second out a b : List Node) → Merging only_left first second out a b → (a ≡ []) ⊎ (b ≡ []) → IsSet (out ++ a) × IsByBits only_left first second (out ++ a)
+difference-end first second out a b h none = Merging-rest only_left first second out a b a h h.left (λ base p q. p) (λ bit. elim none [
+  | inl e ↦ rw e refl
+  | inr e ↦ rw e (sym (and_always (has_bit a bit)))
+])
 
 -- What is not in the rests is not in the two sets.
 pub Merging-none : (test : Bool → Bool → Bool) (first second a b : List Node) → Merging test first second [] a b → ((bit : ℕ) → test (has_bit a bit) (has_bit b bit) ≡ false) → (bit : ℕ) → test (has_bit first bit) (has_bit second bit) ≡ false

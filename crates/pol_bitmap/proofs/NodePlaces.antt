@@ -1,8 +1,8 @@
 -- The nodes that were read are those that stand there.
 use Rattle.std.proofs.Common.{◌≡◌, ℕ, zero, suc, ◌+◌, ◌*◌, ◌<◌, ◌≤◌, List, [], ◌∷◌, length, refl, sym, ap, subst, ◌∙◌, arith}
 use Rattle.std.specs.Prelude.{◌==◌, slice_get, Some}
-use Rattle.std.proofs.Common.{Option, Bool, true, false, take, ◌||◌, ◌%◌, None, add-one}
-use Rattle.std.proofs.lemmas.Bool.{and_parts, or_parts, or_right, eqb-true, leb-true}
+use Rattle.std.proofs.Common.{Option, Bool, true, false, ◌%◌, None}
+use Rattle.std.proofs.lemmas.Bool.{and_parts, eqb-true, leb-true}
 use Rattle.pol_cursor.specs.declared.fault.Cause.{Cause}
 use Rattle.pol_cursor.specs.declared.fault.Cause.TheVariants.{BadStart}
 use Rattle.pol_cursor.specs.Outcome.{Got, and_then, field}
@@ -11,7 +11,7 @@ use Rattle.pol_cursor.proofs.Laws.{and_then_got}
 use Rattle.pol_cursor.proofs.Facts.{number_if_is}
 use Rattle.pol_bitmap.specs.declared.node.Node.{Node}
 use Rattle.pol_bitmap.specs.Bitmap.{start_test, map_test, node_at, floor_after}
-use Rattle.pol_bitmap.specs.Nodes.{IsRisingFrom, node_in, nodes_in, node_has, has_bit}
+use Rattle.pol_bitmap.specs.Nodes.{IsRisingFrom, node_in, nodes_in}
 
 pub got_is : {A : Type 0} (x : A) (n : ℕ) (y : A) (m : ℕ) → Got x n ≡ Got y m → (x ≡ y) × (n ≡ m)
 got_is x n y m e = (cc, cc)
@@ -112,25 +112,3 @@ get_nodes_in bytes place (suc n) zero lt = ap (λ (p : ℕ). Some (node_in bytes
 get_nodes_in bytes place (suc n) (suc i) lt =
     let e : place + 12 * suc i ≡ place + 12 + 12 * i = omega arith in
     rw e (get_nodes_in bytes (place + 12) n i (omega arith))
-
--- none of the first nodes has the bit
-pub has_none_suc : (bit : ℕ) (ns : List Node) (i : ℕ) (n : Node) → slice_get ns i ≡ Some n → has_bit (take i ns) bit ≡ false → node_has bit n ≡ false → has_bit (take (suc i) ns) bit ≡ false
-has_none_suc bit [] i n e h f = absurd cc
-has_none_suc bit (m ∷ ns) zero n e h f =
-    let same : n ≡ m = cc in
-    let no : node_has bit m ≡ false = subst (λ (x : Node). node_has bit x ≡ false) same f in
-    ap (λ (b : Bool). b || false) no
-has_none_suc bit (m ∷ ns) (suc i) n e h f =
-    let p = or_parts (node_has bit m) (has_bit (take i ns) bit) h in
-    ap (λ (b : Bool). b || has_bit (take (suc i) ns) bit) p.0 ∙ has_none_suc bit ns i n e p.1 f
-
-pub has_none_more : (bit : ℕ) (ns : List Node) (i : ℕ) (n : Node) → slice_get ns i ≡ Some n → has_bit (take i ns) bit ≡ false → node_has bit n ≡ false → has_bit (take (i + 1) ns) bit ≡ false
-has_none_more bit ns i n e h f = rw add-one (has_none_suc bit ns i n e h f)
-
-pub has_one : (bit : ℕ) (ns : List Node) (i : ℕ) (n : Node) → slice_get ns i ≡ Some n → node_has bit n ≡ true → has_bit ns bit ≡ true
-has_one bit [] i n e h = absurd cc
-has_one bit (m ∷ ns) zero n e h =
-    let same : n ≡ m = cc in
-    let yes : node_has bit m ≡ true = subst (λ (x : Node). node_has bit x ≡ true) same h in
-    ap (λ (b : Bool). b || has_bit ns bit) yes
-has_one bit (m ∷ ns) (suc i) n e h = or_right (node_has bit m) (has_bit ns bit) (has_one bit ns i n e h)

@@ -7,9 +7,10 @@ use Rattle.std.proofs.lemmas.Bool.{cases_Bool, or_parts}
 use Rattle.std.proofs.lemmas.List.{length-append}
 use Rattle.std.proofs.lemmas.Nat.{ones-le}
 use Rattle.std.proofs.lemmas.List.Elements.{All-nil, All-append, All-contains, All-weaker}
+use Rattle.std.proofs.lemmas.Option.{get_or_from_slice_get, slice_get_within}
 use Rattle.pol_bitmap.specs.declared.node.Node.{Node}
 use Rattle.pol_bitmap.specs.Nodes.{IsRisingFrom, node_bits, bits_of, node_has, has_bit}
-use Rattle.pol_bitmap.specs.Sets.{IsSet, IsSetFrom}
+use Rattle.pol_bitmap.specs.Sets.{IsSetFrom}
 use Rattle.pol_bitmap.proofs.BitLists.{node_bits_within, bits-from_has_bit, tells_bit, length-node_bits}
 use Rattle.pol_bitmap.proofs.NodeBits.{bits_more}
 use Rattle.pol_bitmap.proofs.Merging.{rising_above}
@@ -37,6 +38,22 @@ bits_before base bit (n ∷ ns) (suc i) h before =
     let ends : n.start + 64 ≤ bit = omega arith in
     All-append (λ (c : ℕ). c < bit) (node_bits n) (bits_of (take i ns)) (All-weaker (λ b. (n.start ≤ b) × (b < n.start + 64)) (λ c. c < bit) (λ b w. let below : b < n.start + 64 = w.1 in omega arith) (node_bits n) (node_bits_within n))
     (bits_before (n.start + 64) bit ns i h.3 (λ k d l m. before (suc k) d (omega arith) (omega arith)))
+
+-- The nodes up to one that starts below a place start below it.
+pub starts_before : (ns : List Node) (i : ℕ) (n : Node) (start : ℕ) → IsRisingFrom 0 ns → slice_get ns i ≡ Some n → n.start < start
+    → (k : ℕ) (d : Node) → k < i + 1 → k < length ns → (get_or ns k d).start < start
+starts_before ns i n start h e lt k d before within =
+    let le = starts_rise 0 ns h k i d (omega arith) (slice_get_within ns i n e) in
+    let here : (get_or ns i d).start ≡ n.start = ap (λ (m : Node). m.start) (get_or_from_slice_get ns i n d e) in
+    omega arith
+
+-- Those from one that does not, do not.
+pub starts_from : (ns : List Node) (i : ℕ) (n : Node) (start : ℕ) → IsRisingFrom 0 ns → slice_get ns i ≡ Some n → start ≤ n.start
+    → (k : ℕ) (d : Node) → i ≤ k → k < length ns → start ≤ (get_or ns k d).start
+starts_from ns i n start h e le k d from within =
+    let rise = starts_rise 0 ns h i k d from within in
+    let here : (get_or ns i d).start ≡ n.start = ap (λ (m : Node). m.start) (get_or_from_slice_get ns i n d e) in
+    omega arith
 
 or_nothing : (a b : Bool) → b ≡ false → (a || b) ≡ a
 or_nothing true b e = refl
@@ -66,10 +83,10 @@ at_place base bit (m ∷ ms) (suc i) n h e before lt =
     ap (λ (b : Bool). b || has_bit ms bit) none.0 ∙ at_place (m.start + 64) bit ms i n h.3 e none.1 lt
 
 -- Where a node ends above a bit and those before it have lower bits, the bit is that node's or none.
-pub has_at_place : (bit : ℕ) (ns : List Node) (i : ℕ) (n : Node) → IsSet ns → slice_get ns i ≡ Some n → All (λ c. c < bit) (bits_of (take i ns)) → IfSome (slice_get ns i) (λ n. bit < n.start + 64) → (r : Bool) → r ≡ node_has bit n → IsTrue r ↔ Contains (bits_of ns) bit
+pub has_at_place : (bit : ℕ) (ns : List Node) (i : ℕ) (n : Node) → IsRisingFrom 0 ns → slice_get ns i ≡ Some n → All (λ c. c < bit) (bits_of (take i ns)) → IfSome (slice_get ns i) (λ n. bit < n.start + 64) → (r : Bool) → r ≡ node_has bit n → IsTrue r ↔ Contains (bits_of ns) bit
 has_at_place bit ns i n h e before after r is =
     let lt : bit < n.start + 64 = subst (λ o. IfSome o (λ n. bit < n.start + 64)) e after in
-    tells_bit r ns bit (is ∙ sym (at_place 0 bit ns i n h.0 e (not_lower bit (take i ns) before) lt))
+    tells_bit r ns bit (is ∙ sym (at_place 0 bit ns i n h e (not_lower bit (take i ns) before) lt))
 
 -- as many nodes as there is room for below 2 ^ 32
 pub nodes_fit : (least : ℕ) (ns : List Node) → least < 2 ^ 32 + 64 → IsSetFrom least ns → 64 * length ns + least < 2 ^ 32 + 64

@@ -28,6 +28,10 @@ pub record IsUnion (a b c : List ℕ) : Type 0 where
 pub record IsCommon (a b c : List ℕ) : Type 0 where
   pub each : (bit : ℕ) → Contains c bit ↔ (Contains a bit × Contains b bit)
 
+-- the bits of the first that the second has not
+pub record IsDifference (a b c : List ℕ) : Type 0 where
+  pub each : (bit : ℕ) → Contains c bit ↔ (Contains a bit × ¬ Contains b bit)
+
 -- some bit of both
 pub record ShareBit (a b : List ℕ) : Type 0 where
   pub bit : ℕ

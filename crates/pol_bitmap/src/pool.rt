@@ -42,7 +42,7 @@ impl Pool {
 
     /// Keeps a set, unless an equal one is kept, and answers the number of the one that is kept.
     ///
-    /// Numbers that were given before keep their sets. After want of memory the set is dropped.
+    /// Numbers that were given before keep their sets. Out of memory, the set is dropped.
     pub fn put(&mut self, set: Set) -> Result<u32, AllocError>
         requires { length self.old < 4294967295 }
         ensures number { IfOk result (IsNumberOf self.old self.new set) }

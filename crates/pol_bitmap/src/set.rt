@@ -1,12 +1,13 @@
 ghost use Rattle.std.specs.Prelude.{◌≡◌, ◌↔◌, ◌<◌, [], IfOk, IfSome, IfNone, IsTrue, All, Contains, length};
 ghost use Rattle.std.specs.List.Sorted.{IsStrictlyIncreasing};
 ghost use Rattle.pol_bitmap.specs.Nodes.{bits_of, IsLeastFrom};
-ghost use Rattle.pol_bitmap.specs.Sets.{IsSet, IsUnion, IsCommon, ShareBit, ContainsEach};
+ghost use Rattle.pol_bitmap.specs.Sets.{IsSet, IsUnion, IsCommon, IsDifference, ShareBit, ContainsEach};
 
 use crate::node::Node;
+use crate::set_bits::SetBits;
 use crate::set_build::{nodes_from, rises};
 use crate::set_error::SetError;
-use crate::set_ops::{common_of, contains_of, meets_of, union_of};
+use crate::set_ops::{common_of, contains_of, difference_of, meets_of, union_of};
 use crate::set_search::{count_of, has_of, next_of};
 use crate::view::BitmapView;
 use std::alloc::{AllocError, Global};
@@ -102,8 +103,17 @@ impl Set {
         if !rises(bits) {
             return Err(SetError::NotRising);
         }
+        Ok(Set::from_rising(alloc, bits)?)
+    }
+
+    /// The bits of a slice that strictly rises.
+    pub fn from_rising(alloc: Global, bits: &[u32]) -> Result<Set, AllocError>
+        requires { IsStrictlyIncreasing bits.now }
+        ensures form { IfOk result IsSet }
+        ensures bits { IfOk result (λ s. bits_of s ≡ bits.now) }
+    {
         let nodes = nodes_from(alloc, bits)?;
-        Ok(Set::from_nodes(alloc, nodes)?)
+        Set::from_nodes(alloc, nodes)
     }
 
     fn from_nodes(alloc: Global, nodes: Vec<Node>) -> Result<Set, AllocError>
@@ -148,6 +158,15 @@ impl Set {
         Set::from_nodes(alloc, nodes)
     }
 
+    /// The bits of this set that the other has not.
+    pub fn difference(&self, alloc: Global, other: &Set) -> Result<Set, AllocError>
+        ensures form { IfOk result IsSet }
+        ensures bits { IfOk result (λ s. IsDifference (bits_of self.now) (bits_of other.now) (bits_of s)) }
+    {
+        let nodes = difference_of(alloc, &self.nodes, &other.nodes)?;
+        Set::from_nodes(alloc, nodes)
+    }
+
     /// Whether some bit is in both sets.
     pub fn meets(&self, other: &Set) -> bool
         ensures { IsTrue result ↔ ShareBit (bits_of self.now) (bits_of other.now) }
@@ -160,6 +179,13 @@ impl Set {
         ensures { IsTrue result ↔ ContainsEach (bits_of self.now) (bits_of other.now) }
     {
         contains_of(&self.nodes, &other.nodes)
+    }
+
+    /// The bits, rising. All of them come in a time that is linear in the nodes and the bits.
+    pub fn bits(&self) -> SetBits<'_>
+        ensures { result ≡ bits_of self.now }
+    {
+        SetBits::new(&self.nodes)
     }
 
     /// The number of bits.
@@ -188,6 +214,3 @@ impl Set {
         })
     }
 }
-
-#[cfg(test)]
-mod tests;

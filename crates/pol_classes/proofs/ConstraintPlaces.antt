@@ -1,13 +1,13 @@
 -- Where the constraint at a place ends, by how many bytes it takes.
 use Rattle.std.proofs.Common.{◌≡◌, ℕ, zero, suc, ◌+◌, ◌*◌, ◌≤◌, Bool, true, false, List, length, sym, ap, ◌∙◌, arith, Some, None}
-use Rattle.std.specs.Prelude.{◌==◌, if◌then◌else◌}
+use Rattle.std.specs.Prelude.{◌==◌, ◌&&◌, nat_le, if◌then◌else◌}
 use Rattle.std.specs.List.{sum_by}
 use Rattle.std.proofs.lemmas.List.Sums.{sum_by-cons}
 use Rattle.pol_cursor.specs.Parts.{num}
 use Rattle.pol_bitmap.specs.Nodes.{bitmap_in, bitmap_size}
 use Rattle.pol_bitmap.proofs.NodePlaces.{length_nodes_in}
-use Rattle.pol_constraints.specs.ConstraintRecord.{has_type_set, negated_place, type_set_in, type_set_end, name_set_in, name_set_end, names_in, names_end, item_in, item_end, items_in, items_end, constraint_in, constraint_end, HasItems, HasConstraint}
-use Rattle.pol_classes.specs.ConstraintLists.{type_set_length, name_set_length, item_length, constraint_length}
+use Rattle.pol_constraints.specs.ConstraintRecord.{negated_place, type_set_in, type_set_end, names_in, names_end, types_in, sets_end, item_in, item_end, items_in, items_end, constraint_in, constraint_end, HasItems, HasConstraint}
+use Rattle.pol_classes.specs.ConstraintLists.{type_set_length, names_length, item_length, constraint_length}
 
 bitmap_ends : (bytes : List ℕ) (place : ℕ) → bitmap_size bytes place ≡ 12 + 12 * length (bitmap_in bytes place)
 bitmap_ends bytes place = omega (arith, length_nodes_in bytes (place + 12) (num bytes (place + 8) 4))
@@ -16,25 +16,17 @@ type_set_ends : (bytes : List ℕ) (place : ℕ) → type_set_end bytes place �
 unfolding type_set_end type_set_in
 type_set_ends bytes place = omega (arith, bitmap_ends bytes place, bitmap_ends bytes (negated_place bytes place))
 
--- names with or without a type set behind them
-name_set_go : (there : Bool) (bytes : List ℕ) (place : ℕ)
-    → (if there then type_set_end bytes (place + bitmap_size bytes place) else place + bitmap_size bytes place)
-    ≡ place + (12 + 12 * length (bitmap_in bytes place) + type_set_length (if there then Some (type_set_in bytes (place + bitmap_size bytes place)) else None))
-name_set_go true bytes place = omega (arith, bitmap_ends bytes place, type_set_ends bytes (place + bitmap_size bytes place))
-name_set_go false bytes place = omega (arith, bitmap_ends bytes place)
-
-name_set_ends : (version : ℕ) (bytes : List ℕ) (place : ℕ) → name_set_end version bytes place ≡ place + name_set_length (Some (name_set_in version bytes place))
-unfolding name_set_end name_set_in
-name_set_ends version bytes place = name_set_go (has_type_set version) bytes place
-
-names_go : (there : Bool) (version : ℕ) (bytes : List ℕ) (place : ℕ)
-    → (if there then name_set_end version bytes place else place) ≡ place + name_set_length (if there then Some (name_set_in version bytes place) else None)
-names_go true version bytes place = name_set_ends version bytes place
-names_go false version bytes place = omega arith
+-- an item without names, with names alone, or with a type set behind them
+sets_go : (names there : Bool) (bytes : List ℕ) (place : ℕ)
+    → (if names && there then type_set_end bytes (place + bitmap_size bytes place) else (if names then place + bitmap_size bytes place else place))
+    ≡ place + (names_length (if names then Some (bitmap_in bytes place) else None) + type_set_length (if names && there then Some (type_set_in bytes (place + bitmap_size bytes place)) else None))
+sets_go false there bytes place = omega arith
+sets_go true true bytes place = omega (arith, bitmap_ends bytes place, type_set_ends bytes (place + bitmap_size bytes place))
+sets_go true false bytes place = omega (arith, bitmap_ends bytes place)
 
 item_ends : (version : ℕ) (bytes : List ℕ) (place : ℕ) → item_end version bytes place ≡ place + item_length (item_in version bytes place)
-unfolding names_end names_in
-item_ends version bytes place = omega (arith, names_go (num bytes place 4 == 5) version bytes (place + 12))
+unfolding sets_end names_end names_in types_in
+item_ends version bytes place = omega (arith, sets_go (num bytes place 4 == 5) (nat_le 29 version) bytes (place + 12))
 
 added : (end place first others : ℕ) → end ≡ place + first → end + others ≡ place + (first + others)
 added end place first others e = omega (arith, e)

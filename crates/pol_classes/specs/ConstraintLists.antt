@@ -1,19 +1,23 @@
 -- The constraints of a class, one behind the other (libsepol's read_cons_helper).
-use Rattle.std.specs.Prelude.{ℕ, ◌+◌, ◌*◌, Bool, Option, Some, None, List, length}
+use Rattle.std.specs.Prelude.{ℕ, ◌+◌, ◌*◌, nat_le, Bool, Option, Some, None, List, length}
 use Rattle.std.specs.List.{sum_by}
 use Rattle.pol_cursor.specs.Outcome.{Reader}
 use Rattle.pol_cursor.specs.Parts.{records_at}
 use Rattle.pol_cursor.specs.References.{values_of}
 use Rattle.pol_cursor.specs.Runs.{run_in, run_end, HasRun}
+use Rattle.pol_bitmap.specs.declared.node.Node.{Node}
 use Rattle.pol_constraints.specs.declared.constraint_rec.ConstraintRec.{ConstraintRec}
 use Rattle.pol_constraints.specs.declared.constraint_rec.ConstraintItem.{ConstraintItem}
-use Rattle.pol_constraints.specs.declared.constraint_rec.NameSet.{NameSet}
 use Rattle.pol_constraints.specs.declared.constraint_rec.TypeSet.{TypeSet}
 use Rattle.pol_constraints.specs.ConstraintRecord.{constraint_at, constraint_in, constraint_end, HasConstraint}
 
 -- n constraints of a policy of a version, in which a third context is allowed or not
 abbrev pub constraints_at : ℕ → Bool → ℕ → Reader (List ConstraintRec)
 constraints_at version xtarget n = records_at (constraint_at version xtarget) n
+
+-- the constraints of a version have type sets
+abbrev pub has_type_sets : ℕ → Bool
+has_type_sets version = nat_le 29 version
 
 -- ---- the constraints that stand from a place on
 
@@ -35,12 +39,12 @@ abbrev pub type_set_length : Option TypeSet → ℕ
 type_set_length None = 0
 type_set_length (Some set) = 28 + 12 * length set.types + 12 * length set.negated
 
-abbrev pub name_set_length : Option NameSet → ℕ
-name_set_length None = 0
-name_set_length (Some set) = 12 + 12 * length set.names + type_set_length set.written
+abbrev pub names_length : Option (List Node) → ℕ
+names_length None = 0
+names_length (Some names) = 12 + 12 * length names
 
 abbrev pub item_length : ConstraintItem → ℕ
-item_length item = 12 + name_set_length item.set
+item_length item = 12 + names_length item.names + type_set_length item.type_set
 
 abbrev pub constraint_length : ConstraintRec → ℕ
 constraint_length constraint = 8 + sum_by item_length constraint.items

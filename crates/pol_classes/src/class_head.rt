@@ -39,7 +39,7 @@ impl<'a> HeadView<'a> {
         HeadView { bytes, place }
     }
 
-    /// Its name.
+    /// The name of the class.
     pub fn name(&self) -> &'a [u8]
         ensures { result.now ≡ self.now.name }
     {
@@ -57,7 +57,7 @@ impl<'a> HeadView<'a> {
         string_in(self.bytes, place as usize, common_len as usize)
     }
 
-    /// Its value, which is 1 to the `nprim` of its table.
+    /// The value of the class, which is 1 to the `nprim` of its table.
     pub fn value(&self) -> u32
         ensures { result ≡ self.now.value }
     {

@@ -54,6 +54,7 @@ impl<'a, const VERSION: u32> ReadAfter<'a> for Class<VERSION> {
 }
 
 impl<const VERSION: u32> SymbolKind for Class<VERSION> {
+    ghost use Rattle.pol_classes.specs.ClassRecord.{spell_class, ClassFits};
     ghost use Rattle.std.specs.Prelude.{true};
 
     ghost name_of = { λ class. class.name };
@@ -61,6 +62,10 @@ impl<const VERSION: u32> SymbolKind for Class<VERSION> {
     ghost value_of = { λ class. class.value };
 
     ghost is_primary = { λ class. true };
+
+    ghost spelling = { spell_class };
+
+    ghost fits = { ClassFits VERSION };
 }
 
 impl<'a, const VERSION: u32> Symbol<'a> for Class<VERSION> {

@@ -5,7 +5,7 @@ use pol_cursor::{ByteList, OwnedList};
 /// A class of objects, owned.
 #[derive(Drop)]
 pub struct ClassRec {
-    /// Its bytes are 0x21 to 0x7E, and there is one.
+    /// One byte or more, each from 0x21 to 0x7E.
     pub name: ByteList,
     /// The name of the common whose permissions it inherits. It is empty where there is none.
     pub common: ByteList,
@@ -13,7 +13,7 @@ pub struct ClassRec {
     pub value: u32,
     /// How many permissions it declares, at most 32.
     pub nprim: u32,
-    /// Its own permissions, without those of the common.
+    /// The class's own permissions, without those of the common.
     pub permissions: OwnedList<PermissionRec>,
     /// The constraints on its permissions.
     pub constraints: OwnedList<ConstraintRec>,

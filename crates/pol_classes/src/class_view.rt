@@ -5,10 +5,11 @@ ghost use Rattle.pol_classes.specs.ClassRecord.{default_at, class_at, class_in, 
 
 use crate::causes::default_cause;
 use crate::class_head::{CLASS, HeadView, head_end, read_head};
+use crate::class_kind::Class;
 use crate::class_rec::ClassRec;
 use crate::constraint_list::{ConstraintList, constraints_end, pass_constraints};
 use pol_commons::{CommonList, PermissionList, inherited_from, permissions_end, read_permissions};
-use pol_cursor::{ByteList, Cursor, Fault, Field, refuse, u32_in};
+use pol_cursor::{ByteList, Copied, Cursor, Fault, Field, refuse, u32_in};
 use pol_symtab::Taken;
 use std::alloc::{AllocError, Global};
 use std::marker::Model;
@@ -46,7 +47,7 @@ impl<'a> ClassView<'a> {
         }
     }
 
-    /// Its name.
+    /// The name of the class.
     pub fn name(&self) -> &'a [u8]
         ensures { result.now ≡ self.now.value.name }
     {
@@ -60,7 +61,7 @@ impl<'a> ClassView<'a> {
         HeadView::at(self.bytes, self.place).common()
     }
 
-    /// Its value, which is 1 to the `nprim` of its table.
+    /// The value of the class, which is 1 to the `nprim` of its table.
     pub fn value(&self) -> u32
         ensures { result ≡ self.now.value.value }
     {
@@ -74,7 +75,7 @@ impl<'a> ClassView<'a> {
         HeadView::at(self.bytes, self.place).nprim()
     }
 
-    /// Its own permissions, without those of the common.
+    /// The class's own permissions, without those of the common.
     pub fn permissions(&self) -> PermissionList<'a>
         ensures { result ≡ self.now.value.permissions }
     {
@@ -98,6 +99,27 @@ impl<'a> ClassView<'a> {
         let place = validatetrans_place(self.bytes, self.place, self.version);
         let count = u32_in(self.bytes, place as usize);
         ConstraintList::at(self.bytes, place + 4, self.version, count)
+    }
+
+    /// How many permissions of its own it has.
+    pub fn permission_count(&self) -> u32
+        ensures { result ≡ length self.now.value.permissions }
+    {
+        self.permissions().len()
+    }
+
+    /// How many constraints on its permissions it has.
+    pub fn constraint_count(&self) -> u32
+        ensures { result ≡ length self.now.value.constraints }
+    {
+        self.constraints().len()
+    }
+
+    /// How many constraints on a change of context it has.
+    pub fn validatetrans_count(&self) -> u32
+        ensures { result ≡ length self.now.value.validatetrans }
+    {
+        self.validatetrans().len()
     }
 
     /// Whose user a new object has: 0 not said, 1 the source's, 2 the target's.
@@ -132,23 +154,22 @@ impl<'a> ClassView<'a> {
         let place = defaults_place(self.bytes, self.place, self.version);
         u32_in(self.bytes, place as usize + 12)
     }
+}
 
-    /// The same class, owned.
-    pub fn rec(&self, alloc: Global) -> Result<ClassRec, AllocError>
-        ensures { IfOk result (λ class. class ≡ self.now.value) }
-    {
+impl<'a, const VERSION: u32> Copied<'a> for Class<VERSION> {
+    fn rec(view: &ClassView<'a>, alloc: Global) -> Result<ClassRec, AllocError> {
         Ok(ClassRec {
-            name: ByteList::from_vec(Vec::from_slice(alloc, self.name())?),
-            common: ByteList::from_vec(Vec::from_slice(alloc, self.common())?),
-            value: self.value(),
-            nprim: self.nprim(),
-            permissions: self.permissions().rec(alloc)?,
-            constraints: self.constraints().rec(alloc)?,
-            validatetrans: self.validatetrans().rec(alloc)?,
-            default_user: self.default_user(),
-            default_role: self.default_role(),
-            default_range: self.default_range(),
-            default_type: self.default_type(),
+            name: ByteList::copy_of(alloc, view.name())?,
+            common: ByteList::copy_of(alloc, view.common())?,
+            value: view.value(),
+            nprim: view.nprim(),
+            permissions: view.permissions().rec(alloc)?,
+            constraints: view.constraints().rec(alloc)?,
+            validatetrans: view.validatetrans().rec(alloc)?,
+            default_user: view.default_user(),
+            default_role: view.default_role(),
+            default_range: view.default_range(),
+            default_type: view.default_type(),
         })
     }
 }

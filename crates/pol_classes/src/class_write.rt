@@ -1,78 +1,68 @@
-ghost use Rattle.std.specs.Prelude.{◌≡◌, ◌++◌, OnOk};
-ghost use Rattle.std.specs.List.{flat_map};
-ghost use Rattle.pol_cursor.specs.Parts.{spell_counted};
-ghost use Rattle.pol_constraints.specs.ConstraintRecord.{spell_constraint};
-ghost use Rattle.pol_classes.specs.ClassRecord.{spell_numbers, spell_head, spell_defaults, head_of, spell_class};
+ghost use Rattle.pol_cursor.specs.Writing.{Writes};
+ghost use Rattle.pol_classes.specs.ClassRecord.{spell_class};
 
 use crate::class_rec::ClassRec;
-use pol_commons::write_permissions;
-use pol_constraints::{ConstraintRec, write_constraint};
-use pol_cursor::push_number;
+use pol_cursor::{Part, Written};
 use std::alloc::AllocError;
 
-/// Appends the bytes of a class. The version shows in its constraints, which have type sets from version 29 on.
-///
-/// After want of memory a part of them may be there.
-pub fn write_class(class: &ClassRec, version: u32, out: &mut Vec<u8>) -> Result<(), AllocError>
-    ensures { OnOk result (out.new.items ≡ out.old.items ++ spell_class class.now) }
+/// Appends the bytes of a class, whose constraints have type sets from version 29 on. Out of memory, a beginning of them was
+/// appended.
+pub fn write_class(class: &ClassRec, _version: u32, out: &mut Vec<u8>) -> Result<(), AllocError>
+    ensures { Writes out.old.items out.new.items (spell_class class.now) result }
 {
-    write_head(class, out)?;
-    write_permissions(class.permissions.as_slice(), version, out)?;
-    write_constraints(class.constraints.as_slice(), version, out)?;
-    write_counted(class.validatetrans.as_slice(), version, out)?;
-    write_defaults(class, out)
+    class.write(out)
 }
 
-// The numbers and names before the lists.
-fn write_head(class: &ClassRec, out: &mut Vec<u8>) -> Result<(), AllocError>
-    ensures { OnOk result (out.new.items ≡ out.old.items ++ spell_head (head_of class.now)) }
-{
-    write_numbers(class, out)?;
-    out.extend_from_slice(class.name.as_slice())?;
-    out.extend_from_slice(class.common.as_slice())
-}
+impl Written for ClassRec {
+    ghost use Rattle.pol_classes.specs.ClassRecord.{spell_class};
 
-fn write_numbers(class: &ClassRec, out: &mut Vec<u8>) -> Result<(), AllocError>
-    ensures { OnOk result (out.new.items ≡ out.old.items ++ spell_numbers (head_of class.now)) }
-{
-    push_number(out, 4, class.name.len() as u64)?;
-    push_number(out, 4, class.common.len() as u64)?;
-    push_number(out, 4, class.value as u64)?;
-    push_number(out, 4, class.nprim as u64)?;
-    push_number(out, 4, class.permissions.len() as u64)?;
-    push_number(out, 4, class.constraints.len() as u64)
-}
+    ghost spelling = { spell_class };
 
-fn write_defaults(class: &ClassRec, out: &mut Vec<u8>) -> Result<(), AllocError>
-    ensures { OnOk result (out.new.items ≡ out.old.items ++ spell_defaults class.now) }
-{
-    push_number(out, 4, class.default_user as u64)?;
-    push_number(out, 4, class.default_role as u64)?;
-    push_number(out, 4, class.default_range as u64)?;
-    push_number(out, 4, class.default_type as u64)
-}
-
-// A count, and so many constraints.
-fn write_counted(
-    constraints: &[ConstraintRec],
-    version: u32,
-    out: &mut Vec<u8>,
-) -> Result<(), AllocError>
-    ensures { OnOk result (out.new.items ≡ out.old.items ++ spell_counted spell_constraint constraints.now) }
-{
-    push_number(out, 4, constraints.len() as u64)?;
-    write_constraints(constraints, version, out)
-}
-
-fn write_constraints(
-    constraints: &[ConstraintRec],
-    version: u32,
-    out: &mut Vec<u8>,
-) -> Result<(), AllocError>
-    ensures { OnOk result (out.new.items ≡ out.old.items ++ flat_map spell_constraint constraints.now) }
-{
-    for constraint in constraints {
-        write_constraint(constraint, version, out)?;
+    fn write(&self, out: &mut Vec<u8>) -> Result<(), AllocError> {
+        let name = Part::Bytes(self.name.as_slice());
+        let common = Part::Bytes(self.common.as_slice());
+        let head = (Numbers(self), name, common);
+        let count = Part::U32(self.validatetrans.len() as u64);
+        let rest = ((count, &self.validatetrans), Defaults(self));
+        (head, &self.permissions, &self.constraints, rest).write(out)
     }
-    Ok(())
+}
+
+// The numbers before the names of a class.
+#[derive(Drop)]
+struct Numbers<'a>(&'a ClassRec);
+
+impl<'a> Written for Numbers<'a> {
+    ghost use Rattle.pol_classes.specs.ClassRecord.{spell_numbers, head_of};
+
+    ghost spelling = { λ numbers. spell_numbers (head_of numbers.0.now) };
+
+    fn write(&self, out: &mut Vec<u8>) -> Result<(), AllocError> {
+        let class = self.0;
+        let len = Part::U32(class.name.len() as u64);
+        let common_len = Part::U32(class.common.len() as u64);
+        let value = Part::U32(class.value as u64);
+        let nprim = Part::U32(class.nprim as u64);
+        let nel = Part::U32(class.permissions.len() as u64);
+        let ncons = Part::U32(class.constraints.len() as u64);
+        (len, common_len, value, (nprim, nel, ncons)).write(out)
+    }
+}
+
+// What a class says of the contexts of new objects, at its end.
+#[derive(Drop)]
+struct Defaults<'a>(&'a ClassRec);
+
+impl<'a> Written for Defaults<'a> {
+    ghost use Rattle.pol_classes.specs.ClassRecord.{spell_defaults};
+
+    ghost spelling = { λ defaults. spell_defaults defaults.0.now };
+
+    fn write(&self, out: &mut Vec<u8>) -> Result<(), AllocError> {
+        let user = Part::U32(self.0.default_user as u64);
+        let role = Part::U32(self.0.default_role as u64);
+        let range = Part::U32(self.0.default_range as u64);
+        let type_default = Part::U32(self.0.default_type as u64);
+        (user, role, range, type_default).write(out)
+    }
 }

@@ -2,9 +2,10 @@
 
 ghost use Rattle.std.specs.Prelude.{◌≡◌, ◌≤◌};
 ghost use Rattle.pol_constraints.specs.ConstraintRecord.{constraint_end, HasConstraint};
-ghost use Rattle.pol_classes.specs.ConstraintLists.{type_set_length, name_set_length, item_length, constraint_length};
+ghost use Rattle.pol_classes.specs.ConstraintLists.{type_set_length, names_length, item_length, constraint_length};
 
-use pol_constraints::{ConstraintItemView, ConstraintView, NameSetView, TypeSetView};
+use pol_bitmap::BitmapView;
+use pol_constraints::{ConstraintItemView, ConstraintView, TypeSetView};
 
 /// The place behind the constraint of a policy of that version at a place that has one.
 #[tactic(auto, using(crate::proofs::ConstraintPlaces::constraint_ends))]
@@ -30,26 +31,25 @@ fn item_length(item: &ConstraintItemView<'_>) -> u32
     requires { item_length item.now ≤ 67108864 }
     ensures { result ≡ item_length item.now }
 {
-    match item.set() {
-        Some(set) => 12 + name_set_length(&set),
-        None => 12,
+    12 + names_length(item.names()) + type_set_length(item.type_set())
+}
+
+fn names_length(names: Option<BitmapView<'_>>) -> u32
+    requires { names_length names ≤ 67108864 }
+    ensures { result ≡ names_length names.entry }
+{
+    match names {
+        Some(names) => names.size(),
+        None => 0,
     }
 }
 
-fn name_set_length(set: &NameSetView<'_>) -> u32
-    requires { name_set_length (Some set.now) ≤ 67108864 }
-    ensures { result ≡ name_set_length (Some set.now) }
+fn type_set_length(set: Option<TypeSetView<'_>>) -> u32
+    requires { type_set_length set ≤ 67108864 }
+    ensures { result ≡ type_set_length set.entry }
 {
-    let names = set.names().size();
-    match set.written() {
-        Some(written) => names + type_set_length(&written),
-        None => names,
+    match set {
+        Some(set) => set.types().size() + set.negated().size() + 4,
+        None => 0,
     }
-}
-
-fn type_set_length(set: &TypeSetView<'_>) -> u32
-    requires { type_set_length (Some set.now) ≤ 67108864 }
-    ensures { result ≡ type_set_length (Some set.now) }
-{
-    set.types().size() + set.negated().size() + 4
 }

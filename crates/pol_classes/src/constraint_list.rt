@@ -52,7 +52,7 @@ impl<'a> ConstraintList<'a> {
         self.count
     }
 
-    /// The same constraints.
+    /// The constraints again, from the first that is left.
     pub fn iter(&self) -> ConstraintList<'a>
         ensures { result ≡ self.now }
     {
@@ -68,7 +68,7 @@ impl<'a> ConstraintList<'a> {
         ConstraintView::at(self.bytes, place, self.version)
     }
 
-    /// The same constraints, owned.
+    /// A copy of the constraints.
     pub fn rec(&self, alloc: Global) -> Result<OwnedList<ConstraintRec>, AllocError>
         ensures { IfOk result (λ constraints. constraints ≡ self.now) }
     {

@@ -1,6 +1,7 @@
 -- The permissions of a class or of a common, one behind the other.
 use Rattle.std.specs.Prelude.{ℕ, ◌-◌, ◌^◌, List, [], ◌∷◌, ◌++◌, Option, nat_eq, bit_or}
 use Rattle.std.specs.List.{find, fold}
+use Rattle.std.specs.Str.{bytes_eq}
 use Rattle.pol_cursor.specs.Outcome.{Reader}
 use Rattle.pol_cursor.specs.Parts.{list_of}
 use Rattle.pol_cursor.specs.References.{values_of}
@@ -36,6 +37,10 @@ HavePermissions = HasRun HasPermission permission_end
 -- the permission of a value
 abbrev pub of_value : ℕ → List PermissionRec → Option PermissionRec
 of_value value permissions = find (λ p. nat_eq value p.value) permissions
+
+-- the permission of a name
+abbrev pub of_name : List ℕ → List PermissionRec → Option PermissionRec
+of_name name permissions = find (λ p. bytes_eq name p.name) permissions
 
 -- the bit of a permission in an access vector: bit v - 1 stands for the value v
 abbrev pub bit_of : PermissionRec → ℕ

@@ -4,7 +4,7 @@ use pol_cursor::{ByteList, OwnedList};
 /// A common, owned.
 #[derive(Drop)]
 pub struct CommonRec {
-    /// Its bytes are 0x21 to 0x7E, and there is one.
+    /// One byte or more, each from 0x21 to 0x7E.
     pub name: ByteList,
     /// It is 1 to the `nprim` of its table.
     pub value: u32,

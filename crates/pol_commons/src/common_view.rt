@@ -4,8 +4,9 @@ ghost use Rattle.pol_commons.specs.CommonRecord.{common_at, common_in, HasCommon
 
 use crate::causes::permission_count_cause;
 use crate::common_rec::CommonRec;
+use crate::kind::Common;
 use crate::permission_list::{PermissionList, read_permissions};
-use pol_cursor::{ByteList, Cursor, Fault, Field, refuse, string_in, u32_in};
+use pol_cursor::{ByteList, Copied, Cursor, Fault, Field, refuse, string_in, u32_in};
 use pol_symtab::{Taken, new_value_cause, read_symbol_length, read_symbol_name};
 use std::alloc::{AllocError, Global};
 use std::marker::Model;
@@ -41,7 +42,7 @@ impl<'a> CommonView<'a> {
         CommonView { bytes, place }
     }
 
-    /// Its name.
+    /// The name of the common.
     pub fn name(&self) -> &'a [u8]
         ensures { result.now ≡ self.now.value.name }
     {
@@ -49,7 +50,7 @@ impl<'a> CommonView<'a> {
         string_in(self.bytes, self.place as usize + 16, len as usize)
     }
 
-    /// Its value, which is 1 to the `nprim` of its table.
+    /// The value of the common, which is 1 to the `nprim` of its table.
     pub fn value(&self) -> u32
         ensures { result ≡ self.now.value.value }
     {
@@ -71,16 +72,15 @@ impl<'a> CommonView<'a> {
         let count = u32_in(self.bytes, self.place as usize + 12);
         PermissionList::at(self.bytes, place, count)
     }
+}
 
-    /// The same common, owned.
-    pub fn rec(&self, alloc: Global) -> Result<CommonRec, AllocError>
-        ensures { IfOk result (λ common. common ≡ self.now.value) }
-    {
+impl<'a> Copied<'a> for Common {
+    fn rec(view: &CommonView<'a>, alloc: Global) -> Result<CommonRec, AllocError> {
         Ok(CommonRec {
-            name: ByteList::from_vec(Vec::from_slice(alloc, self.name())?),
-            value: self.value(),
-            nprim: self.nprim(),
-            permissions: self.permissions().rec(alloc)?,
+            name: ByteList::copy_of(alloc, view.name())?,
+            value: view.value(),
+            nprim: view.nprim(),
+            permissions: view.permissions().rec(alloc)?,
         })
     }
 }

@@ -1,21 +1,28 @@
-ghost use Rattle.std.specs.Prelude.{◌≡◌, ◌++◌, OnOk};
+ghost use Rattle.pol_cursor.specs.Writing.{Writes};
 ghost use Rattle.pol_commons.specs.CommonRecord.{spell_common};
 
 use crate::common_rec::CommonRec;
-use crate::permission_write::write_permissions;
-use pol_cursor::push_number;
+use pol_cursor::{Part, Written};
 use std::alloc::AllocError;
 
-/// Appends the bytes of a common, which are the same in each version.
-///
-/// After want of memory a part of them may be there.
-pub fn write_common(common: &CommonRec, version: u32, out: &mut Vec<u8>) -> Result<(), AllocError>
-    ensures { OnOk result (out.new.items ≡ out.old.items ++ spell_common common.now) }
+/// Appends the bytes of a common, which are the same in each version. Out of memory, a beginning of them was appended.
+pub fn write_common(common: &CommonRec, _version: u32, out: &mut Vec<u8>) -> Result<(), AllocError>
+    ensures { Writes out.old.items out.new.items (spell_common common.now) result }
 {
-    push_number(out, 4, common.name.len() as u64)?;
-    push_number(out, 4, common.value as u64)?;
-    push_number(out, 4, common.nprim as u64)?;
-    push_number(out, 4, common.permissions.len() as u64)?;
-    out.extend_from_slice(common.name.as_slice())?;
-    write_permissions(common.permissions.as_slice(), version, out)
+    common.write(out)
+}
+
+impl Written for CommonRec {
+    ghost use Rattle.pol_commons.specs.CommonRecord.{spell_common};
+
+    ghost spelling = { spell_common };
+
+    fn write(&self, out: &mut Vec<u8>) -> Result<(), AllocError> {
+        let len = Part::U32(self.name.len() as u64);
+        let value = Part::U32(self.value as u64);
+        let nprim = Part::U32(self.nprim as u64);
+        let count = Part::U32(self.permissions.len() as u64);
+        let name = Part::Bytes(self.name.as_slice());
+        (len, value, nprim, (count, name, &self.permissions)).write(out)
+    }
 }

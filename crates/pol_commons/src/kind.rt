@@ -45,6 +45,7 @@ impl<'a> ReadAfter<'a> for Common {
 }
 
 impl SymbolKind for Common {
+    ghost use Rattle.pol_commons.specs.CommonRecord.{spell_common, CommonFits};
     ghost use Rattle.std.specs.Prelude.{true};
 
     ghost name_of = { λ common. common.name };
@@ -52,6 +53,10 @@ impl SymbolKind for Common {
     ghost value_of = { λ common. common.value };
 
     ghost is_primary = { λ common. true };
+
+    ghost spelling = { spell_common };
+
+    ghost fits = { CommonFits };
 }
 
 impl<'a> Symbol<'a> for Common {

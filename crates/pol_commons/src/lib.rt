@@ -22,5 +22,5 @@ pub use kind::Common;
 pub use permission_list::{PermissionList, permissions_end, read_permissions};
 pub use permission_rec::{PermissionRec, PermissionRecList};
 pub use permission_view::{PermissionView, read_permission};
-pub use permission_write::{write_permission, write_permissions};
+pub use permission_write::write_permission;
 pub use record_laws::{commons_have_laws, permissions_have_laws};

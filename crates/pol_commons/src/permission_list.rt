@@ -3,7 +3,7 @@ ghost use Rattle.std.specs.Iterator.{YieldsFirst, item_count};
 ghost use Rattle.pol_cursor.specs.Outcome.{Answers};
 ghost use Rattle.pol_symtab.specs.Claims.{has_name, has_value};
 ghost use Rattle.pol_commons.specs.PermissionRecord.{claims_of};
-ghost use Rattle.pol_commons.specs.Permissions.{permissions_at, permissions_in, permissions_end, HavePermissions, of_value, mask_of};
+ghost use Rattle.pol_commons.specs.Permissions.{permissions_at, permissions_in, permissions_end, HavePermissions, of_name, of_value, mask_of};
 
 use crate::permission_rec::PermissionRecList;
 use crate::permission_view::{PermissionView, permission_end, read_permission};
@@ -60,7 +60,7 @@ impl<'a> PermissionList<'a> {
         self.count
     }
 
-    /// The same permissions.
+    /// The permissions again, from the first that is left.
     pub fn iter(&self) -> PermissionList<'a>
         ensures { result ≡ self.now }
     {
@@ -96,7 +96,14 @@ impl<'a> PermissionList<'a> {
         self.iter().find(|permission| value == permission.value())
     }
 
-    /// The same permissions, owned.
+    /// The one of the name.
+    pub fn of_name(&self, name: &[u8]) -> Option<PermissionView<'a>>
+        ensures { result ≡ of_name name.now self.now }
+    {
+        self.iter().find(|permission| name == permission.name())
+    }
+
+    /// A copy of the permissions.
     pub fn rec(&self, alloc: Global) -> Result<PermissionRecList, AllocError>
         ensures { IfOk result (λ permissions. permissions ≡ self.now) }
     {

@@ -3,7 +3,7 @@ use pol_cursor::{ByteList, OwnedList};
 /// A permission, owned.
 #[derive(Drop)]
 pub struct PermissionRec {
-    /// Its bytes are 0x21 to 0x7E, and there is one.
+    /// One byte or more, each from 0x21 to 0x7E.
     pub name: ByteList,
     /// It is 1 to 32.
     pub value: u32,

@@ -42,7 +42,7 @@ impl<'a> PermissionView<'a> {
         PermissionView { bytes, place }
     }
 
-    /// Its name.
+    /// The name of the permission.
     pub fn name(&self) -> &'a [u8]
         ensures { result.now ≡ self.now.name }
     {
@@ -59,14 +59,14 @@ impl<'a> PermissionView<'a> {
         u32_in(self.bytes, self.place as usize + 4)
     }
 
-    /// Its bit in an access vector: bit v - 1 stands for the value v.
+    /// The bit of the permission in an access vector: bit v - 1 stands for the value v.
     pub fn bit(&self) -> u32
         ensures { result ≡ 2 ^ (self.now.value - 1) }
     {
         1 << (self.value() - 1)
     }
 
-    /// The same permission, owned.
+    /// A copy of the permission.
     pub fn rec(&self, alloc: Global) -> Result<PermissionRec, AllocError>
         ensures { IfOk result (λ permission. permission ≡ self.now) }
     {

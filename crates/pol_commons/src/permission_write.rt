@@ -1,36 +1,30 @@
-ghost use Rattle.std.specs.Prelude.{◌≡◌, ◌++◌, OnOk};
-ghost use Rattle.std.specs.List.{flat_map};
+ghost use Rattle.pol_cursor.specs.Writing.{Writes};
 ghost use Rattle.pol_commons.specs.PermissionRecord.{spell_permission};
 
 use crate::permission_rec::PermissionRec;
-use pol_cursor::push_number;
+use pol_cursor::{Part, Written};
 use std::alloc::AllocError;
 
-/// Appends the bytes of a permission, which are the same in each version.
-///
-/// After want of memory a part of them may be there.
+/// Appends the bytes of a permission, which are the same in each version. Out of memory, a beginning of them was appended.
 pub fn write_permission(
     permission: &PermissionRec,
     _version: u32,
     out: &mut Vec<u8>,
 ) -> Result<(), AllocError>
-    ensures { OnOk result (out.new.items ≡ out.old.items ++ spell_permission permission.now) }
+    ensures { Writes out.old.items out.new.items (spell_permission permission.now) result }
 {
-    push_number(out, 4, permission.name.len() as u64)?;
-    push_number(out, 4, permission.value as u64)?;
-    out.extend_from_slice(permission.name.as_slice())
+    permission.write(out)
 }
 
-/// Appends permissions, one behind the other.
-pub fn write_permissions(
-    permissions: &[PermissionRec],
-    version: u32,
-    out: &mut Vec<u8>,
-) -> Result<(), AllocError>
-    ensures { OnOk result (out.new.items ≡ out.old.items ++ flat_map spell_permission permissions.now) }
-{
-    for permission in permissions {
-        write_permission(permission, version, out)?;
+impl Written for PermissionRec {
+    ghost use Rattle.pol_commons.specs.PermissionRecord.{spell_permission};
+
+    ghost spelling = { spell_permission };
+
+    fn write(&self, out: &mut Vec<u8>) -> Result<(), AllocError> {
+        let len = Part::U32(self.name.len() as u64);
+        let value = Part::U32(self.value as u64);
+        let name = Part::Bytes(self.name.as_slice());
+        (len, value, name).write(out)
     }
-    Ok(())
 }

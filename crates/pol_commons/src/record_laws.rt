@@ -13,7 +13,7 @@ pub fn permissions_have_laws()
     ensures spelled { (listed inherited : List PermissionRec) → IsReadFromSpelling (permission_at listed inherited) spell_permission PermissionFits }
 {}
 
-/// The same of a common, whatever is taken.
+/// Both laws of a common, whatever is taken.
 pub fn commons_have_laws()
     ensures again { (taken : Claims) (nprim : ℕ) → IsReadAgain (common_at taken nprim) spell_common CommonFits }
     ensures spelled { (taken : Claims) (nprim : ℕ) → IsReadFromSpelling (common_at taken nprim) spell_common CommonFits }

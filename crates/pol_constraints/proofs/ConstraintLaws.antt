@@ -1,14 +1,17 @@
 -- The two laws of a constraint.
-use Rattle.std.proofs.Common.{◌≡◌, ℕ, Bool, None, List, length, append_assoc}
-use Rattle.std.specs.Prelude.{◌==◌}
+use Rattle.std.proofs.Common.{◌≡◌, ℕ, Bool, Option, None, List, ◌++◌, length, append_assoc}
 use Rattle.std.specs.List.{flat_map, AllByRecursion}
 use Rattle.std.proofs.lemmas.List.{append-nil}
 use Rattle.pol_cursor.specs.Outcome.{field}
+use Rattle.pol_cursor.specs.Parts.{spell_optional, OptionFits}
+use Rattle.pol_bitmap.specs.declared.node.Node.{Node}
+use Rattle.pol_bitmap.specs.Bitmap.{spell_bitmap, BitmapFits}
 use Rattle.pol_cursor.specs.Laws.{Reads, Again, IsSpelling, IsReadAgain, IsReadFromSpelling}
 use Rattle.pol_cursor.proofs.Laws.{Reads-done, Reads-part, Reads-list_of, Reads-number, Reads-number_if, Reads-optional, Again-done, Again-part, Again-as, Again-list_of, Again-number, Again-number_if, Again-optional}
 use Rattle.pol_bitmap.proofs.Laws.{bitmap_spelled, bitmap_again}
 use Rattle.pol_constraints.specs.declared.constraint_rec.ConstraintItem.{ConstraintItem}
-use Rattle.pol_constraints.specs.ConstraintRecord.{has_type_set, type_set_at, name_set_at, item_at, values_after_item, items_at, constraint_at, spell_type_set, spell_name_set, spell_item, spell_constraint, TypeSetFits, NameSetFits, ItemFits, ConstraintFits}
+use Rattle.pol_constraints.specs.declared.constraint_rec.TypeSet.{TypeSet}
+use Rattle.pol_constraints.specs.ConstraintRecord.{has_names, has_type_set, type_set_at, sets_at, item_at, values_after_item, items_at, constraint_at, spell_type_set, spell_item, spell_constraint, TypeSetFits, ItemFits, ConstraintFits}
 
 type_set_spelled : IsReadFromSpelling type_set_at spell_type_set TypeSetFits
 unfolding type_set_at
@@ -31,23 +34,31 @@ type_set_again set fits =
     (Again-done set))))
     (simp (append_assoc, append-nil))
 
-name_set_spelled : (version : ℕ) → IsReadFromSpelling (name_set_at version) spell_name_set (NameSetFits version)
-unfolding name_set_at
-name_set_spelled version =
-    Reads-part (bitmap_spelled None) λ names names-fits.
-    Reads-part (Reads-optional (has_type_set version) type_set_spelled) λ written written-fits.
-    Reads-done _ (record { names = names; written = written }) (record {
+-- the names of an item and its type set
+abbrev spell_sets : Option (List Node) × Option TypeSet → List ℕ
+spell_sets sets = spell_optional spell_bitmap sets.0 ++ spell_optional spell_type_set sets.1
+
+record SetsFit (version kind : ℕ) (sets : Option (List Node) × Option TypeSet) : Type 0 where
+  pub names : OptionFits (has_names kind) BitmapFits sets.0
+  pub type_set : OptionFits (has_type_set version kind) TypeSetFits sets.1
+
+sets_spelled : (version kind : ℕ) → IsReadFromSpelling (sets_at version kind) spell_sets (SetsFit version kind)
+unfolding sets_at
+sets_spelled version kind =
+    Reads-part (Reads-optional (has_names kind) (bitmap_spelled None)) λ names names-fits.
+    Reads-part (Reads-optional (has_type_set version kind) type_set_spelled) λ type_set type_set-fits.
+    Reads-done _ (names, type_set) (record {
       same = simp append-nil;
-      fitting = record { names = names-fits; written = written-fits };
+      fitting = record { names = names-fits; type_set = type_set-fits };
     })
 
-name_set_again : (version : ℕ) → IsReadAgain (name_set_at version) spell_name_set (NameSetFits version)
-unfolding name_set_at
-name_set_again version set fits =
+sets_again : (version kind : ℕ) → IsReadAgain (sets_at version kind) spell_sets (SetsFit version kind)
+unfolding sets_at
+sets_again version kind sets fits =
     Again-as
-    (Again-part _ (bitmap_again None set.names fits.names)
-    (Again-part _ (Again-optional (has_type_set version) spell_type_set TypeSetFits set.written type_set_again fits.written)
-    (Again-done set)))
+    (Again-part _ (Again-optional (has_names kind) spell_bitmap BitmapFits sets.0 (bitmap_again None) fits.names)
+    (Again-part _ (Again-optional (has_type_set version kind) spell_type_set TypeSetFits sets.1 type_set_again fits.type_set)
+    (Again-done sets)))
     (simp append-nil)
 
 module _ (version : ℕ) (xtarget : Bool) where
@@ -57,10 +68,10 @@ module _ (version : ℕ) (xtarget : Bool) where
       Reads-part (Reads-number_if (field 7 3) 4) λ kind kind-fits.
       Reads-part (Reads-number_if (field 7 4) 4) λ attr attr-fits.
       Reads-part (Reads-number_if (field 7 5) 4) λ op op-fits.
-      Reads-part (Reads-optional (kind == 5) (name_set_spelled version)) λ set set-fits.
-      Reads-done _ (record { kind = kind; attr = attr; op = op; set = set }) (record {
+      Reads-part (sets_spelled version kind) λ sets sets-fit.
+      Reads-done _ (record { kind = kind; attr = attr; op = op; names = sets.0; type_set = sets.1 }) (record {
         same = simp (append_assoc, append-nil);
-        fitting = record { kind = kind-fits.0; attr = attr-fits.0; op = op-fits.0; set = set-fits };
+        fitting = record { kind = kind-fits.0; attr = attr-fits.0; op = op-fits.0; names = sets-fit.names; type_set = sets-fit.type_set };
       })
 
   item_again : (left values : ℕ) → IsReadAgain (item_at version xtarget left values) spell_item (ItemFits version)
@@ -70,7 +81,7 @@ module _ (version : ℕ) (xtarget : Bool) where
       (Again-part _ (Again-number_if (field 7 3) 4 item.kind _ fits.kind)
       (Again-part _ (Again-number_if (field 7 4) 4 item.attr _ fits.attr)
       (Again-part _ (Again-number_if (field 7 5) 4 item.op _ fits.op)
-      (Again-part _ (Again-optional (item.kind == 5) spell_name_set (NameSetFits version) item.set (name_set_again version) fits.set)
+      (Again-part _ (sets_again version item.kind (item.names, item.type_set) (record { names = fits.names; type_set = fits.type_set }))
       (Again-done item)))))
       (simp (append_assoc, append-nil))
 

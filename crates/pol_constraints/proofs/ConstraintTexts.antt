@@ -1,8 +1,7 @@
 -- The items of a constraint read one by one, and the operands that their symbols leave.
-use Rattle.std.proofs.Common.{◌≡◌, ℕ, ◌+◌, ◌<◌, ◌≤◌, Bool, List, [], ◌∷◌, ◌++◌, length, map, refl, sym, ap, subst, ◌∙◌, append_assoc, arith}
-use Rattle.std.specs.List.Sorted.{IsSortedBy}
+use Rattle.std.proofs.Common.{◌≡◌, ℕ, ◌≤◌, List, [], ◌∷◌, ◌++◌, length, refl, sym, ap, subst, ◌∙◌, append_assoc, arith}
 use Rattle.std.proofs.lemmas.Bool.Decides.{nat_tests}
-use Rattle.std.proofs.lemmas.List.{append-nil, get_or-map, length-map}
+use Rattle.std.proofs.lemmas.List.{append-nil}
 use Rattle.pol_cursor.specs.References.{Named}
 use Rattle.pol_expr.specs.declared.Symbol.{Symbol}
 use Rattle.pol_expr.specs.declared.Symbol.TheVariants as symbols
@@ -15,15 +14,6 @@ use Rattle.pol_expr.specs.Infix.{Operand, is_binary, infix_of, leaf_operand, neg
 use Rattle.pol_constraints.specs.ConstraintRecord.{constraint_limit, kind_operands, item_operands, IsExpression}
 use Rattle.pol_constraints.specs.ConstraintMeaning.{ConstraintTree, IsSymbol, AreSymbols, constraint_words}
 use Rattle.pol_expr.proofs.Stacks.{after, after-append, after-postorder, length-applied, text_meaning}
-
--- ---- names in order
-
-pub sorted_map : {A B : Type 0} (f : A → B) (lt : B → B → Bool) (xs : List A) → IsSortedBy (λ x y. lt (f x) (f y)) xs → IsSortedBy lt (map f xs)
-sorted_map f lt [] h k d le short = absurd (omega arith)
-sorted_map f lt (x ∷ xs) h k d le short =
-    let same : length (map f (x ∷ xs)) ≡ length (x ∷ xs) = simp length-map in
-    let len : k + 1 < length (x ∷ xs) = omega (arith, same, short) in
-    rw (get_or-map f (x ∷ xs) (k + 1) x d len, get_or-map f (x ∷ xs) k x d (omega (arith, len))) (h k x le len)
 
 -- ---- symbols
 

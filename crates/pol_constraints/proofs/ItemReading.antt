@@ -1,19 +1,20 @@
 -- An item of a constraint, by the parts that were read one after the other.
 use Rattle.std.proofs.Common.{◌≡◌, ℕ, ◌+◌, ◌≤◌, Bool, Option, None, List, length, sym, ap, subst, ◌∙◌, arith}
-use Rattle.std.specs.Prelude.{◌==◌, ◌&&◌, nat_le}
+use Rattle.std.specs.Prelude.{◌&&◌, nat_le}
 use Rattle.std.proofs.lemmas.Bool.Decides.{nat_tests}
 use Rattle.pol_cursor.specs.Outcome.{Position, Outcome, Got, and_then, field, judged}
-use Rattle.pol_cursor.specs.Parts.{num, number, optional}
+use Rattle.pol_cursor.specs.Parts.{num, number}
 use Rattle.pol_cursor.specs.declared.field.Field.{Field}
 use Rattle.pol_cursor.specs.declared.fault.Cause.{Cause}
 use Rattle.pol_cursor.specs.declared.fault.Cause.TheVariants.{BadKind}
 use Rattle.pol_cursor.proofs.Facts.{number_is}
 use Rattle.pol_cursor.proofs.Lists.{Gave}
 use Rattle.pol_constraints.specs.declared.constraint_rec.ConstraintItem.{ConstraintItem}
-use Rattle.pol_constraints.specs.declared.constraint_rec.NameSet.{NameSet}
+use Rattle.pol_constraints.specs.declared.constraint_rec.TypeSet.{TypeSet}
+use Rattle.pol_bitmap.specs.declared.node.Node.{Node}
 use Rattle.pol_expr.specs.Postfix.{operands_test}
 use Rattle.pol_expr.proofs.PostfixReading.{guard_none}
-use Rattle.pol_constraints.specs.ConstraintRecord.{constraint_limit, kind_operands, kind_test, attr_test, op_test, name_set_at, item_at, item_in, item_end, names_in, names_end, HasNameSet, HasItem}
+use Rattle.pol_constraints.specs.ConstraintRecord.{constraint_limit, kind_operands, kind_test, attr_test, op_test, sets_at, item_at, item_in, item_end, names_in, types_in, sets_end, HasSets, HasItem}
 
 -- a number that was read and meets its conditions
 kept : (d : Field) (test : ℕ → Option Cause) (o : Outcome ℕ) (place n next : ℕ) → o ≡ Got n next → test n ≡ None → and_then o (λ x m. judged (test x) d x place m) ≡ Got n next
@@ -32,8 +33,8 @@ pub item_read : (version : ℕ) (xtarget : Bool) (left values : ℕ) (q0 q1 q2 q
     → Gave (number (field 7 3) 4) kind q0 q1 → kind_test left values kind ≡ None
     → Gave (number (field 7 4) 4) attr q1 q2 → attr_test xtarget kind attr ≡ None
     → Gave (number (field 7 5) 4) op q2 q3 → op_test kind op ≡ None
-    → Gave (optional (kind == 5) (name_set_at version)) (names_in version kind q3.bytes q3.place) q3 q4
-    → q4.place ≡ names_end version kind q3.bytes q3.place → (q3.place ≤ length q3.bytes → q4.place ≤ length q3.bytes) → (kind ≡ 5 → HasNameSet version q3.bytes q3.place)
+    → Gave (sets_at version kind) (names_in kind q3.bytes q3.place, types_in version kind q3.bytes q3.place) q3 q4
+    → q4.place ≡ sets_end version kind q3.bytes q3.place → (q3.place ≤ length q3.bytes → q4.place ≤ length q3.bytes) → HasSets version kind q3.bytes q3.place
     → IsItemRead version xtarget left values q0 q4 kind
 unfolding item_at
 item_read version xtarget left values q0 q1 q2 q3 q4 kind attr op e1 t1 e2 t2 e3 t3 e4 next long has =
@@ -49,24 +50,24 @@ item_read version xtarget left values q0 q1 q2 q3 q4 kind attr op e1 t1 e2 t2 e3
     let here : q3 ≡ record { bytes = bytes; place = q0.place + 12 } = ap (λ (b : List ℕ). record { bytes = b; place = q3.place }) b3 ∙ ap (λ (p : ℕ). record { bytes = bytes; place = p }) place in
     let attr-is : attr ≡ num bytes (q0.place + 4) 4 = n2.0 ∙ ap (λ (p : ℕ). num bytes p 4) n1.1 in
     let op-is : op ≡ num bytes (q0.place + 8) 4 = n3.0 ∙ ap (λ (p : ℕ). num bytes p 4) (omega (arith, n1.1, n2.1)) in
-    let same : record { kind = kind; attr = attr; op = op; set = names_in version kind q3.bytes q3.place } ≡ item_in version bytes q0.place =
-    ap (λ (x : ℕ). record { kind = x; attr = attr; op = op; set = names_in version x q3.bytes q3.place }) n1.0
-    ∙ ap (λ (x : ℕ). record { kind = num bytes q0.place 4; attr = x; op = op; set = names_in version (num bytes q0.place 4) q3.bytes q3.place }) attr-is
-    ∙ ap (λ (x : ℕ). record { kind = num bytes q0.place 4; attr = num bytes (q0.place + 4) 4; op = x; set = names_in version (num bytes q0.place 4) q3.bytes q3.place }) op-is
-    ∙ ap (λ (q : Position). record { kind = num bytes q0.place 4; attr = num bytes (q0.place + 4) 4; op = num bytes (q0.place + 8) 4; set = names_in version (num bytes q0.place 4) q.bytes q.place }) here in
-    let rest : ℕ → ℕ → ℕ → ℕ → Outcome ConstraintItem = λ kind attr op p. and_then (optional (kind == 5) (name_set_at version) bytes p) (λ set k. Got (record { kind = kind; attr = attr; op = op; set = set }) k) in
+    let same : record { kind = kind; attr = attr; op = op; names = names_in kind q3.bytes q3.place; type_set = types_in version kind q3.bytes q3.place } ≡ item_in version bytes q0.place =
+    ap (λ (x : ℕ). record { kind = x; attr = attr; op = op; names = names_in x q3.bytes q3.place; type_set = types_in version x q3.bytes q3.place }) n1.0
+    ∙ ap (λ (x : ℕ). record { kind = num bytes q0.place 4; attr = x; op = op; names = names_in (num bytes q0.place 4) q3.bytes q3.place; type_set = types_in version (num bytes q0.place 4) q3.bytes q3.place }) attr-is
+    ∙ ap (λ (x : ℕ). record { kind = num bytes q0.place 4; attr = num bytes (q0.place + 4) 4; op = x; names = names_in (num bytes q0.place 4) q3.bytes q3.place; type_set = types_in version (num bytes q0.place 4) q3.bytes q3.place }) op-is
+    ∙ ap (λ (q : Position). record { kind = num bytes q0.place 4; attr = num bytes (q0.place + 4) 4; op = num bytes (q0.place + 8) 4; names = names_in (num bytes q0.place 4) q.bytes q.place; type_set = types_in version (num bytes q0.place 4) q.bytes q.place }) here in
+    let rest : ℕ → ℕ → ℕ → ℕ → Outcome ConstraintItem = λ kind attr op p. and_then (sets_at version kind bytes p) (λ sets k. Got (record { kind = kind; attr = attr; op = op; names = sets.0; type_set = sets.1 }) k) in
     let whole =
     ap (λ (o : Outcome ℕ). and_then o (λ kind m. and_then (and_then (number (field 7 4) 4 bytes m) (λ x k. judged (attr_test xtarget kind x) (field 7 4) x m k)) (λ attr n. and_then (and_then (number (field 7 5) 4 bytes n) (λ x k. judged (op_test kind x) (field 7 5) x n k)) (λ op p. rest kind attr op p)))) (kept (field 7 3) (kind_test left values) (number (field 7 3) 4 bytes q0.place) q0.place kind q1.place e1.0 t1)
     ∙ ap (λ (o : Outcome ℕ). and_then o (λ attr n. and_then (and_then (number (field 7 5) 4 bytes n) (λ x k. judged (op_test kind x) (field 7 5) x n k)) (λ op p. rest kind attr op p))) (kept (field 7 4) (attr_test xtarget kind) (number (field 7 4) 4 bytes q1.place) q1.place attr q2.place r2 t2)
     ∙ ap (λ (o : Outcome ℕ). and_then o (λ op p. rest kind attr op p)) (kept (field 7 5) (op_test kind) (number (field 7 5) 4 bytes q2.place) q2.place op q3.place r3 t3)
-    ∙ ap (λ (b : List ℕ). and_then (optional (kind == 5) (name_set_at version) b q3.place) (λ set k. Got (record { kind = kind; attr = attr; op = op; set = set }) k)) (sym b3)
-    ∙ ap (λ (o : Outcome (Option NameSet)). and_then o (λ set k. Got (record { kind = kind; attr = attr; op = op; set = set }) k)) e4.0
+    ∙ ap (λ (b : List ℕ). and_then (sets_at version kind b q3.place) (λ sets k. Got (record { kind = kind; attr = attr; op = op; names = sets.0; type_set = sets.1 }) k)) (sym b3)
+    ∙ ap (λ (o : Outcome (Option (List Node) × Option TypeSet)). and_then o (λ sets k. Got (record { kind = kind; attr = attr; op = op; names = sets.0; type_set = sets.1 }) k)) e4.0
     ∙ ap (λ (x : ConstraintItem). Got x q4.place) same in
-    let ends : q4.place ≡ item_end version bytes q0.place = next ∙ ap (λ (x : ℕ). names_end version x q3.bytes q3.place) n1.0 ∙ ap (λ (q : Position). names_end version (num bytes q0.place 4) q.bytes q.place) here in
+    let ends : q4.place ≡ item_end version bytes q0.place = next ∙ ap (λ (x : ℕ). sets_end version x q3.bytes q3.place) n1.0 ∙ ap (λ (q : Position). sets_end version (num bytes q0.place 4) q.bytes q.place) here in
     let short : q4.place ≤ length bytes = rw (← b3) (long (rw b3 (n3.2))) in
     record {
       exact = (whole, e4.1 ∙ b3);
       next = ends;
-      has = (omega (arith, place, n3.2), subst (λ (k : ℕ). 1 ≤ k) n1.0 (kind_known left values kind t1), λ five. subst (λ (q : Position). HasNameSet version q.bytes q.place) here (has (n1.0 ∙ five)), rw (← ends) short);
+      has = (omega (arith, place, n3.2), subst (λ (k : ℕ). 1 ≤ k) n1.0 (kind_known left values kind t1), subst (λ (q : Position). HasSets version (num bytes q0.place 4) q.bytes q.place) here (subst (λ (k : ℕ). HasSets version k q3.bytes q3.place) n1.0 has), rw (← ends) short);
       kind_is = n1.0;
     }

@@ -1,20 +1,19 @@
 -- The text of a constraint (this project's profile, in the words of the policy language).
 use Rattle.std.specs.Prelude.{◌≡◌, ℕ, ◌+◌, ◌^◌, ◌≤◌, ◌==◌, ◌||◌, nat_lt, if◌then◌else◌, Option, None, MatchOption, List, [], ◌∷◌, ◌++◌, codes}
-use Rattle.std.specs.Ordering.{nat_cmp}
 use Rattle.std.specs.List.{flat_map}
-use Rattle.std.specs.List.Sorted.{IsSorted, IsPermutation}
-use Rattle.std.specs.Cmp.Lexicographic.{slice_cmp}
 use Rattle.std.specs.Option.{option_to_list}
 use Rattle.pol_cursor.specs.declared.table_kind.TableKind.{TableKind}
 use Rattle.pol_cursor.specs.declared.table_kind.TableKind.TheVariants.{Users, Roles, Types}
 use Rattle.pol_cursor.specs.References.{Named}
 use Rattle.pol_bitmap.specs.Nodes.{bits_of}
+use Rattle.pol_texts.specs.NameLists.{IsInOrder}
+use Rattle.pol_texts.specs.SetTexts.{set_text}
 use Rattle.pol_expr.specs.declared.Symbol.{Symbol}
 use Rattle.pol_expr.specs.declared.Symbol.TheVariants as symbols
 use Rattle.pol_constraints.specs.declared.junction.Junction.{Junction}
 use Rattle.pol_constraints.specs.declared.junction.Junction.TheVariants.{And, Or}
 use Rattle.pol_constraints.specs.declared.constraint_rec.ConstraintItem.{ConstraintItem}
-use Rattle.pol_constraints.specs.declared.constraint_rec.NameSet.{NameSet}
+use Rattle.pol_bitmap.specs.declared.node.Node.{Node}
 use Rattle.pol_expr.specs.Infix.{Words, infix_of}
 use Rattle.pol_expr.specs.Trees.{Tree, postorder}
 
@@ -84,31 +83,17 @@ name_of_bit named table bit = if nat_lt (bit + 1) (2 ^ 32) then named table (bit
 abbrev pub names_of : Named → TableKind → List ℕ → List (List ℕ)
 names_of named table bits = flat_map (λ bit. option_to_list (name_of_bit named table bit)) bits
 
--- names in the order of their bytes
-pub record IsInOrder (names sorted : List (List ℕ)) : Type 0 where
-  pub same : IsPermutation names sorted
-  pub rises : IsSorted (slice_cmp nat_cmp) sorted
-
-abbrev pub listed : List (List ℕ) → List ℕ
-listed names = flat_map (λ name. codes " " ++ name) names
-
--- One name is itself, and otherwise they stand in braces.
-abbrev pub set_text : List (List ℕ) → List ℕ
-set_text [] = codes "{ }"
-set_text (name ∷ []) = name
-set_text (name ∷ next ∷ names) = codes "{" ++ listed (name ∷ next ∷ names) ++ codes " }"
-
 abbrev pub IsSetText : Named → TableKind → List ℕ → List ℕ → Type 0
 IsSetText named table bits text = (sorted : List (List ℕ)) × IsInOrder (names_of named table bits) sorted × (text ≡ set_text sorted)
 
 -- ---- items
 
-abbrev pub IsSideText : Named → ConstraintItem → NameSet → List ℕ → Type 0
-IsSideText named item set text = (names : List ℕ) × IsSetText named (side_table item.attr) (bits_of set.names) names × (text ≡ side_word item.attr ++ op_word item.op ++ names)
+abbrev pub IsSideText : Named → ConstraintItem → List Node → List ℕ → Type 0
+IsSideText named item set text = (names : List ℕ) × IsSetText named (side_table item.attr) (bits_of set) names × (text ≡ side_word item.attr ++ op_word item.op ++ names)
 
 -- the text of an item that compares two sides, or a side with names
 abbrev pub IsLeafText : Named → ConstraintItem → List ℕ → Type 0
-IsLeafText named item text = MatchOption item.set (text ≡ left_word item.attr ++ op_word item.op ++ right_word item.attr) (λ set. IsSideText named item set text)
+IsLeafText named item text = MatchOption item.names (text ≡ left_word item.attr ++ op_word item.op ++ right_word item.attr) (λ set. IsSideText named item set text)
 
 -- a symbol stands for an item: 1 is not, 2 and, 3 or, and the kinds above are leaves with a text
 abbrev pub IsSymbol : Named → ConstraintItem → Symbol (List ℕ) Junction → Type 0

@@ -7,10 +7,10 @@ use Rattle.pol_cursor.specs.Outcome.{Reader, field, ◌>>=◌, done}
 use Rattle.pol_cursor.specs.Parts.{num, number, number_if, list_of, optional, spell_optional, OptionFits, unless}
 use Rattle.pol_cursor.specs.Spelling.{bytes_of}
 use Rattle.pol_bitmap.specs.Bitmap.{bitmap_at, spell_bitmap, BitmapFits}
+use Rattle.pol_bitmap.specs.declared.node.Node.{Node}
 use Rattle.pol_bitmap.specs.Nodes.{bitmap_in, bitmap_size, HasBitmap}
 use Rattle.pol_constraints.specs.declared.constraint_rec.ConstraintItem.{ConstraintItem}
 use Rattle.pol_constraints.specs.declared.constraint_rec.ConstraintRec.{ConstraintRec}
-use Rattle.pol_constraints.specs.declared.constraint_rec.NameSet.{NameSet}
 use Rattle.pol_constraints.specs.declared.constraint_rec.TypeSet.{TypeSet}
 use Rattle.pol_expr.specs.Postfix.{values_after, operands_test, item_count_test, IsPostfix}
 
@@ -48,9 +48,13 @@ op_test kind op = unless (if kind == 4 then nat_le 1 op && nat_le op 5 else if k
 
 -- ---- reading and spelling
 
--- From version 29 on the names have beside them the types and attributes that they were written with.
-abbrev pub has_type_set : ℕ → Bool
-has_type_set version = nat_le 29 version
+-- an item with names has the kind 5 (libsepol's CEXPR_NAMES)
+abbrev pub has_names : ℕ → Bool
+has_names kind = kind == 5
+
+-- From version 29 on the names have behind them the types and attributes that they were written with.
+abbrev pub has_type_set : ℕ → ℕ → Bool
+has_type_set version kind = kind == 5 && nat_le 29 version
 
 unfoldable pub type_set_at : Reader TypeSet
 type_set_at = do
@@ -59,11 +63,12 @@ type_set_at = do
   flags ← number (field 7 6) 4
   done (record { types = types; negated = negated; flags = flags })
 
-unfoldable pub name_set_at : ℕ → Reader NameSet
-name_set_at version = do
-  names ← bitmap_at None
-  written ← optional (has_type_set version) type_set_at
-  done (record { names = names; written = written })
+-- the names of an item of a kind, and its type set
+unfoldable pub sets_at : ℕ → ℕ → Reader (Option (List Node) × Option TypeSet)
+sets_at version kind = do
+  names ← optional (has_names kind) (bitmap_at None)
+  type_set ← optional (has_type_set version kind) type_set_at
+  done (names, type_set)
 
 -- an item before which so many values stand, and after which so many items are left
 unfoldable pub item_at : ℕ → Bool → ℕ → ℕ → Reader ConstraintItem
@@ -71,8 +76,8 @@ item_at version xtarget left values = do
   kind ← number_if (field 7 3) 4 (kind_test left values)
   attr ← number_if (field 7 4) 4 (attr_test xtarget kind)
   op ← number_if (field 7 5) 4 (op_test kind)
-  set ← optional (kind == 5) (name_set_at version)
-  done (record { kind = kind; attr = attr; op = op; set = set })
+  sets ← sets_at version kind
+  done (record { kind = kind; attr = attr; op = op; names = sets.0; type_set = sets.1 })
 
 abbrev pub values_after_item : ℕ → ConstraintItem → ℕ
 values_after_item values item = values_after values (item_operands item)
@@ -90,11 +95,8 @@ constraint_at version xtarget = do
 abbrev pub spell_type_set : TypeSet → List ℕ
 spell_type_set set = spell_bitmap set.types ++ spell_bitmap set.negated ++ bytes_of 4 set.flags
 
-abbrev pub spell_name_set : NameSet → List ℕ
-spell_name_set set = spell_bitmap set.names ++ spell_optional spell_type_set set.written
-
 abbrev pub spell_item : ConstraintItem → List ℕ
-spell_item item = bytes_of 4 item.kind ++ bytes_of 4 item.attr ++ bytes_of 4 item.op ++ spell_optional spell_name_set item.set
+spell_item item = bytes_of 4 item.kind ++ bytes_of 4 item.attr ++ bytes_of 4 item.op ++ spell_optional spell_bitmap item.names ++ spell_optional spell_type_set item.type_set
 
 abbrev pub spell_constraint : ConstraintRec → List ℕ
 spell_constraint constraint = bytes_of 4 constraint.permissions ++ bytes_of 4 (length constraint.items) ++ flat_map spell_item constraint.items
@@ -104,16 +106,14 @@ pub record TypeSetFits (set : TypeSet) : Type 0 where
   pub negated : BitmapFits set.negated
   pub flags : set.flags < 2 ^ 32
 
-pub record NameSetFits (version : ℕ) (set : NameSet) : Type 0 where
-  pub names : BitmapFits set.names
-  pub written : OptionFits (has_type_set version) TypeSetFits set.written
-
--- The numbers of an item fit their fields, and it has names exactly where its kind is 5.
+-- The numbers of an item fit their fields, and it has names exactly where its kind is 5, and a type set where in such an item
+-- the version is 29 or later.
 pub record ItemFits (version : ℕ) (item : ConstraintItem) : Type 0 where
   pub kind : item.kind < 2 ^ 32
   pub attr : item.attr < 2 ^ 32
   pub op : item.op < 2 ^ 32
-  pub set : OptionFits (item.kind == 5) (NameSetFits version) item.set
+  pub names : OptionFits (has_names item.kind) BitmapFits item.names
+  pub type_set : OptionFits (has_type_set version item.kind) TypeSetFits item.type_set
 
 pub record ConstraintFits (version : ℕ) (constraint : ConstraintRec) : Type 0 where
   pub permissions : constraint.permissions < 2 ^ 32
@@ -135,25 +135,25 @@ type_set_in bytes place = record { types = bitmap_in bytes place; negated = bitm
 unfoldable pub type_set_end : List ℕ → ℕ → ℕ
 type_set_end bytes place = flags_place bytes place + 4
 
--- names, and from version 29 on a type set behind them
-unfoldable pub name_set_in : ℕ → List ℕ → ℕ → NameSet
-name_set_in version bytes place = record { names = bitmap_in bytes place; written = if has_type_set version then Some (type_set_in bytes (place + bitmap_size bytes place)) else None }
+-- the names of an item of a kind, and the place behind them
+unfoldable pub names_in : ℕ → List ℕ → ℕ → Option (List Node)
+names_in kind bytes place = if has_names kind then Some (bitmap_in bytes place) else None
 
-unfoldable pub name_set_end : ℕ → List ℕ → ℕ → ℕ
-name_set_end version bytes place = if has_type_set version then type_set_end bytes (place + bitmap_size bytes place) else place + bitmap_size bytes place
+unfoldable pub names_end : ℕ → List ℕ → ℕ → ℕ
+names_end kind bytes place = if has_names kind then place + bitmap_size bytes place else place
 
--- the names of an item, which only the kind 5 has
-unfoldable pub names_in : ℕ → ℕ → List ℕ → ℕ → Option NameSet
-names_in version kind bytes place = if kind == 5 then Some (name_set_in version bytes place) else None
+-- its type set, behind the names, and the place behind it
+unfoldable pub types_in : ℕ → ℕ → List ℕ → ℕ → Option TypeSet
+types_in version kind bytes place = if has_type_set version kind then Some (type_set_in bytes (place + bitmap_size bytes place)) else None
 
-unfoldable pub names_end : ℕ → ℕ → List ℕ → ℕ → ℕ
-names_end version kind bytes place = if kind == 5 then name_set_end version bytes place else place
+unfoldable pub sets_end : ℕ → ℕ → List ℕ → ℕ → ℕ
+sets_end version kind bytes place = if has_type_set version kind then type_set_end bytes (place + bitmap_size bytes place) else names_end kind bytes place
 
 abbrev pub item_in : ℕ → List ℕ → ℕ → ConstraintItem
-item_in version bytes place = record { kind = num bytes place 4; attr = num bytes (place + 4) 4; op = num bytes (place + 8) 4; set = names_in version (num bytes place 4) bytes (place + 12) }
+item_in version bytes place = record { kind = num bytes place 4; attr = num bytes (place + 4) 4; op = num bytes (place + 8) 4; names = names_in (num bytes place 4) bytes (place + 12); type_set = types_in version (num bytes place 4) bytes (place + 12) }
 
 abbrev pub item_end : ℕ → List ℕ → ℕ → ℕ
-item_end version bytes place = names_end version (num bytes place 4) bytes (place + 12)
+item_end version bytes place = sets_end version (num bytes place 4) bytes (place + 12)
 
 -- the n items that stand from a place on, and where they end
 unfoldable pub items_in : ℕ → List ℕ → ℕ → ℕ → List ConstraintItem
@@ -174,13 +174,13 @@ constraint_end version bytes place = items_end version bytes (place + 8) (num by
 unfoldable pub HasTypeSet : List ℕ → ℕ → Type 0
 HasTypeSet bytes place = HasBitmap bytes place × HasBitmap bytes (negated_place bytes place) × (type_set_end bytes place ≤ length bytes)
 
--- names stand there, and from version 29 on a type set behind them
-unfoldable pub HasNameSet : ℕ → List ℕ → ℕ → Type 0
-HasNameSet version bytes place = HasBitmap bytes place × (has_type_set version ≡ true → HasTypeSet bytes (place + bitmap_size bytes place))
+-- the names of an item of a kind stand there, and its type set behind them
+unfoldable pub HasSets : ℕ → ℕ → List ℕ → ℕ → Type 0
+HasSets version kind bytes place = (kind ≡ 5 → HasBitmap bytes place) × (has_type_set version kind ≡ true → HasTypeSet bytes (place + bitmap_size bytes place))
 
 -- an item of a kind stands there, with its names where it has some
 abbrev pub HasItem : ℕ → List ℕ → ℕ → Type 0
-HasItem version bytes place = (place + 12 ≤ length bytes) × (1 ≤ num bytes place 4) × (num bytes place 4 ≡ 5 → HasNameSet version bytes (place + 12)) × (item_end version bytes place ≤ length bytes)
+HasItem version bytes place = (place + 12 ≤ length bytes) × (1 ≤ num bytes place 4) × HasSets version (num bytes place 4) bytes (place + 12) × (item_end version bytes place ≤ length bytes)
 
 unfoldable pub HasItems : ℕ → List ℕ → ℕ → ℕ → Type 0
 HasItems version bytes place zero = Unit {0}

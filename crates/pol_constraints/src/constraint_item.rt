@@ -2,9 +2,11 @@ ghost use Rattle.std.specs.Prelude.{◌≡◌, ◌≤◌, IfOk, length};
 ghost use Rattle.std.specs.Iterator.{YieldsFirst, item_count};
 ghost use Rattle.pol_constraints.specs.ConstraintRecord.{item_in, items_in, HasItem, HasItems};
 
-use crate::constraint_names::NameSetView;
-use crate::constraint_places::item_end;
+use crate::constraint_places::{bitmap_end, item_end};
+use crate::constraint_reading::TYPE_SETS;
 use crate::constraint_rec::ConstraintItem;
+use crate::type_set_view::TypeSetView;
+use pol_bitmap::{BitmapView, Set};
 use pol_cursor::u32_in;
 use std::alloc::{AllocError, Global};
 use std::marker::Model;
@@ -65,31 +67,48 @@ impl<'a> ConstraintItemView<'a> {
         u32_in(self.bytes, self.place as usize + 8)
     }
 
-    /// The names, where the kind is 5.
-    #[tactic(auto, unfolding(crate::specs::ConstraintRecord::names_in))]
-    pub fn set(&self) -> Option<NameSetView<'a>>
-        ensures { result ≡ self.now.set }
+    /// The names, where the kind is 5: bit v - 1 stands for the user, role or type of value v.
+    #[tactic(auto, unfolding(crate::specs::ConstraintRecord::names_in, crate::specs::ConstraintRecord::HasSets))]
+    pub fn names(&self) -> Option<BitmapView<'a>>
+        ensures { result ≡ self.now.names }
     {
         if self.kind() == 5 {
-            Some(NameSetView::at(self.bytes, self.place + 12, self.version))
+            Some(BitmapView::at(self.bytes, self.place + 12))
         } else {
             None
         }
     }
 
-    /// The same item, owned.
+    /// How the names were written, where the kind is 5 and the version is 29 or later.
+    #[tactic(auto, unfolding(crate::specs::ConstraintRecord::types_in, crate::specs::ConstraintRecord::HasSets))]
+    pub fn type_set(&self) -> Option<TypeSetView<'a>>
+        ensures { result ≡ self.now.type_set }
+    {
+        if self.kind() != 5 || self.version < TYPE_SETS {
+            return None;
+        }
+        let place = bitmap_end(self.bytes, self.place + 12);
+        Some(TypeSetView::at(self.bytes, place))
+    }
+
+    /// A copy of the item.
     pub fn rec(&self, alloc: Global) -> Result<ConstraintItem, AllocError>
         ensures { IfOk result (λ item. item ≡ self.now) }
     {
-        let set = match self.set() {
-            Some(set) => Some(set.rec(alloc)?),
+        let names = match self.names() {
+            Some(names) => Some(Set::from_view(alloc, &names)?),
+            None => None,
+        };
+        let type_set = match self.type_set() {
+            Some(type_set) => Some(type_set.rec(alloc)?),
             None => None,
         };
         Ok(ConstraintItem {
             kind: self.kind(),
             attr: self.attr(),
             op: self.op(),
-            set,
+            names,
+            type_set,
         })
     }
 }

@@ -2,32 +2,23 @@
 
 ghost use Rattle.std.specs.Prelude.{◌≡◌, ◌≤◌, ◌+◌, length};
 ghost use Rattle.pol_bitmap.specs.Nodes.{bitmap_size, HasBitmap};
-ghost use Rattle.pol_constraints.specs.ConstraintRecord.{flags_place, type_set_end, name_set_end, item_end, HasTypeSet, HasNameSet, HasItem};
+ghost use Rattle.pol_constraints.specs.ConstraintRecord.{flags_place, type_set_end, item_end, HasTypeSet, HasItem};
 
 use crate::constraint_reading::TYPE_SETS;
 use pol_bitmap::BitmapView;
 use pol_cursor::u32_in;
 
 /// The place behind an item.
-#[tactic(auto, unfolding(crate::specs::ConstraintRecord::names_end))]
+#[tactic(auto, unfolding(crate::specs::ConstraintRecord::names_end, crate::specs::ConstraintRecord::sets_end, crate::specs::ConstraintRecord::HasSets))]
 pub fn item_end(bytes: &[u8], place: u32, version: u32) -> u32
     requires item { HasItem version bytes.now place }
     requires small { length bytes.now ≤ 67108864 }
     ensures { result ≡ item_end version bytes.now place }
 {
-    if u32_in(bytes, place as usize) == 5 {
-        name_set_end(bytes, place + 12, version)
-    } else {
-        place + 12
+    if u32_in(bytes, place as usize) != 5 {
+        return place + 12;
     }
-}
-
-#[tactic(auto, unfolding(crate::specs::ConstraintRecord::name_set_end, crate::specs::ConstraintRecord::HasNameSet))]
-fn name_set_end(bytes: &[u8], place: u32, version: u32) -> u32
-    requires { HasNameSet version bytes.now place }
-    ensures { result ≡ name_set_end version bytes.now place }
-{
-    let end = bitmap_end(bytes, place);
+    let end = bitmap_end(bytes, place + 12);
     if version < TYPE_SETS {
         end
     } else {

@@ -2,7 +2,7 @@ ghost use Rattle.std.specs.Prelude.{◌≡◌, ◌==◌, ◌≤◌, IfOk, OnOk, 
 ghost use Rattle.pol_cursor.specs.Outcome.{Answers};
 ghost use Rattle.pol_cursor.specs.Parts.{num, optional};
 ghost use Rattle.pol_expr.specs.Postfix.{values_after};
-ghost use Rattle.pol_constraints.specs.ConstraintRecord.{type_set_at, type_set_in, type_set_end, name_set_at, name_set_in, name_set_end, names_in, names_end, item_at, item_in, item_end, items_at, items_in, items_end, kind_operands, HasTypeSet, HasNameSet, HasItem, HasItems, IsExpression};
+ghost use Rattle.pol_constraints.specs.ConstraintRecord.{type_set_at, type_set_in, type_set_end, sets_at, names_in, types_in, names_end, sets_end, item_at, item_in, item_end, items_at, items_in, items_end, kind_operands, HasTypeSet, HasSets, HasItem, HasItems, IsExpression};
 
 use crate::constraint_causes::{attr_cause, kind_cause, kind_operands, op_cause};
 use pol_bitmap::BitmapView;
@@ -31,32 +31,22 @@ fn pass_type_set(c: &mut Cursor<'_>) -> Result<(), Fault>
     Ok(())
 }
 
-// Reads the names of an item and keeps nothing of them.
-#[tactic(auto, unfolding(crate::specs::ConstraintRecord::name_set_at, crate::specs::ConstraintRecord::name_set_in, crate::specs::ConstraintRecord::name_set_end, crate::specs::ConstraintRecord::HasNameSet, pol_cursor::specs::Parts::optional))]
-fn pass_name_set(c: &mut Cursor<'_>, version: u32) -> Result<(), Fault>
-    ensures exact { Answers (λ _. name_set_in version c.old.bytes c.old.place) result (name_set_at version) c.old c.new }
-    ensures next { OnOk result ((c.new.place ≡ name_set_end version c.old.bytes c.old.place) × (c.new.place ≤ length c.old.bytes)) }
-    ensures has { OnOk result (HasNameSet version c.old.bytes c.old.place) }
+// Reads the names of an item of a kind and its type set, and keeps nothing of them.
+#[tactic(auto, unfolding(crate::specs::ConstraintRecord::sets_at, crate::specs::ConstraintRecord::names_in, crate::specs::ConstraintRecord::names_end, crate::specs::ConstraintRecord::types_in, crate::specs::ConstraintRecord::sets_end, crate::specs::ConstraintRecord::HasSets, pol_cursor::specs::Parts::optional))]
+fn pass_sets(c: &mut Cursor<'_>, version: u32, kind: u32) -> Result<(), Fault>
+    ensures exact { Answers (λ _. (names_in kind c.old.bytes c.old.place, types_in version kind c.old.bytes c.old.place)) result (sets_at version kind) c.old c.new }
+    ensures next { OnOk result (c.new.place ≡ sets_end version kind c.old.bytes c.old.place) }
+    ensures long { OnOk result (c.old.place ≤ length c.old.bytes → c.new.place ≤ length c.old.bytes) }
+    ensures has { OnOk result (HasSets version kind c.old.bytes c.old.place) }
 {
+    if kind != 5 {
+        return Ok(());
+    }
     BitmapView::read(c)?;
     if version < TYPE_SETS {
         return Ok(());
     }
     pass_type_set(c)
-}
-
-// Reads the names of an item of a kind, and keeps nothing of them.
-#[tactic(auto, unfolding(crate::specs::ConstraintRecord::names_in, crate::specs::ConstraintRecord::names_end, pol_cursor::specs::Parts::optional))]
-fn pass_names(c: &mut Cursor<'_>, version: u32, kind: u32) -> Result<(), Fault>
-    ensures exact { Answers (λ _. names_in version kind c.old.bytes c.old.place) result (optional (kind == 5) (name_set_at version)) c.old c.new }
-    ensures next { OnOk result (c.new.place ≡ names_end version kind c.old.bytes c.old.place) }
-    ensures long { OnOk result (c.old.place ≤ length c.old.bytes → c.new.place ≤ length c.old.bytes) }
-    ensures has { OnOk result (kind ≡ 5 → HasNameSet version c.old.bytes c.old.place) }
-{
-    if kind != 5 {
-        return Ok(());
-    }
-    pass_name_set(c, version)
 }
 
 /// Reads an item before which so many values stand, and after which so many items are left. Answers the values after it.
@@ -96,7 +86,7 @@ pub fn pass_item(
     let op = c.u32(field)?;
     refuse(op_cause(kind, op), place, field)?;
     let after = values + 1 - kind_operands(kind);
-    pass_names(c, version, kind)?;
+    pass_sets(c, version, kind)?;
     Ok(after)
 }
 

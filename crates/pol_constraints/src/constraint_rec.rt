@@ -1,6 +1,9 @@
 use pol_bitmap::Set;
 use pol_cursor::OwnedList;
 
+/// Constraints, owned.
+pub type ConstraintRecList = OwnedList<ConstraintRec>;
+
 /// The expression of a constraint, owned.
 #[derive(Drop)]
 pub struct ConstraintRec {
@@ -19,17 +22,10 @@ pub struct ConstraintItem {
     pub attr: u32,
     /// 1 equal, 2 not equal, 3 dom, 4 domby, 5 incomp. It has no meaning for the kinds 1 to 3.
     pub op: u32,
-    /// The names, where the kind is 5.
-    pub set: Option<NameSet>,
-}
-
-/// The names that an item of a constraint compares with.
-#[derive(Drop)]
-pub struct NameSet {
-    /// Bit v - 1 stands for the user, role or type of value v.
-    pub names: Set,
-    /// How the names were written, from version 29 on.
-    pub written: Option<TypeSet>,
+    /// The names, where the kind is 5: bit v - 1 stands for the user, role or type of value v.
+    pub names: Option<Set>,
+    /// How the names were written, where the kind is 5 and the version is 29 or later.
+    pub type_set: Option<TypeSet>,
 }
 
 /// Types and attributes as they were written. They are kept.

@@ -1,12 +1,14 @@
 //! The words of constraints, and the texts of their leaves.
 
-ghost use Rattle.std.specs.Prelude.{◌≡◌, ◌+◌, ◌++◌, ℕ, IfOk, OnOk, map, option_map};
+ghost use Rattle.std.specs.Prelude.{◌≡◌, ◌+◌, ℕ, IfOk, map, option_map};
 ghost use Rattle.pol_bitmap.specs.Nodes.{bits_of};
-ghost use Rattle.pol_constraints.specs.ConstraintMeaning.{left_word, right_word, side_word, side_table, op_word, name_of_bit, names_of, listed, set_text, IsSetText, IsLeafText};
+ghost use Rattle.pol_constraints.specs.ConstraintMeaning.{left_word, right_word, side_word, side_table, op_word, name_of_bit, names_of, IsSetText, IsLeafText};
+ghost use Rattle.pol_texts.specs.SetTexts.{set_text};
 
 use crate::constraint_item::ConstraintItemView;
 use pol_bitmap::BitmapView;
 use pol_cursor::{Names, TableKind};
+use pol_texts::push_set;
 use std::alloc::{AllocError, Global};
 
 /// The text of an item that is a leaf.
@@ -20,14 +22,14 @@ pub fn leaf_text<N: Names>(
     let attr = item.attr();
     let op = op_word(item.op());
     let mut text = Vec::new(alloc);
-    match item.set() {
+    match item.names() {
         None => {
             text.extend_from_slice(left_word(attr))?;
             text.extend_from_slice(op)?;
             text.extend_from_slice(right_word(attr))?;
         }
-        Some(set) => {
-            let names = set_text(alloc, side_table(attr), &set.names(), names)?;
+        Some(listed) => {
+            let names = set_text(alloc, side_table(attr), &listed, names)?;
             text.extend_from_slice(side_word(attr))?;
             text.extend_from_slice(op)?;
             text.extend_from_slice(&names)?;
@@ -80,26 +82,9 @@ fn name_of_bit<N: Names>(table: TableKind, bit: u32, names: &N) -> Option<&[u8]>
 fn text_of_set(alloc: Global, names: &[&[u8]]) -> Result<Vec<u8>, AllocError>
     ensures { IfOk result (λ text. text.items ≡ set_text (map (λ name. name.now) names.now)) }
 {
-    match names {
-        [name] => Vec::from_slice(alloc, name),
-        _ => {
-            let mut text = Vec::from_slice(alloc, b"{")?;
-            push_listed(&mut text, names)?;
-            text.extend_from_slice(b" }")?;
-            Ok(text)
-        }
-    }
-}
-
-// Appends names, with a space before each.
-fn push_listed(text: &mut Vec<u8>, names: &[&[u8]]) -> Result<(), AllocError>
-    ensures { OnOk result (text.new.items ≡ text.old.items ++ listed (map (λ name. name.now) names.now)) }
-{
-    for name in names {
-        text.push(b' ')?;
-        text.extend_from_slice(name)?;
-    }
-    Ok(())
+    let mut text = Vec::new(alloc);
+    push_set(&mut text, names)?;
+    Ok(text)
 }
 
 fn left_word(attr: u32) -> &'static [u8]

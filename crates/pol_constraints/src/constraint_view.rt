@@ -1,9 +1,8 @@
-ghost use Rattle.std.specs.Prelude.{◌≡◌, ◌<◌, IfOk, OnOk, Some, length, slice_get, option_map, option_and_then};
+ghost use Rattle.std.specs.Prelude.{◌≡◌, ◌<◌, IfOk, OnOk, Some, length, slice_get, option_map};
 ghost use Rattle.pol_cursor.specs.Outcome.{Answers};
 ghost use Rattle.pol_constraints.specs.ConstraintRecord.{constraint_at, constraint_in, constraint_end, HasConstraint, IsExpression};
 
 use crate::constraint_item::{ConstraintItemView, ConstraintItems};
-use crate::constraint_names::TypeSetView;
 use crate::constraint_reading::{CONSTRAINT, pass_items};
 use crate::constraint_rec::ConstraintRec;
 use pol_bitmap::BitmapView;
@@ -110,20 +109,38 @@ impl<'a> ConstraintView<'a> {
     /// The names of the item of that number, where its kind is 5: bit v - 1 stands for the user, role or type of value v.
     pub fn names(&self, i: u32) -> Option<BitmapView<'a>>
         requires { i < length self.now.items }
-        ensures { option_map (λ item. option_map (λ set. set.names) item.set) (slice_get self.now.items i) ≡ Some result }
+        ensures { option_map (λ item. item.names) (slice_get self.now.items i) ≡ Some result }
     {
-        Some(self.item(i).set()?.names())
+        self.item(i).names()
     }
 
-    /// How the names of the item of that number were written, where its kind is 5 and the version is 29 or later.
-    pub fn written(&self, i: u32) -> Option<TypeSetView<'a>>
+    /// The types and attributes that the names of the item of that number were written with, where its kind is 5 and the
+    /// version is 29 or later.
+    pub fn types(&self, i: u32) -> Option<BitmapView<'a>>
         requires { i < length self.now.items }
-        ensures { option_map (λ item. option_and_then (λ set. set.written) item.set) (slice_get self.now.items i) ≡ Some result }
+        ensures { option_map (λ item. option_map (λ set. set.types) item.type_set) (slice_get self.now.items i) ≡ Some result }
     {
-        self.item(i).set()?.written()
+        Some(self.item(i).type_set()?.types())
     }
 
-    /// The same constraint, owned.
+    /// The types and attributes that were excluded from the names of the item of that number, where its kind is 5 and the
+    /// version is 29 or later.
+    pub fn negated(&self, i: u32) -> Option<BitmapView<'a>>
+        requires { i < length self.now.items }
+        ensures { option_map (λ item. option_map (λ set. set.negated) item.type_set) (slice_get self.now.items i) ≡ Some result }
+    {
+        Some(self.item(i).type_set()?.negated())
+    }
+
+    /// The flags of the type set of the item of that number, where its kind is 5 and the version is 29 or later. They are kept.
+    pub fn flags(&self, i: u32) -> Option<u32>
+        requires { i < length self.now.items }
+        ensures { option_map (λ item. option_map (λ set. set.flags) item.type_set) (slice_get self.now.items i) ≡ Some result }
+    {
+        Some(self.item(i).type_set()?.flags())
+    }
+
+    /// A copy of the constraint.
     pub fn rec(&self, alloc: Global) -> Result<ConstraintRec, AllocError>
         ensures { IfOk result (λ constraint. constraint ≡ self.now) }
     {

@@ -9,7 +9,7 @@ pub enum Junction {
 }
 
 impl Junction {
-    /// Its text between two operands, with a space on each side.
+    /// The text of the operator between two operands, with a space on each side.
     pub fn text(self) -> &'static [u8]
         ensures { result.now ≡ junction_text self }
     {

@@ -4,7 +4,6 @@
 mod constraint_causes;
 mod constraint_infix;
 mod constraint_item;
-mod constraint_names;
 mod constraint_places;
 mod constraint_reading;
 mod constraint_rec;
@@ -13,11 +12,12 @@ mod constraint_view;
 mod constraint_write;
 mod junction;
 mod record_laws;
+mod type_set_view;
 
 pub use constraint_item::{ConstraintItemView, ConstraintItems};
-pub use constraint_names::{NameSetView, TypeSetView};
-pub use constraint_rec::{ConstraintItem, ConstraintRec, NameSet, TypeSet};
+pub use constraint_rec::{ConstraintItem, ConstraintRec, ConstraintRecList, TypeSet};
 pub use constraint_view::{ConstraintView, read_constraint};
 pub use constraint_write::write_constraint;
 pub use junction::Junction;
 pub use record_laws::{constraints_have_laws, constraints_have_one_tree};
+pub use type_set_view::TypeSetView;

@@ -1,3 +1,4 @@
+use pol_cursor::OwnedList;
 use pol_mls::RangeRec;
 
 /// A security context, owned.
@@ -12,3 +13,6 @@ pub struct ContextRec {
     /// The range of levels.
     pub range: RangeRec,
 }
+
+/// Security contexts, owned.
+pub type ContextRecList = OwnedList<ContextRec>;

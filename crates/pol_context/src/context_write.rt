@@ -1,23 +1,30 @@
-ghost use Rattle.std.specs.Prelude.{◌≡◌, ◌++◌, OnOk};
+ghost use Rattle.pol_cursor.specs.Writing.{Writes};
 ghost use Rattle.pol_context.specs.ContextRecord.{spell_context};
 
 use crate::context_rec::ContextRec;
-use pol_cursor::push_number;
-use pol_mls::write_range;
+use pol_cursor::{Part, Written};
 use std::alloc::AllocError;
 
-/// Appends the bytes of a context, which are the same in each version.
-///
-/// After want of memory a part of them may be there.
+/// Appends the bytes of a context, which are the same in each version. Out of memory, a beginning of them was appended.
 pub fn write_context(
     context: &ContextRec,
-    version: u32,
+    _version: u32,
     out: &mut Vec<u8>,
 ) -> Result<(), AllocError>
-    ensures { OnOk result (out.new.items ≡ out.old.items ++ spell_context context.now) }
+    ensures { Writes out.old.items out.new.items (spell_context context.now) result }
 {
-    push_number(out, 4, context.user as u64)?;
-    push_number(out, 4, context.role as u64)?;
-    push_number(out, 4, context.type_value as u64)?;
-    write_range(&context.range, version, out)
+    context.write(out)
+}
+
+impl Written for ContextRec {
+    ghost use Rattle.pol_context.specs.ContextRecord.{spell_context};
+
+    ghost spelling = { spell_context };
+
+    fn write(&self, out: &mut Vec<u8>) -> Result<(), AllocError> {
+        let user = Part::U32(self.user as u64);
+        let role = Part::U32(self.role as u64);
+        let type_value = Part::U32(self.type_value as u64);
+        (user, role, type_value, &self.range).write(out)
+    }
 }

@@ -9,10 +9,10 @@ mod parts;
 mod record_laws;
 mod texts;
 
-pub use context_rec::ContextRec;
+pub use context_rec::{ContextRec, ContextRecList};
 pub use context_view::{ContextView, read_context};
 pub use context_write::write_context;
 pub use entry_list::read_table;
-pub use parts::{array_in, context_end, name_end, name_standing, owned};
+pub use parts::{context_end, name_end, name_standing};
 pub use record_laws::contexts_have_laws;
 pub use texts::context_text;

@@ -4,8 +4,8 @@ ghost use Rattle.pol_cursor.specs.References.{dangling_of};
 ghost use Rattle.pol_contexts.specs.AddressRecord.{address_at, address_in, HasAddress, address_references};
 
 use crate::address_rec::AddressRec;
-use pol_context::{ContextView, array_in, read_context};
-use pol_cursor::{Cursor, Fault, Field, Names};
+use pol_context::{ContextView, read_context};
+use pol_cursor::{Cursor, Fault, Field, Names, array_in};
 use std::alloc::{AllocError, Global};
 use std::marker::Model;
 

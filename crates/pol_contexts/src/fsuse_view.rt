@@ -6,9 +6,10 @@ ghost use Rattle.pol_contexts.specs.FsUseRecord.{fsuse_at, fsuse_in, HasFsUse, f
 
 use crate::causes::behaviour_cause;
 use crate::fsuse_rec::FsUseRec;
-use pol_context::{ContextView, name_end, name_standing, owned, read_context};
+use pol_context::{ContextView, name_end, name_standing, read_context};
 use pol_cursor::{
-    Cursor, Fault, Field, Names, ReadAlone, Record, RecordView, read_name, refuse, u32_in,
+    ByteList, Copied, Cursor, Fault, Field, Names, ReadAlone, Record, RecordView, Referring,
+    read_name, refuse, u32_in,
 };
 use std::alloc::{AllocError, Global};
 use std::marker::Model;
@@ -48,7 +49,7 @@ impl<'a> FsUseView<'a> {
     }
 
     /// Its context.
-    #[tactic(auto, using(pol_context::proofs::Places::length_part, pol_context::proofs::Places::context_ends))]
+    #[tactic(auto, using(pol_cursor::proofs::Facts::length_part, pol_context::proofs::Places::context_ends))]
     pub fn context(&self) -> ContextView<'a>
         ensures { result ≡ record { place = self.now.place + 8 + length self.now.value.name; value = self.now.value.context } }
     {
@@ -68,7 +69,7 @@ impl<'a> FsUseView<'a> {
     {
         Ok(FsUseRec {
             behaviour: self.behaviour(),
-            name: owned(alloc, self.name())?,
+            name: ByteList::copy_of(alloc, self.name())?,
             context: self.context().rec(alloc)?,
         })
     }
@@ -102,6 +103,20 @@ impl<'a> RecordView<'a> for FsUse {
 
     fn at(bytes: &'a [u8], place: u32) -> FsUseView<'a> {
         FsUseView { bytes, place }
+    }
+}
+
+impl<'a> Copied<'a> for FsUse {
+    fn rec(view: &Self::View, alloc: Global) -> Result<Self::Owned, AllocError> {
+        view.rec(alloc)
+    }
+}
+
+impl<'a> Referring<'a> for FsUse {
+    ghost references = { fsuse_references };
+
+    fn dangling<N: Names>(view: &Self::View, names: &N) -> Option<Fault> {
+        view.dangling(names)
     }
 }
 

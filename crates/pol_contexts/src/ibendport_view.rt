@@ -5,10 +5,10 @@ ghost use Rattle.pol_cursor.specs.Parts.{num, number};
 ghost use Rattle.pol_contexts.specs.IbEndPortRecord.{ibendport_at, ibendport_in, HasIbEndPort, ibendport_references};
 
 use crate::ibendport_rec::IbEndPortRec;
-use pol_context::{ContextView, owned, read_context};
+use pol_context::{ContextView, read_context};
 use pol_cursor::{
-    Cursor, Fault, Field, Names, ReadAlone, Record, RecordView, read_name_bytes, read_name_length,
-    string_in, u32_in,
+    ByteList, Copied, Cursor, Fault, Field, Names, ReadAlone, Record, RecordView, Referring,
+    read_name_bytes, read_name_length, string_in, u32_in,
 };
 use std::alloc::{AllocError, Global};
 use std::marker::Model;
@@ -49,7 +49,7 @@ impl<'a> IbEndPortView<'a> {
     }
 
     /// Its context.
-    #[tactic(auto, using(pol_context::proofs::Places::length_part, pol_context::proofs::Places::context_ends))]
+    #[tactic(auto, using(pol_cursor::proofs::Facts::length_part, pol_context::proofs::Places::context_ends))]
     pub fn context(&self) -> ContextView<'a>
         ensures { result ≡ record { place = self.now.place + 8 + length self.now.value.name; value = self.now.value.context } }
     {
@@ -70,7 +70,7 @@ impl<'a> IbEndPortView<'a> {
     {
         Ok(IbEndPortRec {
             port: self.port(),
-            name: owned(alloc, self.name())?,
+            name: ByteList::copy_of(alloc, self.name())?,
             context: self.context().rec(alloc)?,
         })
     }
@@ -104,6 +104,20 @@ impl<'a> RecordView<'a> for IbEndPort {
 
     fn at(bytes: &'a [u8], place: u32) -> IbEndPortView<'a> {
         IbEndPortView { bytes, place }
+    }
+}
+
+impl<'a> Copied<'a> for IbEndPort {
+    fn rec(view: &Self::View, alloc: Global) -> Result<Self::Owned, AllocError> {
+        view.rec(alloc)
+    }
+}
+
+impl<'a> Referring<'a> for IbEndPort {
+    ghost references = { ibendport_references };
+
+    fn dangling<N: Names>(view: &Self::View, names: &N) -> Option<Fault> {
+        view.dangling(names)
     }
 }
 

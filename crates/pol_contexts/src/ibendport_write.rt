@@ -1,23 +1,30 @@
-ghost use Rattle.std.specs.Prelude.{◌≡◌, ◌++◌, OnOk};
+ghost use Rattle.pol_cursor.specs.Writing.{Writes};
 ghost use Rattle.pol_contexts.specs.IbEndPortRecord.{spell_ibendport};
 
 use crate::ibendport_rec::IbEndPortRec;
-use pol_context::write_context;
-use pol_cursor::push_number;
+use pol_cursor::{Part, Written};
 use std::alloc::AllocError;
 
-/// Appends the bytes of an entry of the device ports, which are the same in each version.
-///
-/// After want of memory a part of them may be there.
+/// Appends the bytes of an entry of the device ports, which are the same in each version. Out of memory, a beginning of them was appended.
 pub fn write_ibendport(
     entry: &IbEndPortRec,
-    version: u32,
+    _version: u32,
     out: &mut Vec<u8>,
 ) -> Result<(), AllocError>
-    ensures { OnOk result (out.new.items ≡ out.old.items ++ spell_ibendport entry.now) }
+    ensures { Writes out.old.items out.new.items (spell_ibendport entry.now) result }
 {
-    push_number(out, 4, entry.name.len() as u64)?;
-    push_number(out, 4, entry.port as u64)?;
-    out.extend_from_slice(entry.name.as_slice())?;
-    write_context(&entry.context, version, out)
+    entry.write(out)
+}
+
+impl Written for IbEndPortRec {
+    ghost use Rattle.pol_contexts.specs.IbEndPortRecord.{spell_ibendport};
+
+    ghost spelling = { spell_ibendport };
+
+    fn write(&self, out: &mut Vec<u8>) -> Result<(), AllocError> {
+        let len = Part::U32(self.name.len() as u64);
+        let port = Part::U32(self.port as u64);
+        let name = Part::Bytes(self.name.as_slice());
+        (len, port, name, &self.context).write(out)
+    }
 }

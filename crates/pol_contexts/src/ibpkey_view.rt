@@ -4,8 +4,10 @@ ghost use Rattle.pol_cursor.specs.References.{dangling_of};
 ghost use Rattle.pol_contexts.specs.IbPkeyRecord.{ibpkey_at, ibpkey_in, HasIbPkey, ibpkey_references};
 
 use crate::ibpkey_rec::IbPkeyRec;
-use pol_context::{ContextView, array_in, read_context};
-use pol_cursor::{Cursor, Fault, Field, Names, ReadAlone, Record, RecordView, u32_in};
+use pol_context::{ContextView, read_context};
+use pol_cursor::{
+    Copied, Cursor, Fault, Field, Names, ReadAlone, Record, RecordView, Referring, array_in, u32_in,
+};
 use std::alloc::{AllocError, Global};
 use std::marker::Model;
 
@@ -105,6 +107,20 @@ impl<'a> RecordView<'a> for IbPkey {
 
     fn at(bytes: &'a [u8], place: u32) -> IbPkeyView<'a> {
         IbPkeyView { bytes, place }
+    }
+}
+
+impl<'a> Copied<'a> for IbPkey {
+    fn rec(view: &Self::View, alloc: Global) -> Result<Self::Owned, AllocError> {
+        view.rec(alloc)
+    }
+}
+
+impl<'a> Referring<'a> for IbPkey {
+    ghost references = { ibpkey_references };
+
+    fn dangling<N: Names>(view: &Self::View, names: &N) -> Option<Fault> {
+        view.dangling(names)
     }
 }
 

@@ -1,19 +1,26 @@
-ghost use Rattle.std.specs.Prelude.{◌≡◌, ◌++◌, OnOk};
+ghost use Rattle.pol_cursor.specs.Writing.{Writes};
 ghost use Rattle.pol_contexts.specs.IbPkeyRecord.{spell_ibpkey};
 
 use crate::ibpkey_rec::IbPkeyRec;
-use pol_context::write_context;
-use pol_cursor::push_number;
+use pol_cursor::{Part, Written};
 use std::alloc::AllocError;
 
-/// Appends the bytes of an entry of the partition keys, which are the same in each version.
-///
-/// After want of memory a part of them may be there.
-pub fn write_ibpkey(entry: &IbPkeyRec, version: u32, out: &mut Vec<u8>) -> Result<(), AllocError>
-    ensures { OnOk result (out.new.items ≡ out.old.items ++ spell_ibpkey entry.now) }
+/// Appends the bytes of an entry of the partition keys, which are the same in each version. Out of memory, a beginning of them was appended.
+pub fn write_ibpkey(entry: &IbPkeyRec, _version: u32, out: &mut Vec<u8>) -> Result<(), AllocError>
+    ensures { Writes out.old.items out.new.items (spell_ibpkey entry.now) result }
 {
-    out.extend_from_slice(&entry.prefix)?;
-    push_number(out, 4, entry.low as u64)?;
-    push_number(out, 4, entry.high as u64)?;
-    write_context(&entry.context, version, out)
+    entry.write(out)
+}
+
+impl Written for IbPkeyRec {
+    ghost use Rattle.pol_contexts.specs.IbPkeyRecord.{spell_ibpkey};
+
+    ghost spelling = { spell_ibpkey };
+
+    fn write(&self, out: &mut Vec<u8>) -> Result<(), AllocError> {
+        let prefix = Part::Bytes(&self.prefix);
+        let low = Part::U32(self.low as u64);
+        let high = Part::U32(self.high as u64);
+        (prefix, low, high, &self.context).write(out)
+    }
 }

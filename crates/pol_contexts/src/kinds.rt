@@ -1,9 +1,10 @@
 //! The kinds of entries that two tables have in the same form, and their readers.
 
-ghost use Rattle.std.specs.Prelude.{◌≡◌, ◌++◌, IfOk, OnOk};
+ghost use Rattle.std.specs.Prelude.{◌≡◌, IfOk, OnOk};
 ghost use Rattle.pol_cursor.specs.Outcome.{Answers};
-ghost use Rattle.pol_contexts.specs.NamedRecord.{named_at, named_in, spell_named, HasNamed};
-ghost use Rattle.pol_contexts.specs.AddressRecord.{address_at, address_in, spell_address, HasAddress};
+ghost use Rattle.pol_cursor.specs.Writing.{Writes};
+ghost use Rattle.pol_contexts.specs.NamedRecord.{named_at, named_in, spell_named, HasNamed, named_references};
+ghost use Rattle.pol_contexts.specs.AddressRecord.{address_at, address_in, spell_address, HasAddress, address_references};
 
 use crate::address_rec::AddressRec;
 use crate::address_view::{AddressView, read_address};
@@ -11,8 +12,8 @@ use crate::address_write::write_address;
 use crate::named_rec::NamedRec;
 use crate::named_view::{NamedView, read_named};
 use crate::named_write::write_named;
-use pol_cursor::{Cursor, Fault, ReadAlone, Record, RecordView};
-use std::alloc::AllocError;
+use pol_cursor::{Copied, Cursor, Fault, Names, ReadAlone, Record, RecordView, Referring};
+use std::alloc::{AllocError, Global};
 
 /// The contexts of a file system, and their owned form.
 pub type FsView<'a> = NamedView<'a>;
@@ -71,6 +72,20 @@ impl<'a, const ROW: u8> RecordView<'a> for Named<ROW> {
     }
 }
 
+impl<'a, const ROW: u8> Copied<'a> for Named<ROW> {
+    fn rec(view: &Self::View, alloc: Global) -> Result<Self::Owned, AllocError> {
+        view.rec(alloc)
+    }
+}
+
+impl<'a, const ROW: u8> Referring<'a> for Named<ROW> {
+    ghost references = { named_references };
+
+    fn dangling<N: Names>(view: &Self::View, names: &N) -> Option<Fault> {
+        view.dangling(names)
+    }
+}
+
 /// The kind of the entries of addresses of that many bytes.
 #[derive(Drop)]
 pub struct Addresses<const WIDTH: usize>;
@@ -117,6 +132,20 @@ impl<'a, const WIDTH: usize> RecordView<'a> for Addresses<WIDTH> {
     }
 }
 
+impl<'a, const WIDTH: usize> Copied<'a> for Addresses<WIDTH> {
+    fn rec(view: &Self::View, alloc: Global) -> Result<Self::Owned, AllocError> {
+        view.rec(alloc)
+    }
+}
+
+impl<'a, const WIDTH: usize> Referring<'a> for Addresses<WIDTH> {
+    ghost references = { address_references WIDTH };
+
+    fn dangling<N: Names>(view: &Self::View, names: &N) -> Option<Fault> {
+        view.dangling(names)
+    }
+}
+
 /// The entry of a file system at the cursor, which then stands behind it. Takes no memory.
 pub fn read_fs_entry<'a>(c: &mut Cursor<'a>) -> Result<FsView<'a>, Fault>
     ensures exact { Answers (λ entry. entry.value) result (named_at 26) c.old c.new }
@@ -149,32 +178,31 @@ pub fn read_node6_entry<'a>(c: &mut Cursor<'a>) -> Result<Node6View<'a>, Fault>
     read_address(c, 31)
 }
 
-/// Appends the bytes of the entry of a file system, which are the same in each version.
-///
-/// After want of memory a part of them may be there; so it is with the writers below.
+/// Appends the bytes of the entry of a file system, which are the same in each version. Out of memory, a beginning of them was
+/// appended; so it is with the writers below.
 pub fn write_fs(entry: &FsRec, version: u32, out: &mut Vec<u8>) -> Result<(), AllocError>
-    ensures { OnOk result (out.new.items ≡ out.old.items ++ spell_named entry.now) }
+    ensures { Writes out.old.items out.new.items (spell_named entry.now) result }
 {
     write_named(entry, version, out)
 }
 
 /// Appends the bytes of the entry of a network interface, which are the same in each version.
 pub fn write_netif(entry: &NetifRec, version: u32, out: &mut Vec<u8>) -> Result<(), AllocError>
-    ensures { OnOk result (out.new.items ≡ out.old.items ++ spell_named entry.now) }
+    ensures { Writes out.old.items out.new.items (spell_named entry.now) result }
 {
     write_named(entry, version, out)
 }
 
 /// Appends the bytes of the entry of IPv4 addresses, which are the same in each version.
 pub fn write_node(entry: &NodeRec, version: u32, out: &mut Vec<u8>) -> Result<(), AllocError>
-    ensures { OnOk result (out.new.items ≡ out.old.items ++ spell_address entry.now) }
+    ensures { Writes out.old.items out.new.items (spell_address entry.now) result }
 {
     write_address(entry, version, out)
 }
 
 /// Appends the bytes of the entry of IPv6 addresses, which are the same in each version.
 pub fn write_node6(entry: &Node6Rec, version: u32, out: &mut Vec<u8>) -> Result<(), AllocError>
-    ensures { OnOk result (out.new.items ≡ out.old.items ++ spell_address entry.now) }
+    ensures { Writes out.old.items out.new.items (spell_address entry.now) result }
 {
     write_address(entry, version, out)
 }

@@ -4,8 +4,8 @@ ghost use Rattle.pol_cursor.specs.References.{dangling_of};
 ghost use Rattle.pol_contexts.specs.NamedRecord.{named_at, named_in, HasNamed, named_references, context_place, second_place};
 
 use crate::named_rec::NamedRec;
-use pol_context::{ContextView, context_end, name_end, name_standing, owned, read_context};
-use pol_cursor::{Cursor, Fault, Names, read_name};
+use pol_context::{ContextView, context_end, name_end, name_standing, read_context};
+use pol_cursor::{ByteList, Cursor, Fault, Names, read_name};
 use std::alloc::{AllocError, Global};
 use std::marker::Model;
 
@@ -45,7 +45,7 @@ impl<'a> NamedView<'a> {
     }
 
     /// Its own context.
-    #[tactic(auto, using(pol_context::proofs::Places::length_part, pol_context::proofs::Places::context_ends))]
+    #[tactic(auto, using(pol_cursor::proofs::Facts::length_part, pol_context::proofs::Places::context_ends))]
     pub fn context(&self) -> ContextView<'a>
         ensures { result ≡ record { place = context_place self.now; value = self.now.value.context } }
     {
@@ -53,7 +53,7 @@ impl<'a> NamedView<'a> {
     }
 
     /// The context of its files, or of the packets that it receives.
-    #[tactic(auto, using(pol_context::proofs::Places::length_part, pol_context::proofs::Places::context_ends))]
+    #[tactic(auto, using(pol_cursor::proofs::Facts::length_part, pol_context::proofs::Places::context_ends))]
     pub fn second_context(&self) -> ContextView<'a>
         ensures { result ≡ record { place = second_place self.now; value = self.now.value.second_context } }
     {
@@ -62,7 +62,7 @@ impl<'a> NamedView<'a> {
     }
 
     /// The first reference of the two contexts, as a fault at its field, that no primary record declares.
-    #[tactic(auto, using(pol_context::proofs::Places::dangling_none, pol_context::proofs::Places::dangling_some))]
+    #[tactic(auto, using(pol_cursor::proofs::DanglingLists::dangling_none, pol_cursor::proofs::DanglingLists::undeclared_first))]
     pub fn dangling<N: Names>(&self, names: &N) -> Option<Fault>
         ensures { result ≡ dangling_of (N.named names.now) (named_references self.now) }
     {
@@ -77,7 +77,7 @@ impl<'a> NamedView<'a> {
         ensures { IfOk result (λ entry. entry ≡ self.now.value) }
     {
         Ok(NamedRec {
-            name: owned(alloc, self.name())?,
+            name: ByteList::copy_of(alloc, self.name())?,
             context: self.context().rec(alloc)?,
             second_context: self.second_context().rec(alloc)?,
         })

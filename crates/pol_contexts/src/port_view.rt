@@ -5,7 +5,9 @@ ghost use Rattle.pol_contexts.specs.PortRecord.{port_at, port_in, HasPort, port_
 
 use crate::port_rec::PortRec;
 use pol_context::{ContextView, read_context};
-use pol_cursor::{Cursor, Fault, Field, Names, ReadAlone, Record, RecordView, u32_in};
+use pol_cursor::{
+    Copied, Cursor, Fault, Field, Names, ReadAlone, Record, RecordView, Referring, u32_in,
+};
 use std::alloc::{AllocError, Global};
 use std::marker::Model;
 
@@ -105,6 +107,20 @@ impl<'a> RecordView<'a> for Port {
 
     fn at(bytes: &'a [u8], place: u32) -> PortView<'a> {
         PortView { bytes, place }
+    }
+}
+
+impl<'a> Copied<'a> for Port {
+    fn rec(view: &Self::View, alloc: Global) -> Result<Self::Owned, AllocError> {
+        view.rec(alloc)
+    }
+}
+
+impl<'a> Referring<'a> for Port {
+    ghost references = { port_references };
+
+    fn dangling<N: Names>(view: &Self::View, names: &N) -> Option<Fault> {
+        view.dangling(names)
     }
 }
 

@@ -5,7 +5,9 @@ ghost use Rattle.pol_contexts.specs.SidRecord.{sid_at, sid_in, HasSid, sid_refer
 
 use crate::sid_rec::SidRec;
 use pol_context::{ContextView, read_context};
-use pol_cursor::{Cursor, Fault, Field, Names, ReadAlone, Record, RecordView, u32_in};
+use pol_cursor::{
+    Copied, Cursor, Fault, Field, Names, ReadAlone, Record, RecordView, Referring, u32_in,
+};
 use std::alloc::{AllocError, Global};
 use std::marker::Model;
 
@@ -89,6 +91,20 @@ impl<'a> RecordView<'a> for Sid {
 
     fn at(bytes: &'a [u8], place: u32) -> SidView<'a> {
         SidView { bytes, place }
+    }
+}
+
+impl<'a> Copied<'a> for Sid {
+    fn rec(view: &Self::View, alloc: Global) -> Result<Self::Owned, AllocError> {
+        view.rec(alloc)
+    }
+}
+
+impl<'a> Referring<'a> for Sid {
+    ghost references = { sid_references };
+
+    fn dangling<N: Names>(view: &Self::View, names: &N) -> Option<Fault> {
+        view.dangling(names)
     }
 }
 

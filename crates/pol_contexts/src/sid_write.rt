@@ -1,17 +1,23 @@
-ghost use Rattle.std.specs.Prelude.{◌≡◌, ◌++◌, OnOk};
+ghost use Rattle.pol_cursor.specs.Writing.{Writes};
 ghost use Rattle.pol_contexts.specs.SidRecord.{spell_sid};
 
 use crate::sid_rec::SidRec;
-use pol_context::write_context;
-use pol_cursor::push_number;
+use pol_cursor::{Part, Written};
 use std::alloc::AllocError;
 
-/// Appends the bytes of an entry of the initial SIDs, which are the same in each version.
-///
-/// After want of memory a part of them may be there.
-pub fn write_sid(entry: &SidRec, version: u32, out: &mut Vec<u8>) -> Result<(), AllocError>
-    ensures { OnOk result (out.new.items ≡ out.old.items ++ spell_sid entry.now) }
+/// Appends the bytes of an entry of the initial SIDs, which are the same in each version. Out of memory, a beginning of them was appended.
+pub fn write_sid(entry: &SidRec, _version: u32, out: &mut Vec<u8>) -> Result<(), AllocError>
+    ensures { Writes out.old.items out.new.items (spell_sid entry.now) result }
 {
-    push_number(out, 4, entry.sid as u64)?;
-    write_context(&entry.context, version, out)
+    entry.write(out)
+}
+
+impl Written for SidRec {
+    ghost use Rattle.pol_contexts.specs.SidRecord.{spell_sid};
+
+    ghost spelling = { spell_sid };
+
+    fn write(&self, out: &mut Vec<u8>) -> Result<(), AllocError> {
+        (Part::U32(self.sid as u64), &self.context).write(out)
+    }
 }

@@ -27,7 +27,7 @@ string_is d k bytes place s next e =
     let long : place + k ≤ length bytes = ltb-false _ _ g.0 in
     (sym g.1, sym g.2, omega (arith, g.2))
 
--- the same of a number under conditions, which all hold
+-- a number under conditions, which all hold
 pub number_if_is : (d : Field) (w : ℕ) (test : ℕ → Option Cause) (bytes : List ℕ) (place n next : ℕ) → checked d (number d w) test bytes place ≡ Got n next → (n ≡ num bytes place w) × (next ≡ place + w) × (next ≤ length bytes) × (test n ≡ None)
 number_if_is d w test bytes place n next e =
     let g = and_then_got (number d w bytes place) (λ x next. judged (test x) d x place next) n next e in
@@ -64,3 +64,7 @@ unless_none false cause e = absurd cc
 -- a number that has to be another
 pub unless_is : (n k : ℕ) (cause : Cause) → unless (n == k) cause ≡ None → n ≡ k
 unless_is n k cause e = eqb-true n k (unless_none (n == k) cause e)
+
+-- so many bytes from a place that has them
+pub length_part : (bytes : List ℕ) (place n : ℕ) → place + n ≤ length bytes → length (take n (drop place bytes)) ≡ n
+length_part bytes place n le = length-take-le n (drop place bytes) (omega (arith, length-drop place bytes))

@@ -188,7 +188,7 @@ Again-string d s = record {
       };
 }
 
--- the same by the length
+-- by the length
 pub Again-string-of : (d : Field) (k : ℕ) (s : List ℕ) → length s ≡ k → Again (string d k) s s
 Again-string-of d k s e = subst (λ (n : ℕ). Again (string d n) s s) e (Again-string d s)
 
@@ -212,7 +212,7 @@ Again-string_if d s test = Again-checked d (string d (length s)) test s s (Again
 pub Again-part : {A B : Type 0} {r : Reader A} (f : A → Reader B) {x : A} {y : B} {s t : List ℕ} → Again r x s → Again (f x) y t → Again (r >>= f) y (s ++ t)
 Again-part {A} {B} {r} f {x} {y} {s} {t} hr hf = Again-then r f x y s t hr hf
 
--- the same text, grouped in another way
+-- a text, grouped in another way
 pub Again-as : {A : Type 0} {r : Reader A} {x : A} {s t : List ℕ} → Again r x s → s ≡ t → Again r x t
 Again-as {A} {r} {x} h e = subst (λ (u : List ℕ). Again r x u) e h
 

@@ -7,3 +7,7 @@ pub mod NameLaws
 pub mod RunLists
 pub mod ContextLists
 pub mod ReferenceLists
+pub mod Writings
+pub mod DanglingLists
+pub mod PlacedRuns
+pub mod Copies

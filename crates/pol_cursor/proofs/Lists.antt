@@ -21,7 +21,7 @@ pub record Going {S A : Type 0} (item : ℕ → S → Reader A) (step : S → A 
   pub same : now.bytes ≡ first.bytes
   pub rest : and_then (list_of item step (count - i) context now.bytes now.place) (λ xs next. Got (front ++ xs) next) ≡ list_of item step count start first.bytes first.place
 
--- the same where no item is kept
+-- a list that is being read, where no item is kept
 pub record Passing {S A : Type 0} (item : ℕ → S → Reader A) (step : S → A → S) (count : ℕ) (start : S) (first : Position) (i : ℕ) (context : S) (now : Position) : Type 0 where
   pub front : List A
   pub going : Going item step count start first i context now front
@@ -79,7 +79,7 @@ module _ {S A : Type 0} (item : ℕ → S → Reader A) (step : S → A → S) (
       let k : count - i ≡ 0 = omega arith in
       sym (rw k at h.rest) ∙ ap (λ (ys : List A). Got ys now.place) (append-nil front)
 
-  -- ---- the same where no item is kept
+  -- ---- a list that is being read, where no item is kept
 
   pub Passing-start : Passing item step count start first 0 start first
   Passing-start = record { front = []; going = Going-start }

@@ -9,3 +9,4 @@ pub mod FileNames
 pub mod Mentions
 pub mod Runs
 pub mod Contexts
+pub mod Writing

@@ -56,7 +56,7 @@ abbrev pub Answers : {X A : Type 0} → (X → A) → Result X Fault → Reader 
 Answers view (Ok x) r old new = (r old.bytes old.place ≡ Got (view x) new.place) × (new.bytes ≡ old.bytes)
 Answers view (Err f) r old new = r old.bytes old.place ≡ Bad f
 
--- the same of a reader that takes memory, and may want it
+-- what a reader that takes memory answers: out of memory, nothing is said of the outcome
 abbrev pub Fails : {A : Type 0} → ReadError → Outcome A → Type 0
 Fails errors.Memory o = Unit {0}
 Fails (errors.Fault f) o = o ≡ Bad f

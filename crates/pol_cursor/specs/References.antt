@@ -1,6 +1,7 @@
 -- References of a record to the values of the symbol tables (libsepol's policydb_validate): each value that a record
 -- names has to be declared by a primary record of its table.
-use Rattle.std.specs.Prelude.{ℕ, List, [], ◌∷◌, Option, Some, None, is_some, map, if◌then◌else◌}
+use Rattle.std.specs.Prelude.{◌≡◌, ℕ, List, [], ◌∷◌, Option, Some, None, is_some, map, if◌then◌else◌, Result, Ok, Err}
+use Rattle.std.specs.List.{flat_map}
 use Rattle.pol_cursor.specs.declared.field.Field.{Field}
 use Rattle.pol_cursor.specs.declared.fault.Fault.{Fault}
 use Rattle.pol_cursor.specs.declared.fault.Cause.TheVariants.{Dangling}
@@ -39,3 +40,12 @@ Named = TableKind → ℕ → Option (List ℕ)
 abbrev pub dangling_of : Named → List Reference → Option Fault
 dangling_of named [] = None
 dangling_of named (r ∷ rs) = if is_some (named r.table r.value) then dangling_of named rs else Some (fault r.place r.field (Dangling r.table r.value))
+
+-- the references of the records of a list
+abbrev pub references_in : {A : Type 0} → (Placed A → List Reference) → List (Placed A) → List Reference
+references_in references records = flat_map references records
+
+-- all of them are declared, or the fault is the first that is not
+abbrev pub AreDeclared : Result (Unit {0}) Fault → Named → List Reference → Type 0
+AreDeclared (Ok u) named references = dangling_of named references ≡ None
+AreDeclared (Err fault) named references = dangling_of named references ≡ Some fault

@@ -1,5 +1,5 @@
 -- Records that stand one behind the other, each where the one before it ends.
-use Rattle.std.specs.Prelude.{ℕ, zero, suc, List, [], ◌∷◌}
+use Rattle.std.specs.Prelude.{ℕ, zero, suc, ◌+◌, List, [], ◌∷◌}
 use Rattle.pol_cursor.specs.References.{Placed}
 
 -- n records from a place on, where a record is what stands at its place
@@ -16,3 +16,13 @@ run_end ends bytes place (suc n) = run_end ends bytes (ends bytes place) n
 unfoldable pub HasRun : (List ℕ → ℕ → Type 0) → (List ℕ → ℕ → ℕ) → List ℕ → ℕ → ℕ → Type 0
 HasRun has ends bytes place zero = Unit {0}
 HasRun has ends bytes place (suc n) = has bytes place × HasRun has ends bytes (ends bytes place) n
+
+-- records from a place on, one behind the other, by their lengths
+unfoldable pub placed_from : {A : Type 0} → (A → ℕ) → ℕ → List A → List (Placed A)
+placed_from length_of place [] = []
+placed_from length_of place (x ∷ xs) = record { place = place; value = x } ∷ placed_from length_of (place + length_of x) xs
+
+-- how long they are together
+unfoldable pub length_together : {A : Type 0} → (A → ℕ) → List A → ℕ
+length_together length_of [] = 0
+length_together length_of (x ∷ xs) = length_of x + length_together length_of xs

@@ -1,11 +1,12 @@
 //! Names of files, file systems, interfaces and devices.
-ghost use Rattle.std.specs.Prelude.{◌≡◌, ◌≤◌, ◌<◌, ◌+◌, ◌++◌, OnOk, IfOk, length, take, drop};
+ghost use Rattle.std.specs.Prelude.{◌≡◌, ◌≤◌, ◌<◌, ◌+◌, OnOk, IfOk, length, take, drop};
 ghost use Rattle.std.specs.List.{list_all};
 ghost use Rattle.pol_cursor.specs.FileNames.{name_length_test, is_name_byte, name_test, name_length_at, name_bytes_at, name_at, spell_name, name_in, name_end};
 ghost use Rattle.pol_cursor.specs.Outcome.{Answers};
 ghost use Rattle.pol_cursor.specs.Parts.{num};
+ghost use Rattle.pol_cursor.specs.Writing.{Writes};
 
-use crate::{Cause, Cursor, Fault, Field, push_number, refuse};
+use crate::{Cause, Cursor, Fault, Field, Part, Written, refuse};
 use std::alloc::AllocError;
 
 /// `BadName` where a name would have no byte.
@@ -84,10 +85,9 @@ pub fn read_name<'a>(c: &mut Cursor<'a>, row: u8, part: u8) -> Result<&'a [u8], 
     read_name_bytes(c, row, part + 1, len)
 }
 
-/// Appends the length of a name, which has 32 bits at most, and its bytes.
+/// Appends the length of a name, which has 32 bits at most, and its bytes. Out of memory, a beginning of them was appended.
 pub fn write_name(name: &[u8], out: &mut Vec<u8>) -> Result<(), AllocError>
-    ensures { OnOk result (out.new.items ≡ out.old.items ++ spell_name name.now) }
+    ensures { Writes out.old.items out.new.items (spell_name name.now) result }
 {
-    push_number(out, 4, name.len() as u64)?;
-    out.extend_from_slice(name)
+    (Part::U32(name.len() as u64), Part::Bytes(name)).write(out)
 }

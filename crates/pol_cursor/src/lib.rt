@@ -1,6 +1,7 @@
 //! The cursor over the bytes of a policy, its faults, and the language in which records of the format are defined.
 #![tactic(auto)]
 
+mod copied;
 mod cursor;
 mod fault;
 mod field;
@@ -8,15 +9,16 @@ mod file_name;
 mod mention;
 mod names;
 mod owned_list;
+mod part;
 mod parts;
 mod read_error;
 mod record_laws;
 mod record_list;
 mod record_run;
+mod referring;
 mod table_kind;
-#[cfg(test)]
-mod tests;
 
+pub use copied::Copied;
 pub use cursor::Cursor;
 pub use fault::{Cause, Fault};
 pub use field::Field;
@@ -24,7 +26,8 @@ pub use file_name::{read_name, read_name_bytes, read_name_length, write_name};
 pub use mention::{Mention, first_dangling};
 pub use names::{Names, dangling};
 pub use owned_list::{ByteList, NumberList, OwnedList};
-pub use parts::{push_number, refuse, string_in, u16_in, u32_in, u64_in};
+pub use part::{Part, Written};
+pub use parts::{array_in, push_number, refuse, string_in, u16_in, u32_in, u64_in};
 pub use read_error::ReadError;
 pub use record_laws::{
     dependent_lists_have_laws, lists_have_laws, names_have_laws, numbers_have_laws,
@@ -35,4 +38,5 @@ pub use record_list::{
     read_records_after,
 };
 pub use record_run::{Inner, Run, end_of_run, read_run};
+pub use referring::{Referring, check_records};
 pub use table_kind::TableKind;

@@ -1,5 +1,6 @@
-ghost use Rattle.std.specs.Prelude.{◌≡◌, ◌↔◌, [], IsTrue, length};
+ghost use Rattle.std.specs.Prelude.{◌≡◌, ◌↔◌, [], IfOk, IsTrue, length};
 
+use std::alloc::{AllocError, Global};
 use std::marker::Model;
 
 /// A list that is a member of a record. Contracts see it as a list.
@@ -56,5 +57,14 @@ impl<T: Drop> OwnedList<T> {
         ensures { result.now ≡ self.now }
     {
         self.items.as_slice()
+    }
+}
+
+impl ByteList {
+    /// A copy of bytes.
+    pub fn copy_of(alloc: Global, bytes: &[u8]) -> Result<ByteList, AllocError>
+        ensures { IfOk result (λ list. list ≡ bytes.now) }
+    {
+        Ok(OwnedList::from_vec(Vec::from_slice(alloc, bytes)?))
     }
 }

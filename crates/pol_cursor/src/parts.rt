@@ -55,7 +55,7 @@ pub fn refuse(cause: Option<Cause>, place: u32, field: Field) -> Result<(), Faul
 }
 
 /// Appends the lowest bytes of a number, as many as its field is wide, the lowest of them first.
-/// After want of memory nothing was appended.
+/// Out of memory, nothing was appended.
 #[tactic(auto, using(crate::proofs::Numbers::first_bytes))]
 pub fn push_number(out: &mut Vec<u8>, width: usize, n: u64) -> Result<(), AllocError>
     requires { width ≤ 8 }
@@ -64,4 +64,15 @@ pub fn push_number(out: &mut Vec<u8>, width: usize, n: u64) -> Result<(), AllocE
 {
     let bytes = n.to_le_bytes();
     out.extend_from_slice(&bytes[..width])
+}
+
+/// That many bytes from a place on.
+#[tactic(auto, using(crate::proofs::Facts::length_part))]
+pub fn array_in<const WIDTH: usize>(bytes: &[u8], place: usize) -> [u8; WIDTH]
+    requires { place + WIDTH ≤ length bytes.now }
+    ensures { result ≡ take WIDTH (drop place bytes.now) }
+{
+    let mut array = [0; WIDTH];
+    array.copy_from_slice(string_in(bytes, place, WIDTH));
+    array
 }

@@ -16,13 +16,13 @@ pub fn numbers_have_laws()
     ensures spelled { (field : Field) (width : ℕ) → IsReadFromSpelling (number field width) (bytes_of width) (λ n. n < 256 ^ width) }
 {}
 
-/// The same for bytes.
+/// Both laws of bytes.
 pub fn strings_have_laws()
     ensures again { (field : Field) (n : ℕ) → IsReadAgain (string field n) (λ part. part) (λ part. length part ≡ n) }
     ensures spelled { (field : Field) (n : ℕ) → IsReadFromSpelling (string field n) (λ part. part) (λ part. length part ≡ n) }
 {}
 
-/// The same for a name behind its length.
+/// Both laws of a name behind its length.
 pub fn names_have_laws()
     ensures again { (row part : ℕ) → IsReadAgain (name_at row part) spell_name NameFits }
     ensures spelled { (row part : ℕ) → IsReadFromSpelling (name_at row part) spell_name NameFits }
@@ -33,7 +33,7 @@ pub fn lists_have_laws<K: ReadAlone>()
     ensures unplaced { (n : ℕ) (bytes : List ℕ) (place : ℕ) → without_places (records_at (placed K.reads) n bytes place) ≡ records_at K.reads n bytes place }
 {}
 
-/// The same of records that are read under what the ones before them made of a context.
+/// A list of records that are read under what the ones before them made of a context, read with places and without them.
 pub fn dependent_lists_have_laws<'a, K: ReadAfter<'a>>()
     ensures unplaced { (n : ℕ) (context : K.Context) (bytes : List ℕ) (place : ℕ) → without_places (records_after K.reads K.after n context bytes place) ≡ list_of (λ left context. K.reads context) K.after n context bytes place }
 {}

@@ -17,7 +17,7 @@ pub trait Record {
     /// The record that stands at a place.
     ghost standing: { List ℕ → ℕ → Self.Owned };
 
-    /// Its bytes stand there.
+    /// The bytes of a record stand at a place.
     ghost has: { List ℕ → ℕ → Type 0 };
 }
 

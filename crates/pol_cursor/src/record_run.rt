@@ -73,6 +73,13 @@ impl<'a, K: Inner + Drop> Run<'a, K> {
     {
         self.count
     }
+
+    /// The records again, from the first that is left.
+    pub fn iter(&self) -> Run<'a, K>
+        ensures { result ≡ self.now }
+    {
+        Run::at(self.bytes, self.place, self.count)
+    }
 }
 
 impl<'a, V: RecordView<'a> + Inner + Drop> Run<'a, V> {

@@ -47,6 +47,7 @@ impl<'a> ReadAfter<'a> for Boolean {
 }
 
 impl SymbolKind for Boolean {
+    ghost use Rattle.pol_datums.specs.BooleanRecord.{spell_boolean, BooleanFits};
     ghost use Rattle.std.specs.Prelude.{true};
 
     ghost name_of = { λ boolean. boolean.name };
@@ -54,6 +55,10 @@ impl SymbolKind for Boolean {
     ghost value_of = { λ boolean. boolean.value };
 
     ghost is_primary = { λ boolean. true };
+
+    ghost spelling = { spell_boolean };
+
+    ghost fits = { BooleanFits };
 }
 
 impl<'a> Symbol<'a> for Boolean {

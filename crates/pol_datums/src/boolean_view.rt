@@ -2,12 +2,12 @@ ghost use Rattle.std.specs.Prelude.{◌≡◌, IfOk};
 ghost use Rattle.pol_cursor.specs.Outcome.{Answers};
 ghost use Rattle.pol_datums.specs.BooleanRecord.{boolean_at, boolean_in, HasBoolean};
 
+use crate::boolean_kind::Boolean;
 use crate::boolean_rec::BooleanRec;
 use crate::flags::read_flag;
-use crate::parts::owned;
 use crate::rows::BOOLEAN;
 use crate::symbol_values::read_new_value;
-use pol_cursor::{Cursor, Fault, string_in, u32_in};
+use pol_cursor::{ByteList, Copied, Cursor, Fault, string_in, u32_in};
 use pol_symtab::{Taken, read_symbol_length, read_symbol_name};
 use std::alloc::{AllocError, Global};
 use std::marker::Model;
@@ -40,7 +40,7 @@ impl<'a> BooleanView<'a> {
         BooleanView { bytes, place }
     }
 
-    /// Its value.
+    /// The value of the boolean.
     pub fn value(&self) -> u32
         ensures { result ≡ self.now.value.value }
     {
@@ -54,22 +54,21 @@ impl<'a> BooleanView<'a> {
         u32_in(self.bytes, self.place as usize + 4)
     }
 
-    /// Its name.
+    /// The name of the boolean.
     pub fn name(&self) -> &'a [u8]
         ensures { result.now ≡ self.now.value.name }
     {
         let len = u32_in(self.bytes, self.place as usize + 8);
         string_in(self.bytes, self.place as usize + 12, len as usize)
     }
+}
 
-    /// The same boolean, owned.
-    pub fn rec(&self, alloc: Global) -> Result<BooleanRec, AllocError>
-        ensures { IfOk result (λ boolean. boolean ≡ self.now.value) }
-    {
+impl<'a> Copied<'a> for Boolean {
+    fn rec(view: &BooleanView<'a>, alloc: Global) -> Result<BooleanRec, AllocError> {
         Ok(BooleanRec {
-            value: self.value(),
-            state: self.state(),
-            name: owned(alloc, self.name())?,
+            value: view.value(),
+            state: view.state(),
+            name: ByteList::copy_of(alloc, view.name())?,
         })
     }
 }

@@ -1,22 +1,31 @@
-ghost use Rattle.std.specs.Prelude.{◌≡◌, ◌++◌, OnOk};
+ghost use Rattle.pol_cursor.specs.Writing.{Writes};
 ghost use Rattle.pol_datums.specs.BooleanRecord.{spell_boolean};
 
 use crate::boolean_rec::BooleanRec;
-use pol_cursor::push_number;
+use pol_cursor::{Part, Written};
 use std::alloc::AllocError;
 
-/// Appends the bytes of a boolean, which are the same in each version.
-///
-/// After want of memory a part of them may be there.
+/// Appends the bytes of a boolean, which are the same in each version. Out of memory, a beginning of them was appended.
 pub fn write_boolean(
     boolean: &BooleanRec,
     _version: u32,
     out: &mut Vec<u8>,
 ) -> Result<(), AllocError>
-    ensures { OnOk result (out.new.items ≡ out.old.items ++ spell_boolean boolean.now) }
+    ensures { Writes out.old.items out.new.items (spell_boolean boolean.now) result }
 {
-    push_number(out, 4, boolean.value as u64)?;
-    push_number(out, 4, boolean.state as u64)?;
-    push_number(out, 4, boolean.name.len() as u64)?;
-    out.extend_from_slice(boolean.name.as_slice())
+    boolean.write(out)
+}
+
+impl Written for BooleanRec {
+    ghost use Rattle.pol_datums.specs.BooleanRecord.{spell_boolean};
+
+    ghost spelling = { spell_boolean };
+
+    fn write(&self, out: &mut Vec<u8>) -> Result<(), AllocError> {
+        let value = Part::U32(self.value as u64);
+        let state = Part::U32(self.state as u64);
+        let len = Part::U32(self.name.len() as u64);
+        let name = Part::Bytes(self.name.as_slice());
+        (value, state, len, name).write(out)
+    }
 }

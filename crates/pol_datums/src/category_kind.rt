@@ -48,6 +48,7 @@ impl<'a> ReadAfter<'a> for Category {
 }
 
 impl SymbolKind for Category {
+    ghost use Rattle.pol_datums.specs.CategoryRecord.{spell_category, CategoryFits};
     ghost use Rattle.pol_datums.specs.Flags.{is_primary_flag};
 
     ghost name_of = { λ category. category.name };
@@ -55,6 +56,10 @@ impl SymbolKind for Category {
     ghost value_of = { λ category. category.value };
 
     ghost is_primary = { λ category. is_primary_flag category.isalias };
+
+    ghost spelling = { spell_category };
+
+    ghost fits = { CategoryFits };
 }
 
 impl<'a> Symbol<'a> for Category {

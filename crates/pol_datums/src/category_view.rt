@@ -1,17 +1,19 @@
 ghost use Rattle.std.specs.Prelude.{◌≡◌, IfOk};
 ghost use Rattle.pol_cursor.specs.Outcome.{Answers};
-ghost use Rattle.pol_cursor.specs.References.{dangling_of};
-ghost use Rattle.pol_datums.specs.CategoryRecord.{category_at, category_in, HasCategory, category_references};
+ghost use Rattle.pol_datums.specs.CategoryRecord.{category_at, category_in, HasCategory};
 ghost use Rattle.pol_datums.specs.Flags.{is_primary_flag};
 
+use crate::category_kind::Category;
 use crate::category_rec::CategoryRec;
 use crate::causes::isalias_cause;
 use crate::flags::is_primary_flag;
-use crate::parts::owned;
 use crate::rows::CATEGORY;
 use crate::symbol_references::dangling_alias;
 use crate::symbol_values::read_value;
-use pol_cursor::{Cursor, Fault, Field, Mention, Names, TableKind, refuse, string_in, u32_in};
+use pol_cursor::{
+    ByteList, Copied, Cursor, Fault, Field, Mention, Names, Referring, TableKind, refuse,
+    string_in, u32_in,
+};
 use pol_symtab::{Taken, read_symbol_length, read_symbol_name};
 use std::alloc::{AllocError, Global};
 use std::marker::Model;
@@ -44,7 +46,7 @@ impl<'a> CategoryView<'a> {
         CategoryView { bytes, place }
     }
 
-    /// Its value. An alias has that of the category that it stands for.
+    /// The value of the category. An alias has that of the category that it stands for.
     pub fn value(&self) -> u32
         ensures { result ≡ self.now.value.value }
     {
@@ -58,7 +60,7 @@ impl<'a> CategoryView<'a> {
         u32_in(self.bytes, self.place as usize + 8)
     }
 
-    /// Its name.
+    /// The name of the category.
     pub fn name(&self) -> &'a [u8]
         ensures { result.now ≡ self.now.value.name }
     {
@@ -72,24 +74,27 @@ impl<'a> CategoryView<'a> {
     {
         is_primary_flag(self.isalias())
     }
+}
+
+impl<'a> Referring<'a> for Category {
+    ghost use Rattle.pol_datums.specs.CategoryRecord.{category_references};
+
+    ghost references = { category_references };
 
     /// The category that an alias stands for as a fault at its field, where no primary record declares it.
-    pub fn dangling<N: Names>(&self, names: &N) -> Option<Fault>
-        ensures { result ≡ dangling_of (N.named names.now) (category_references self.now) }
-    {
+    fn dangling<N: Names>(view: &CategoryView<'a>, names: &N) -> Option<Fault> {
         let categories = TableKind::Categories;
-        let stands_for = Mention::new(CATEGORY, 2, self.place + 4, categories, self.value());
-        dangling_alias(names, self.is_primary(), stands_for)
+        let stands_for = Mention::new(CATEGORY, 2, view.place + 4, categories, view.value());
+        dangling_alias(names, view.is_primary(), stands_for)
     }
+}
 
-    /// The same category, owned.
-    pub fn rec(&self, alloc: Global) -> Result<CategoryRec, AllocError>
-        ensures { IfOk result (λ category. category ≡ self.now.value) }
-    {
+impl<'a> Copied<'a> for Category {
+    fn rec(view: &CategoryView<'a>, alloc: Global) -> Result<CategoryRec, AllocError> {
         Ok(CategoryRec {
-            value: self.value(),
-            isalias: self.isalias(),
-            name: owned(alloc, self.name())?,
+            value: view.value(),
+            isalias: view.isalias(),
+            name: ByteList::copy_of(alloc, view.name())?,
         })
     }
 }

@@ -1,22 +1,31 @@
-ghost use Rattle.std.specs.Prelude.{◌≡◌, ◌++◌, OnOk};
+ghost use Rattle.pol_cursor.specs.Writing.{Writes};
 ghost use Rattle.pol_datums.specs.CategoryRecord.{spell_category};
 
 use crate::category_rec::CategoryRec;
-use pol_cursor::push_number;
+use pol_cursor::{Part, Written};
 use std::alloc::AllocError;
 
-/// Appends the bytes of a category, which are the same in each version.
-///
-/// After want of memory a part of them may be there.
+/// Appends the bytes of a category, which are the same in each version. Out of memory, a beginning of them was appended.
 pub fn write_category(
     category: &CategoryRec,
     _version: u32,
     out: &mut Vec<u8>,
 ) -> Result<(), AllocError>
-    ensures { OnOk result (out.new.items ≡ out.old.items ++ spell_category category.now) }
+    ensures { Writes out.old.items out.new.items (spell_category category.now) result }
 {
-    push_number(out, 4, category.name.len() as u64)?;
-    push_number(out, 4, category.value as u64)?;
-    push_number(out, 4, category.isalias as u64)?;
-    out.extend_from_slice(category.name.as_slice())
+    category.write(out)
+}
+
+impl Written for CategoryRec {
+    ghost use Rattle.pol_datums.specs.CategoryRecord.{spell_category};
+
+    ghost spelling = { spell_category };
+
+    fn write(&self, out: &mut Vec<u8>) -> Result<(), AllocError> {
+        let len = Part::U32(self.name.len() as u64);
+        let value = Part::U32(self.value as u64);
+        let isalias = Part::U32(self.isalias as u64);
+        let name = Part::Bytes(self.name.as_slice());
+        (len, value, isalias, name).write(out)
+    }
 }

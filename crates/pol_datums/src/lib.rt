@@ -13,7 +13,6 @@ mod causes;
 mod declared;
 mod flags;
 mod flavour;
-mod parts;
 mod record_laws;
 mod role_kind;
 mod role_rec;

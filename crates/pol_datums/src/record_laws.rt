@@ -15,25 +15,25 @@ pub fn roles_have_laws()
     ensures spelled { (claims : Claims) (nprim : ℕ) → IsReadFromSpelling (role_at claims nprim) spell_role RoleFits }
 {}
 
-/// The same of a type, an attribute or an alias.
+/// Both laws of a type, an attribute or an alias.
 pub fn types_have_laws()
     ensures again { (claims : Claims) (nprim : ℕ) → IsReadAgain (type_at claims nprim) spell_type TypeFits }
     ensures spelled { (claims : Claims) (nprim : ℕ) → IsReadFromSpelling (type_at claims nprim) spell_type TypeFits }
 {}
 
-/// The same of a boolean.
+/// Both laws of a boolean.
 pub fn booleans_have_laws()
     ensures again { (claims : Claims) (nprim : ℕ) → IsReadAgain (boolean_at claims nprim) spell_boolean BooleanFits }
     ensures spelled { (claims : Claims) (nprim : ℕ) → IsReadFromSpelling (boolean_at claims nprim) spell_boolean BooleanFits }
 {}
 
-/// The same of a sensitivity or an alias.
+/// Both laws of a sensitivity or an alias.
 pub fn sensitivities_have_laws()
     ensures again { (claims : Claims) (nprim : ℕ) → IsReadAgain (sensitivity_at claims nprim) spell_sensitivity SensitivityFits }
     ensures spelled { (claims : Claims) (nprim : ℕ) → IsReadFromSpelling (sensitivity_at claims nprim) spell_sensitivity SensitivityFits }
 {}
 
-/// The same of a category or an alias.
+/// Both laws of a category or an alias.
 pub fn categories_have_laws()
     ensures again { (claims : Claims) (nprim : ℕ) → IsReadAgain (category_at claims nprim) spell_category CategoryFits }
     ensures spelled { (claims : Claims) (nprim : ℕ) → IsReadFromSpelling (category_at claims nprim) spell_category CategoryFits }

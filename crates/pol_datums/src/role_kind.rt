@@ -47,6 +47,7 @@ impl<'a> ReadAfter<'a> for Role {
 }
 
 impl SymbolKind for Role {
+    ghost use Rattle.pol_datums.specs.RoleRecord.{spell_role, RoleFits};
     ghost use Rattle.std.specs.Prelude.{true};
 
     ghost name_of = { λ role. role.name };
@@ -54,6 +55,10 @@ impl SymbolKind for Role {
     ghost value_of = { λ role. role.value };
 
     ghost is_primary = { λ role. true };
+
+    ghost spelling = { spell_role };
+
+    ghost fits = { RoleFits };
 }
 
 impl<'a> Symbol<'a> for Role {

@@ -12,7 +12,7 @@ pub struct RoleRec {
     pub name: ByteList,
     /// The roles that it dominates: bit v - 1 stands for the value v.
     pub dominates: Set,
-    /// Its types: bit v - 1 stands for the value v.
+    /// The types of the role: bit v - 1 stands for the value v.
     pub types: Set,
 }
 

@@ -1,15 +1,16 @@
 ghost use Rattle.std.specs.Prelude.{◌≡◌, IfOk};
 ghost use Rattle.pol_cursor.specs.Outcome.{Answers};
-ghost use Rattle.pol_cursor.specs.References.{dangling_of};
-ghost use Rattle.pol_datums.specs.RoleRecord.{role_at, role_in, HasRole, dominates_place, role_references};
+ghost use Rattle.pol_datums.specs.RoleRecord.{role_at, role_in, HasRole, dominates_place};
 
-use crate::parts::owned;
+use crate::role_kind::Role;
 use crate::role_rec::RoleRec;
 use crate::rows::ROLE;
 use crate::symbol_references::dangling_bounds;
 use crate::symbol_values::{read_bounds, read_new_value};
 use pol_bitmap::{BitmapView, Set};
-use pol_cursor::{Cursor, Fault, Mention, Names, TableKind, string_in, u32_in};
+use pol_cursor::{
+    ByteList, Copied, Cursor, Fault, Mention, Names, Referring, TableKind, string_in, u32_in,
+};
 use pol_symtab::{Taken, read_symbol_length, read_symbol_name};
 use std::alloc::{AllocError, Global};
 use std::marker::Model;
@@ -42,7 +43,7 @@ impl<'a> RoleView<'a> {
         RoleView { bytes, place }
     }
 
-    /// Its value.
+    /// The value of the role.
     pub fn value(&self) -> u32
         ensures { result ≡ self.now.value.value }
     {
@@ -56,7 +57,7 @@ impl<'a> RoleView<'a> {
         u32_in(self.bytes, self.place as usize + 8)
     }
 
-    /// Its name.
+    /// The name of the role.
     pub fn name(&self) -> &'a [u8]
         ensures { result.now ≡ self.now.value.name }
     {
@@ -71,7 +72,7 @@ impl<'a> RoleView<'a> {
         BitmapView::at(self.bytes, dominates_place(self.bytes, self.place))
     }
 
-    /// Its types: bit v - 1 stands for the value v.
+    /// The types of the role: bit v - 1 stands for the value v.
     #[tactic(auto, using(pol_bitmap::proofs::NodePlaces::length_nodes_in))]
     pub fn types(&self) -> BitmapView<'a>
         ensures { result ≡ self.now.value.types }
@@ -79,25 +80,28 @@ impl<'a> RoleView<'a> {
         let place = dominates_place(self.bytes, self.place) + self.dominates().size();
         BitmapView::at(self.bytes, place)
     }
+}
+
+impl<'a> Referring<'a> for Role {
+    ghost use Rattle.pol_datums.specs.RoleRecord.{role_references};
+
+    ghost references = { role_references };
 
     /// The role that bounds it as a fault at its field, where no primary record declares it.
-    pub fn dangling<N: Names>(&self, names: &N) -> Option<Fault>
-        ensures { result ≡ dangling_of (N.named names.now) (role_references self.now) }
-    {
-        let bounds = Mention::new(ROLE, 3, self.place + 8, TableKind::Roles, self.bounds());
+    fn dangling<N: Names>(view: &RoleView<'a>, names: &N) -> Option<Fault> {
+        let bounds = Mention::new(ROLE, 3, view.place + 8, TableKind::Roles, view.bounds());
         dangling_bounds(names, bounds)
     }
+}
 
-    /// The same role, owned.
-    pub fn rec(&self, alloc: Global) -> Result<RoleRec, AllocError>
-        ensures { IfOk result (λ role. role ≡ self.now.value) }
-    {
+impl<'a> Copied<'a> for Role {
+    fn rec(view: &RoleView<'a>, alloc: Global) -> Result<RoleRec, AllocError> {
         Ok(RoleRec {
-            value: self.value(),
-            bounds: self.bounds(),
-            name: owned(alloc, self.name())?,
-            dominates: Set::from_view(alloc, &self.dominates())?,
-            types: Set::from_view(alloc, &self.types())?,
+            value: view.value(),
+            bounds: view.bounds(),
+            name: ByteList::copy_of(alloc, view.name())?,
+            dominates: Set::from_view(alloc, &view.dominates())?,
+            types: Set::from_view(alloc, &view.types())?,
         })
     }
 }

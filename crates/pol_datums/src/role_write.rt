@@ -1,21 +1,27 @@
-ghost use Rattle.std.specs.Prelude.{◌≡◌, ◌++◌, OnOk};
+ghost use Rattle.pol_cursor.specs.Writing.{Writes};
 ghost use Rattle.pol_datums.specs.RoleRecord.{spell_role};
 
 use crate::role_rec::RoleRec;
-use pol_bitmap::write_bitmap;
-use pol_cursor::push_number;
+use pol_cursor::{Part, Written};
 use std::alloc::AllocError;
 
-/// Appends the bytes of a role, which are the same in each version.
-///
-/// After want of memory a part of them may be there.
+/// Appends the bytes of a role, which are the same in each version. Out of memory, a beginning of them was appended.
 pub fn write_role(role: &RoleRec, _version: u32, out: &mut Vec<u8>) -> Result<(), AllocError>
-    ensures { OnOk result (out.new.items ≡ out.old.items ++ spell_role role.now) }
+    ensures { Writes out.old.items out.new.items (spell_role role.now) result }
 {
-    push_number(out, 4, role.name.len() as u64)?;
-    push_number(out, 4, role.value as u64)?;
-    push_number(out, 4, role.bounds as u64)?;
-    out.extend_from_slice(role.name.as_slice())?;
-    write_bitmap(&role.dominates, out)?;
-    write_bitmap(&role.types, out)
+    role.write(out)
+}
+
+impl Written for RoleRec {
+    ghost use Rattle.pol_datums.specs.RoleRecord.{spell_role};
+
+    ghost spelling = { spell_role };
+
+    fn write(&self, out: &mut Vec<u8>) -> Result<(), AllocError> {
+        let len = Part::U32(self.name.len() as u64);
+        let value = Part::U32(self.value as u64);
+        let bounds = Part::U32(self.bounds as u64);
+        let name = Part::Bytes(self.name.as_slice());
+        (len, value, bounds, (name, &self.dominates, &self.types)).write(out)
+    }
 }

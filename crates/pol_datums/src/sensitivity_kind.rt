@@ -48,6 +48,7 @@ impl<'a> ReadAfter<'a> for Sensitivity {
 }
 
 impl SymbolKind for Sensitivity {
+    ghost use Rattle.pol_datums.specs.SensitivityRecord.{spell_sensitivity, SensitivityFits};
     ghost use Rattle.pol_datums.specs.Flags.{is_primary_flag};
 
     ghost name_of = { λ level. level.name };
@@ -55,6 +56,10 @@ impl SymbolKind for Sensitivity {
     ghost value_of = { λ level. level.sens };
 
     ghost is_primary = { λ level. is_primary_flag level.isalias };
+
+    ghost spelling = { spell_sensitivity };
+
+    ghost fits = { SensitivityFits };
 }
 
 impl<'a> Symbol<'a> for Sensitivity {

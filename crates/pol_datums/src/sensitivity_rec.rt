@@ -8,7 +8,7 @@ pub struct SensitivityRec {
     pub isalias: u32,
     /// One byte or more, from 0x21 to 0x7E.
     pub name: ByteList,
-    /// Its value, from 1 to the table's nprim. An alias has that of the sensitivity that it stands for.
+    /// The value of the sensitivity, from 1 to the table's nprim. An alias has that of the sensitivity that it stands for.
     pub sens: u32,
     /// The categories that go with it: bit v - 1 stands for the value v.
     pub categories: Set,

@@ -1,18 +1,20 @@
 ghost use Rattle.std.specs.Prelude.{◌≡◌, ◌+◌, ◌≤◌, IfOk, OnOk, length};
 ghost use Rattle.pol_cursor.specs.Parts.{num};
 ghost use Rattle.pol_cursor.specs.Outcome.{Answers};
-ghost use Rattle.pol_cursor.specs.References.{dangling_of};
 ghost use Rattle.pol_datums.specs.Flags.{is_primary_flag};
-ghost use Rattle.pol_datums.specs.SensitivityRecord.{sens_at, sensitivity_at, sensitivity_in, HasSensitivity, sens_place, sensitivity_references};
+ghost use Rattle.pol_datums.specs.SensitivityRecord.{sens_at, sensitivity_at, sensitivity_in, HasSensitivity, sens_place};
 
 use crate::causes::sens_cause;
 use crate::flags::{is_primary_flag, read_flag};
-use crate::parts::owned;
 use crate::rows::SENSITIVITY;
+use crate::sensitivity_kind::Sensitivity;
 use crate::sensitivity_rec::SensitivityRec;
 use crate::symbol_references::dangling_alias;
 use pol_bitmap::{BitmapView, Set};
-use pol_cursor::{Cursor, Fault, Field, Mention, Names, TableKind, refuse, string_in, u32_in};
+use pol_cursor::{
+    ByteList, Copied, Cursor, Fault, Field, Mention, Names, Referring, TableKind, refuse,
+    string_in, u32_in,
+};
 use pol_symtab::{Taken, read_symbol_length, read_symbol_name};
 use std::alloc::{AllocError, Global};
 use std::marker::Model;
@@ -52,7 +54,7 @@ impl<'a> SensitivityView<'a> {
         u32_in(self.bytes, self.place as usize + 4)
     }
 
-    /// Its name.
+    /// The name of the sensitivity.
     pub fn name(&self) -> &'a [u8]
         ensures { result.now ≡ self.now.value.name }
     {
@@ -60,7 +62,7 @@ impl<'a> SensitivityView<'a> {
         string_in(self.bytes, self.place as usize + 8, len as usize)
     }
 
-    /// Its value. An alias has that of the sensitivity that it stands for.
+    /// The value of the sensitivity. An alias has that of the sensitivity that it stands for.
     pub fn sens(&self) -> u32
         ensures { result ≡ self.now.value.sens }
     {
@@ -80,25 +82,28 @@ impl<'a> SensitivityView<'a> {
     {
         is_primary_flag(self.isalias())
     }
+}
+
+impl<'a> Referring<'a> for Sensitivity {
+    ghost use Rattle.pol_datums.specs.SensitivityRecord.{sensitivity_references};
+
+    ghost references = { sensitivity_references };
 
     /// The sensitivity that an alias stands for as a fault at its field, where no primary record declares it.
-    pub fn dangling<N: Names>(&self, names: &N) -> Option<Fault>
-        ensures { result ≡ dangling_of (N.named names.now) (sensitivity_references self.now) }
-    {
-        let place = self.place + 8 + self.name().len() as u32;
-        let stands_for = Mention::new(SENSITIVITY, 4, place, TableKind::Levels, self.sens());
-        dangling_alias(names, self.is_primary(), stands_for)
+    fn dangling<N: Names>(view: &SensitivityView<'a>, names: &N) -> Option<Fault> {
+        let place = view.place + 8 + view.name().len() as u32;
+        let stands_for = Mention::new(SENSITIVITY, 4, place, TableKind::Levels, view.sens());
+        dangling_alias(names, view.is_primary(), stands_for)
     }
+}
 
-    /// The same sensitivity, owned.
-    pub fn rec(&self, alloc: Global) -> Result<SensitivityRec, AllocError>
-        ensures { IfOk result (λ level. level ≡ self.now.value) }
-    {
+impl<'a> Copied<'a> for Sensitivity {
+    fn rec(view: &SensitivityView<'a>, alloc: Global) -> Result<SensitivityRec, AllocError> {
         Ok(SensitivityRec {
-            isalias: self.isalias(),
-            name: owned(alloc, self.name())?,
-            sens: self.sens(),
-            categories: Set::from_view(alloc, &self.categories())?,
+            isalias: view.isalias(),
+            name: ByteList::copy_of(alloc, view.name())?,
+            sens: view.sens(),
+            categories: Set::from_view(alloc, &view.categories())?,
         })
     }
 }

@@ -48,6 +48,7 @@ impl<'a> ReadAfter<'a> for Type {
 }
 
 impl SymbolKind for Type {
+    ghost use Rattle.pol_datums.specs.TypeRecord.{spell_type, TypeFits};
     ghost use Rattle.pol_datums.specs.TypeRecord.{is_primary_type};
 
     ghost name_of = { λ t. t.name };
@@ -55,6 +56,10 @@ impl SymbolKind for Type {
     ghost value_of = { λ t. t.value };
 
     ghost is_primary = { λ t. is_primary_type t.properties };
+
+    ghost spelling = { spell_type };
+
+    ghost fits = { TypeFits };
 }
 
 impl<'a> Symbol<'a> for Type {

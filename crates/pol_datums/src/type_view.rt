@@ -1,16 +1,18 @@
 ghost use Rattle.std.specs.Prelude.{◌≡◌, IfOk};
 ghost use Rattle.pol_cursor.specs.Outcome.{Answers};
-ghost use Rattle.pol_cursor.specs.References.{dangling_of};
-ghost use Rattle.pol_datums.specs.TypeRecord.{type_at, type_in, HasType, is_primary_type, flavour_of, type_references};
+ghost use Rattle.pol_datums.specs.TypeRecord.{type_at, type_in, HasType, is_primary_type, flavour_of};
 
 use crate::causes::{is_attribute, is_primary_type, properties_cause};
 use crate::flavour::Flavour;
-use crate::parts::owned;
 use crate::rows::TYPE;
 use crate::symbol_references::{dangling_alias, dangling_bounds};
 use crate::symbol_values::{read_bounds, read_value};
+use crate::type_kind::Type;
 use crate::type_rec::TypeRec;
-use pol_cursor::{Cursor, Fault, Field, Mention, Names, TableKind, refuse, string_in, u32_in};
+use pol_cursor::{
+    ByteList, Copied, Cursor, Fault, Field, Mention, Names, Referring, TableKind, refuse,
+    string_in, u32_in,
+};
 use pol_symtab::{Taken, read_symbol_length, read_symbol_name};
 use std::alloc::{AllocError, Global};
 use std::marker::Model;
@@ -43,14 +45,14 @@ impl<'a> TypeView<'a> {
         TypeView { bytes, place }
     }
 
-    /// Its value. An alias has the value of the type that it stands for.
+    /// The value of the type. An alias has the value of the type that it stands for.
     pub fn value(&self) -> u32
         ensures { result ≡ self.now.value.value }
     {
         u32_in(self.bytes, self.place as usize + 4)
     }
 
-    /// Its properties: bit 0x1 is primary and bit 0x2 attribute.
+    /// The properties of the type: bit 0x1 is primary and bit 0x2 attribute.
     pub fn properties(&self) -> u32
         ensures { result ≡ self.now.value.properties }
     {
@@ -64,7 +66,7 @@ impl<'a> TypeView<'a> {
         u32_in(self.bytes, self.place as usize + 12)
     }
 
-    /// Its name.
+    /// The name of the type.
     pub fn name(&self) -> &'a [u8]
         ensures { result.now ≡ self.now.value.name }
     {
@@ -92,32 +94,35 @@ impl<'a> TypeView<'a> {
             None
         }
     }
+}
+
+impl<'a> Referring<'a> for Type {
+    ghost use Rattle.pol_datums.specs.TypeRecord.{type_references};
+
+    ghost references = { type_references };
 
     /// The first reference, in file order, whose value no primary record declares, as a fault at its field: the type that an
     /// alias stands for, and the type that bounds it.
-    pub fn dangling<N: Names>(&self, names: &N) -> Option<Fault>
-        ensures { result ≡ dangling_of (N.named names.now) (type_references self.now) }
-    {
+    fn dangling<N: Names>(view: &TypeView<'a>, names: &N) -> Option<Fault> {
         let types = TableKind::Types;
-        let stands_for = Mention::new(TYPE, 2, self.place + 4, types, self.value());
-        match dangling_alias(names, self.is_primary(), stands_for) {
+        let stands_for = Mention::new(TYPE, 2, view.place + 4, types, view.value());
+        match dangling_alias(names, view.is_primary(), stands_for) {
             Some(fault) => Some(fault),
             None => {
-                let bounds = Mention::new(TYPE, 4, self.place + 12, types, self.bounds());
+                let bounds = Mention::new(TYPE, 4, view.place + 12, types, view.bounds());
                 dangling_bounds(names, bounds)
             }
         }
     }
+}
 
-    /// The same type, owned.
-    pub fn rec(&self, alloc: Global) -> Result<TypeRec, AllocError>
-        ensures { IfOk result (λ t. t ≡ self.now.value) }
-    {
+impl<'a> Copied<'a> for Type {
+    fn rec(view: &TypeView<'a>, alloc: Global) -> Result<TypeRec, AllocError> {
         Ok(TypeRec {
-            value: self.value(),
-            properties: self.properties(),
-            bounds: self.bounds(),
-            name: owned(alloc, self.name())?,
+            value: view.value(),
+            properties: view.properties(),
+            bounds: view.bounds(),
+            name: ByteList::copy_of(alloc, view.name())?,
         })
     }
 }

@@ -1,19 +1,28 @@
-ghost use Rattle.std.specs.Prelude.{◌≡◌, ◌++◌, OnOk};
+ghost use Rattle.pol_cursor.specs.Writing.{Writes};
 ghost use Rattle.pol_datums.specs.TypeRecord.{spell_type};
 
 use crate::type_rec::TypeRec;
-use pol_cursor::push_number;
+use pol_cursor::{Part, Written};
 use std::alloc::AllocError;
 
-/// Appends the bytes of a type, which are the same in each version.
-///
-/// After want of memory a part of them may be there.
+/// Appends the bytes of a type, which are the same in each version. Out of memory, a beginning of them was appended.
 pub fn write_type(rec: &TypeRec, _version: u32, out: &mut Vec<u8>) -> Result<(), AllocError>
-    ensures { OnOk result (out.new.items ≡ out.old.items ++ spell_type rec.now) }
+    ensures { Writes out.old.items out.new.items (spell_type rec.now) result }
 {
-    push_number(out, 4, rec.name.len() as u64)?;
-    push_number(out, 4, rec.value as u64)?;
-    push_number(out, 4, rec.properties as u64)?;
-    push_number(out, 4, rec.bounds as u64)?;
-    out.extend_from_slice(rec.name.as_slice())
+    rec.write(out)
+}
+
+impl Written for TypeRec {
+    ghost use Rattle.pol_datums.specs.TypeRecord.{spell_type};
+
+    ghost spelling = { spell_type };
+
+    fn write(&self, out: &mut Vec<u8>) -> Result<(), AllocError> {
+        let len = Part::U32(self.name.len() as u64);
+        let value = Part::U32(self.value as u64);
+        let properties = Part::U32(self.properties as u64);
+        let bounds = Part::U32(self.bounds as u64);
+        let name = Part::Bytes(self.name.as_slice());
+        (len, value, properties, (bounds, name)).write(out)
+    }
 }

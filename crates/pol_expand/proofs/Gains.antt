@@ -9,8 +9,7 @@ use Rattle.std.proofs.lemmas.Map.Views.{Contains-from_any}
 use Rattle.pol_bitmap.specs.declared.node.Node.{Node}
 use Rattle.pol_bitmap.specs.Nodes.{bits_of, has_bit, IsRisingFrom}
 use Rattle.pol_bitmap.proofs.BitLists.{RisesFrom, bits_rise, has_bit-from_bits, bits-from_has_bit}
-use Rattle.pol_expand.specs.Expansion.{has_attribute}
-use Rattle.pol_expand.specs.Inverting.{GainWhere, AreLists, times}
+use Rattle.pol_expand.specs.Inverting.{has_attribute, GainWhere, AreLists, times}
 use Rattle.pol_expand.proofs.Values.{same_tests, filter_range_more}
 
 -- ---- one bit

@@ -3,3 +3,4 @@ pub mod Gains
 pub mod Listing
 pub mod Touching
 pub mod Remembering
+pub mod PolicyMaps

@@ -11,8 +11,8 @@ use Rattle.pol_bitmap.specs.declared.node.Node.{Node}
 use Rattle.pol_bitmap.specs.Nodes.{bits_of, has_bit}
 use Rattle.pol_bitmap.specs.Sets.{ShareBit}
 use Rattle.pol_bitmap.proofs.BitLists.{bits-from_has_bit}
-use Rattle.pol_expand.specs.Expansion.{has_attribute, expand, expand_all, expansion_of, HaveRows}
-use Rattle.pol_expand.specs.Inverting.{AreLists, listed, listed_all, IsInversion}
+use Rattle.pol_expand.specs.Expansion.{expansion, expand_by, expand_all, expansion_of, HaveRows}
+use Rattle.pol_expand.specs.Inverting.{has_attribute, AreLists, listed, listed_all, IsInversion}
 use Rattle.pol_expand.proofs.Values.{filter_rises, one_rises}
 
 pub listed_at : (attributes : List Node) (lists : List (List ℕ)) (value : ℕ) → 1 ≤ value → value ≤ length lists → expansion_of (listed_all attributes lists) value ≡ listed attributes lists value
@@ -35,8 +35,8 @@ back value low = omega arith
 list_is : (rows : List (List Node)) (attributes types : List Node) (lists : List (List ℕ)) (value : ℕ) → AreLists rows attributes types (length rows) lists → 1 ≤ value → value ≤ length lists → has_bit attributes value ≡ true → slice_index_or lists (value - 1) [] ≡ filter (has_attribute rows types (value - 1)) (range_with_len 1 (length rows))
 list_is rows attributes types lists value h low high e = h.each (value - 1) (omega arith) (ap (has_bit attributes) (back value low) ∙ e)
 
-expands : (rows : List (List Node)) (attributes types : List Node) (lists : List (List ℕ)) (value : ℕ) → AreLists rows attributes types (length rows) lists → 1 ≤ value → value ≤ length lists → listed attributes lists value ≡ expand rows attributes types value
-unfolding expand
+expands : (rows : List (List Node)) (attributes types : List Node) (lists : List (List ℕ)) (value : ℕ) → AreLists rows attributes types (length rows) lists → 1 ≤ value → value ≤ length lists → listed attributes lists value ≡ expand_by rows attributes types value
+unfolding expansion
 expands rows attributes types lists value h low high = elim (cases_Bool (has_bit attributes value)) [
   | inl is ↦ rw is (list_is rows attributes types lists value h low high is)
   | inr not ↦ rw not refl
@@ -52,8 +52,8 @@ map_agrees f g a (suc n) h =
 pub listed_is_expanded : (rows : List (List Node)) (attributes types : List Node) (lists : List (List ℕ)) → AreLists rows attributes types (length rows) lists → listed_all attributes lists ≡ expand_all rows attributes types
 unfolding listed_all expand_all
 listed_is_expanded rows attributes types lists h =
-    map_agrees (listed attributes lists) (expand rows attributes types) 1 (length lists) (λ x low high. expands rows attributes types lists x h low (omega arith))
-    ∙ ap (λ (n : ℕ). map (expand rows attributes types) (range_with_len 1 n)) h.count
+    map_agrees (listed attributes lists) (expand_by rows attributes types) 1 (length lists) (λ x low high. expands rows attributes types lists x h low (omega arith))
+    ∙ ap (λ (n : ℕ). map (expand_by rows attributes types) (range_with_len 1 n)) h.count
 
 pub inversion_of : (rows : List (List Node)) (attributes types : List Node) (lists : List (List ℕ)) → length rows ≤ 65535 → HaveRows rows attributes → HaveRows rows types → (ShareBit (bits_of attributes) (bits_of types) → ⊥) → AreLists rows attributes types (length rows) lists → IsInversion lists attributes types
 inversion_of rows attributes types lists few left right apart h = record {
@@ -68,6 +68,6 @@ inversion_of rows attributes types lists few left right apart h = record {
       (λ e. one_rises value);
 }
 
-pub expanded_at : (rows : List (List Node)) (attributes types : List Node) (value : ℕ) → 1 ≤ value → value ≤ length rows → expansion_of (expand_all rows attributes types) value ≡ expand rows attributes types value
+pub expanded_at : (rows : List (List Node)) (attributes types : List Node) (value : ℕ) → 1 ≤ value → value ≤ length rows → expansion_of (expand_all rows attributes types) value ≡ expand_by rows attributes types value
 unfolding expand_all
-expanded_at rows attributes types value low high = get_or-map-range_with_len (expand rows attributes types) 1 (length rows) (value - 1) value [] (omega arith) (omega arith)
+expanded_at rows attributes types value low high = get_or-map-range_with_len (expand_by rows attributes types) 1 (length rows) (value - 1) value [] (omega arith) (omega arith)

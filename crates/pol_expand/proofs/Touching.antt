@@ -1,42 +1,16 @@
 -- The declared values whose expansion shares a type with given ones.
-use Rattle.std.proofs.Common.{◌≡◌, inl, inr, ℕ, ◌+◌, ◌-◌, ◌<◌, ◌≤◌, Bool, true, false, List, [], ◌∷◌, length, refl, sym, ap, subst, ◌∙◌, Result, Ok, Err, IfOk, arith}
+use Rattle.std.proofs.Common.{◌≡◌, inl, inr, ℕ, true, false, List, [], ◌∷◌, length, sym, ap, subst, ◌∙◌, Result, Ok, Err, IfOk, arith}
 use Rattle.std.specs.List.{Contains, filter, list_any, range_with_len}
-use Rattle.std.proofs.lemmas.Bool.{cond_both, and_from, and_parts, or_cases, or_left, or_right, false_from_ne_true}
-use Rattle.std.proofs.lemmas.List.Elements.{All-cons, All-nil, All-contains, Contains-get_or, Contains-append_right, Contains-append_cases, filter_passes}
-use Rattle.std.proofs.lemmas.List.FromFn.{length-range_with_len, get_or-range_with_len}
+use Rattle.std.proofs.lemmas.Bool.{and_from, and_parts, or_cases, or_left, or_right, false_from_ne_true}
+use Rattle.std.proofs.lemmas.List.Elements.{All-contains, Contains-append_right, Contains-append_cases, filter_passes}
 use Rattle.pol_bitmap.specs.declared.node.Node.{Node}
 use Rattle.pol_bitmap.specs.Nodes.{bits_of, has_bit}
 use Rattle.pol_bitmap.specs.Sets.{ShareBit, IsCommon, IsUnion}
 use Rattle.pol_bitmap.proofs.BitLists.{bits-from_has_bit, has_bit-from_bits}
+use Rattle.pol_bitmap.proofs.Elements.{contains_nothing, contains_one, contains_first, keeps, contains_range}
 use Rattle.pol_expand.specs.Expansion.{expansion_of, IsDeclared, IsTouching}
 use Rattle.pol_expand.specs.Inverting.{listed_all, touches, IsInversion}
 use Rattle.pol_expand.proofs.Listing.{listed_at, type_listed}
-
--- ---- elements of lists
-
-contains_nothing : (x : ℕ) → Contains [] x → ⊥
-contains_nothing x h = omega (arith, h.1)
-
-contains_one : (x y : ℕ) → Contains (y ∷ []) x → y ≡ x
-contains_one x y h = All-contains (λ (z : ℕ). y ≡ z) (y ∷ []) x (All-cons (λ (z : ℕ). y ≡ z) y [] refl (All-nil (λ (z : ℕ). y ≡ z))) h
-
-contains_first : (x : ℕ) (xs : List ℕ) → Contains (x ∷ xs) x
-contains_first x xs = Contains-get_or (x ∷ xs) 0 x (omega arith)
-
-contains_kept : (p : ℕ → Bool) (xs : List ℕ) (x : ℕ) → p x ≡ true → Contains xs x → Contains (filter p xs) x
-contains_kept p [] x e h = absurd (contains_nothing x h)
-contains_kept p (y ∷ ys) x e h = elim (Contains-append_cases (y ∷ []) ys x h) [
-  | inl one ↦ let same : y ≡ x = contains_one x y one in
-      let passes : p y ≡ true = ap p same ∙ e in
-      rw passes (subst (λ (z : ℕ). Contains (z ∷ filter p ys) x) (sym same) (contains_first x (filter p ys)))
-  | inr rest ↦ cond_both (p y) (y ∷ filter p ys) (filter p ys) (λ (zs : List ℕ). Contains zs x) (λ t. Contains-append_right (y ∷ []) (filter p ys) x (contains_kept p ys x e rest)) (λ t. contains_kept p ys x e rest)
-]
-
-contains_range : (n value : ℕ) → 1 ≤ value → value ≤ n → Contains (range_with_len 1 n) value
-contains_range n value low high =
-    let within : value - 1 < n = omega arith in
-    let at : 1 + (value - 1) ≡ value = omega arith in
-    subst (Contains (range_with_len 1 n)) (get_or-range_with_len 1 n (value - 1) 0 within ∙ at) (Contains-get_or (range_with_len 1 n) (value - 1) 0 (omega (arith, length-range_with_len 1 n)))
 
 -- ---- some value of a set
 
@@ -89,7 +63,7 @@ touching_is lists attributes types given own rest all h common e union = record 
       | inl a ↦
           let within = h.declared value both.0 in
           let test : touches (listed_all attributes lists) attributes given value ≡ true = and_from (has_bit attributes value) _ (has_bit-from_bits attributes value a) (any_from_share (expansion_of (listed_all attributes lists) value) given both.1) in
-          let there = contains_kept (touches (listed_all attributes lists) attributes given) (range_with_len 1 (length lists)) value test (contains_range (length lists) value within.0 within.1) in
+          let there = keeps (touches (listed_all attributes lists) attributes given) (range_with_len 1 (length lists)) value (contains_range 1 (length lists) value within.0 (omega (arith, within.1))) test in
           (union.each value).1 (inr (subst (λ (xs : List ℕ). Contains xs value) (sym e) there))
       | inr t ↦
           let s : ShareBit (value ∷ []) (bits_of given) = subst (λ (xs : List ℕ). ShareBit xs (bits_of given)) (type_expands lists attributes types value h t) both.1 in

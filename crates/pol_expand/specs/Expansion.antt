@@ -6,23 +6,25 @@ use Rattle.pol_bitmap.specs.Nodes.{bits_of, has_bit}
 use Rattle.pol_bitmap.specs.Sets.{ShareBit}
 use Rattle.pol_bitmap.specs.Kept.{IsNumberOf}
 
+-- What a value expands to, rising, by tests of attributes and types and by the rows of the first n values: an attribute to the
+-- types whose row has its bit, where bit v - 1 stands for the value v (libsepol's type_attr_map, turned round), and any other
+-- value to itself (SETools' expand()).
+unfoldable pub expansion : (ℕ → Bool) → (ℕ → Bool) → (ℕ → List Node) → ℕ → ℕ → List ℕ
+expansion is_attribute is_type row n value =
+    if is_attribute value then filter (λ type. is_type type && has_bit (row type) (value - 1)) (range_with_len 1 n) else value ∷ []
+
+-- ---- by rows, and by sets of the declared values
+
 -- the row of a type in the map of types to attributes, which has one row a value, from 1 on
 abbrev pub row_of : List (List Node) → ℕ → List Node
 row_of rows type = slice_index_or rows (type - 1) []
 
--- a declared type whose row has a bit
-abbrev pub has_attribute : List (List Node) → List Node → ℕ → ℕ → Bool
-has_attribute rows types bit type = has_bit types type && has_bit (row_of rows type) bit
-
--- What a value expands to, rising: an attribute to the declared types that have it, where bit v - 1 of a row stands for the
--- value v (libsepol's type_attr_map, turned round), and a type to itself (SETools' expand()).
-unfoldable pub expand : List (List Node) → List Node → List Node → ℕ → List ℕ
-expand rows attributes types value =
-    if has_bit attributes value then filter (has_attribute rows types (value - 1)) (range_with_len 1 (length rows)) else value ∷ []
+abbrev pub expand_by : List (List Node) → List Node → List Node → ℕ → List ℕ
+expand_by rows attributes types = expansion (has_bit attributes) (has_bit types) (row_of rows) (length rows)
 
 -- what each value expands to, by value from 1 on
 unfoldable pub expand_all : List (List Node) → List Node → List Node → List (List ℕ)
-expand_all rows attributes types = map (expand rows attributes types) (range_with_len 1 (length rows))
+expand_all rows attributes types = map (expand_by rows attributes types) (range_with_len 1 (length rows))
 
 -- what a value expands to, by such a list
 abbrev pub expansion_of : List (List ℕ) → ℕ → List ℕ

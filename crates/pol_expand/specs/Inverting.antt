@@ -4,7 +4,11 @@ use Rattle.std.specs.List.{filter, list_any, range_with_len, count_by}
 use Rattle.std.specs.List.Sorted.{IsStrictlyIncreasing}
 use Rattle.pol_bitmap.specs.declared.node.Node.{Node}
 use Rattle.pol_bitmap.specs.Nodes.{bits_of, has_bit}
-use Rattle.pol_expand.specs.Expansion.{has_attribute, expansion_of, IsDeclared}
+use Rattle.pol_expand.specs.Expansion.{row_of, expansion_of, IsDeclared}
+
+-- a declared type whose row has a bit
+abbrev pub has_attribute : List (List Node) → List Node → ℕ → ℕ → Bool
+has_attribute rows types bit type = has_bit types type && has_bit (row_of rows type) bit
 
 -- Each list of an attribute gains a type where a test of its bit says so. The list of bit v - 1 is that of the value v.
 pub record GainWhere (attributes : List Node) (type : ℕ) (gains : ℕ → Bool) (old new : List (List ℕ)) : Type 0 where

@@ -71,7 +71,7 @@ fn add_row(
     requires { length lists.old ≤ 65535 }
     ensures { OnOk result (GainWhere attributes.now value (has_bit row.now) lists.old lists.new) }
 {
-    // its nodes rise, so no bit comes twice
+    // the clause of the count says that the nodes rise, so no bit comes twice
     let _ = row.node_count();
     for bit in row.bits() {
         add_bit(lists, attributes, bit, value)?;

@@ -1,14 +1,13 @@
 ghost use Rattle.std.specs.Prelude.{◌≡◌, ◌≤◌, ◌<◌, ◌+◌, ◌-◌, [], IfOk, length};
 ghost use Rattle.std.specs.List.{filter, list_any, range_with_len};
-ghost use Rattle.std.specs.List.Sorted.{IsStrictlyIncreasing};
 ghost use Rattle.pol_bitmap.specs.Nodes.{bits_of, has_bit};
-ghost use Rattle.pol_bitmap.specs.Sets.{ShareBit};
+ghost use Rattle.pol_bitmap.specs.Sets.{IsSet, ShareBit};
 ghost use Rattle.pol_expand.specs.Expansion.{expand_all, expansion_of, HaveRows, IsDeclared, IsTouching};
 ghost use Rattle.pol_expand.specs.Inverting.{touches};
 
 use crate::building::{has_value, lists_of};
 use crate::type_list::TypeList;
-use pol_bitmap::{BitmapView, Set, SetError};
+use pol_bitmap::{BitmapView, Set};
 use std::alloc::{AllocError, Global};
 use std::marker::Model;
 
@@ -60,6 +59,7 @@ impl Inverse {
         ensures within { result < self.now.count }
         ensures few { self.now.count ≤ 65535 }
     {
+        // the read shows the invariant: declared values are 1 to the number of the lists
         let _ = &self.lists;
         value as usize - 1
     }
@@ -75,13 +75,14 @@ impl Inverse {
     /// What a declared value expands to.
     pub fn set_of(&self, alloc: Global, value: u32) -> Result<Set, AllocError>
         requires { IsDeclared self.now.attributes self.now.types value }
-        ensures { IfOk result (λ set. bits_of set ≡ expansion_of self.now.expansions value) }
+        ensures form { IfOk result IsSet }
+        ensures bits { IfOk result (λ set. bits_of set ≡ expansion_of self.now.expansions value) }
     {
         if has_value(&self.attributes, value) {
             let place = self.place_of(value);
-            set_from(alloc, self.lists[place].as_slice())
+            Set::from_rising(alloc, self.lists[place].as_slice())
         } else {
-            set_from(alloc, &[value])
+            Set::from_rising(alloc, &[value])
         }
     }
 
@@ -91,7 +92,7 @@ impl Inverse {
     {
         let types = self.types.common(alloc, given)?;
         let values = self.touching_attributes(alloc, given)?;
-        let attributes = set_from(alloc, &values)?;
+        let attributes = Set::from_rising(alloc, &values)?;
         types.union(alloc, &attributes)
     }
 
@@ -124,16 +125,4 @@ fn has_any(values: &[u32], set: &Set) -> bool
     ensures { result ≡ list_any (has_bit set.now) values.now }
 {
     values.iter().any(|value| has_value(set, *value))
-}
-
-// The set of values that rise.
-fn set_from(alloc: Global, values: &[u32]) -> Result<Set, AllocError>
-    requires { IsStrictlyIncreasing values.now }
-    ensures { IfOk result (λ set. bits_of set ≡ values.now) }
-{
-    match Set::from_bits(alloc, values) {
-        Ok(set) => Ok(set),
-        Err(SetError::Memory) => Err(AllocError),
-        Err(SetError::NotRising) => unreachable!(),
-    }
 }

@@ -2,13 +2,14 @@
 #![tactic(auto)]
 
 mod building;
+mod expansions;
+mod flavours;
 mod inverse;
 mod laws;
+mod policy_map;
 mod type_list;
-mod type_map;
 
+pub use expansions::TypeMap;
+pub use flavours::is_flavour;
 pub use laws::expansions_stand_by_value;
-pub use type_map::TypeMap;
-
-#[cfg(test)]
-mod tests;
+pub use policy_map::type_map;

@@ -107,7 +107,7 @@ impl<'a> ConditionView<'a> {
         None
     }
 
-    /// The same condition, owned.
+    /// A copy of the condition.
     pub fn rec(&self, alloc: Global) -> Result<ConditionRec, AllocError>
         ensures { IfOk result (λ condition. condition ≡ self.now.value) }
     {

@@ -1,25 +1,39 @@
-ghost use Rattle.std.specs.Prelude.{◌≡◌, ◌++◌, OnOk};
+ghost use Rattle.pol_cursor.specs.Writing.{Writes};
 ghost use Rattle.pol_expr.specs.ConditionRecord.{spell_condition};
 
-use crate::condition_rec::ConditionRec;
-use pol_cursor::push_number;
+use crate::condition_rec::{ConditionItem, ConditionRec};
+use pol_cursor::{Part, Written};
 use std::alloc::AllocError;
 
-/// Appends the bytes of a condition, which are the same in each version.
-///
-/// After want of memory a part of them may be there.
+/// Appends the bytes of a condition, which are the same in each version. Out of memory, a beginning of them was appended.
 pub fn write_condition(
     condition: &ConditionRec,
     _version: u32,
     out: &mut Vec<u8>,
 ) -> Result<(), AllocError>
-    ensures { OnOk result (out.new.items ≡ out.old.items ++ spell_condition condition.now) }
+    ensures { Writes out.old.items out.new.items (spell_condition condition.now) result }
 {
-    push_number(out, 4, condition.state as u64)?;
-    push_number(out, 4, condition.items.len() as u64)?;
-    for item in condition.items.as_slice() {
-        push_number(out, 4, item.kind as u64)?;
-        push_number(out, 4, item.boolean as u64)?;
+    condition.write(out)
+}
+
+impl Written for ConditionRec {
+    ghost use Rattle.pol_expr.specs.ConditionRecord.{spell_condition};
+
+    ghost spelling = { spell_condition };
+
+    fn write(&self, out: &mut Vec<u8>) -> Result<(), AllocError> {
+        let state = Part::U32(self.state as u64);
+        let count = Part::U32(self.items.len() as u64);
+        (state, count, &self.items).write(out)
     }
-    Ok(())
+}
+
+impl Written for ConditionItem {
+    ghost use Rattle.pol_expr.specs.ConditionRecord.{spell_item};
+
+    ghost spelling = { spell_item };
+
+    fn write(&self, out: &mut Vec<u8>) -> Result<(), AllocError> {
+        (Part::U32(self.kind as u64), Part::U32(self.boolean as u64)).write(out)
+    }
 }

@@ -30,7 +30,7 @@ impl Operand {
         Ok(Operand::from_text(Vec::from_slice(alloc, text)?))
     }
 
-    /// The same with an owned text.
+    /// The operand that is a leaf, of an owned text.
     pub fn from_text(text: Vec<u8>) -> Operand
         ensures { result ≡ record { text = text.items; is_binary = false } }
     {

@@ -35,7 +35,7 @@ impl Operator {
         }
     }
 
-    /// Its text between two operands, with a space on each side.
+    /// The text of the operator between two operands, with a space on each side.
     pub fn text(self) -> &'static [u8]
         ensures { result.now ≡ operator_text self }
     {

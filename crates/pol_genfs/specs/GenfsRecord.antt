@@ -6,10 +6,9 @@ use Rattle.pol_cursor.specs.Outcome.{Reader, field, ◌>>=◌, done}
 use Rattle.pol_cursor.specs.Parts.{num, number, counted, records_at, spell_counted, CountedFits}
 use Rattle.pol_cursor.specs.FileNames.{name_at, spell_name, NameFits, name_in, name_end}
 use Rattle.pol_cursor.specs.References.{Placed, Reference, values_of}
-use Rattle.pol_cursor.specs.Runs.{run_in, HasRun}
+use Rattle.pol_cursor.specs.Runs.{run_in, HasRun, placed_from}
 use Rattle.pol_cursor.specs.Spelling.{bytes_of}
 use Rattle.pol_context.specs.ContextRecord.{context_at, spell_context, ContextFits, context_in, context_length, context_end, HasContext, context_references}
-use Rattle.pol_genfs.specs.InnerPlaces.{placed_from}
 use Rattle.pol_context.specs.declared.context_rec.ContextRec.{ContextRec}
 use Rattle.pol_genfs.specs.declared.genfs_rec.GenfsPathRec.{GenfsPathRec}
 use Rattle.pol_genfs.specs.declared.genfs_rec.GenfsRec.{GenfsRec}

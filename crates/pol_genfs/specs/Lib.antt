@@ -1,2 +1,1 @@
-pub mod InnerPlaces
 pub mod GenfsRecord

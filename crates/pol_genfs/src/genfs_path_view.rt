@@ -5,9 +5,10 @@ ghost use Rattle.pol_cursor.specs.References.{dangling_of};
 ghost use Rattle.pol_genfs.specs.GenfsRecord.{path_in, HasPath, class_place, class_references, context_of_path, path_references};
 
 use crate::genfs_rec::GenfsPathRec;
-use pol_context::{ContextView, context_end, name_end, name_standing, owned, read_context};
+use pol_context::{ContextView, context_end, name_end, name_standing, read_context};
 use pol_cursor::{
-    Cursor, Fault, Field, Inner, Names, Record, RecordView, TableKind, dangling, read_name, u32_in,
+    ByteList, Copied, Cursor, Fault, Field, Inner, Names, Record, RecordView, TableKind, dangling,
+    read_name, u32_in,
 };
 use std::alloc::{AllocError, Global};
 use std::marker::Model;
@@ -47,7 +48,7 @@ impl<'a> GenfsPathView<'a> {
     }
 
     /// Their context.
-    #[tactic(auto, using(pol_context::proofs::Places::length_part, pol_context::proofs::Places::context_ends))]
+    #[tactic(auto, using(pol_cursor::proofs::Facts::length_part, pol_context::proofs::Places::context_ends))]
     pub fn context(&self) -> ContextView<'a>
         ensures { result ≡ context_of_path self.now }
     {
@@ -56,7 +57,7 @@ impl<'a> GenfsPathView<'a> {
 
     /// The first reference, the class before those of the context, as a fault at its field, that no primary record
     /// declares.
-    #[tactic(auto, using(pol_context::proofs::Places::dangling_none, pol_context::proofs::Places::dangling_some))]
+    #[tactic(auto, using(pol_cursor::proofs::DanglingLists::dangling_none, pol_cursor::proofs::DanglingLists::undeclared_first))]
     pub fn dangling<N: Names>(&self, names: &N) -> Option<Fault>
         ensures { result ≡ dangling_of (N.named names.now) (path_references self.now) }
     {
@@ -66,7 +67,7 @@ impl<'a> GenfsPathView<'a> {
         }
     }
 
-    #[tactic(auto, using(pol_context::proofs::Places::length_part, pol_context::proofs::Places::context_ends))]
+    #[tactic(auto, using(pol_cursor::proofs::Facts::length_part, pol_context::proofs::Places::context_ends))]
     fn dangling_class<N: Names>(&self, names: &N) -> Option<Fault>
         ensures { result ≡ dangling_of (N.named names.now) (class_references (class_place self.now) self.now.value.class) }
     {
@@ -84,7 +85,7 @@ impl<'a> GenfsPathView<'a> {
         ensures { IfOk result (λ entry. entry ≡ self.now.value) }
     {
         Ok(GenfsPathRec {
-            path: owned(alloc, self.path())?,
+            path: ByteList::copy_of(alloc, self.path())?,
             class: self.class(),
             context: self.context().rec(alloc)?,
         })
@@ -133,6 +134,12 @@ impl<'a> RecordView<'a> for GenfsPath {
 
     fn at(bytes: &'a [u8], place: u32) -> GenfsPathView<'a> {
         GenfsPathView { bytes, place }
+    }
+}
+
+impl<'a> Copied<'a> for GenfsPath {
+    fn rec(view: &Self::View, alloc: Global) -> Result<Self::Owned, AllocError> {
+        view.rec(alloc)
     }
 }
 

@@ -5,10 +5,11 @@ ghost use Rattle.pol_cursor.specs.References.{dangling_of, values_of};
 ghost use Rattle.pol_genfs.specs.GenfsRecord.{genfs_at, genfs_in, HasGenfs, paths_of, context_of_path, path_references, genfs_references};
 
 use crate::genfs_path_view::GenfsPath;
-use crate::genfs_rec::{GenfsPathRec, GenfsPathRecList, GenfsRec};
-use pol_context::{ContextView, name_end, name_standing, owned};
+use crate::genfs_rec::GenfsRec;
+use pol_context::{ContextView, name_end, name_standing};
 use pol_cursor::{
-    Cursor, Fault, Field, Names, ReadAlone, Record, RecordView, Run, read_name, read_run, u32_in,
+    ByteList, Copied, Cursor, Fault, Field, Names, ReadAlone, Record, RecordView, Referring, Run,
+    read_name, read_run, u32_in,
 };
 use std::alloc::{AllocError, Global};
 use std::marker::Model;
@@ -41,7 +42,7 @@ impl<'a> GenfsView<'a> {
     }
 
     /// Its paths, in file order.
-    #[tactic(auto, using(crate::proofs::Places::paths_placed, pol_context::proofs::Places::length_part))]
+    #[tactic(auto, using(crate::proofs::Places::paths_placed, pol_cursor::proofs::Facts::length_part))]
     pub fn paths(&self) -> Run<'a, GenfsPath>
         ensures placed { result ≡ paths_of self.now }
         ensures values { values_of result ≡ self.now.value.paths }
@@ -94,14 +95,14 @@ impl<'a> GenfsView<'a> {
         ensures { IfOk result (λ entry. entry ≡ self.now.value) }
     {
         Ok(GenfsRec {
-            fstype: owned(alloc, self.fstype())?,
-            paths: GenfsPathRecList::from_vec(owned_paths(alloc, self.paths())?),
+            fstype: ByteList::copy_of(alloc, self.fstype())?,
+            paths: self.paths().rec(alloc)?,
         })
     }
 }
 
 // The first reference of paths whose value no primary record declares, as a fault at its field.
-#[tactic(auto, using(pol_context::proofs::Places::dangling_none, pol_context::proofs::Places::dangling_some))]
+#[tactic(auto, using(pol_cursor::proofs::DanglingLists::dangling_none, pol_cursor::proofs::DanglingLists::undeclared_first))]
 fn dangling_path<N: Names>(run: Run<'_, GenfsPath>, names: &N) -> Option<Fault>
     ensures { result ≡ dangling_of (N.named names.now) (flat_map path_references run.entry) }
 {
@@ -112,17 +113,6 @@ fn dangling_path<N: Names>(run: Run<'_, GenfsPath>, names: &N) -> Option<Fault>
         }
     }
     None
-}
-
-// The paths, owned.
-fn owned_paths(alloc: Global, run: Run<'_, GenfsPath>) -> Result<Vec<GenfsPathRec>, AllocError>
-    ensures { IfOk result (λ paths. paths.items ≡ values_of run.entry) }
-{
-    let mut paths = Vec::new(alloc);
-    for path in run {
-        paths.push(path.rec(alloc)?)?;
-    }
-    Ok(paths)
 }
 
 /// The kind of these file systems.
@@ -153,6 +143,20 @@ impl<'a> RecordView<'a> for Genfs {
 
     fn at(bytes: &'a [u8], place: u32) -> GenfsView<'a> {
         GenfsView { bytes, place }
+    }
+}
+
+impl<'a> Copied<'a> for Genfs {
+    fn rec(view: &Self::View, alloc: Global) -> Result<Self::Owned, AllocError> {
+        view.rec(alloc)
+    }
+}
+
+impl<'a> Referring<'a> for Genfs {
+    ghost references = { genfs_references };
+
+    fn dangling<N: Names>(view: &Self::View, names: &N) -> Option<Fault> {
+        view.dangling(names)
     }
 }
 

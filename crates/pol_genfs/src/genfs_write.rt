@@ -1,36 +1,43 @@
-ghost use Rattle.std.specs.Prelude.{◌≡◌, ◌++◌, OnOk};
-ghost use Rattle.std.specs.List.{flat_map};
-ghost use Rattle.pol_genfs.specs.GenfsRecord.{spell_path, spell_genfs};
+ghost use Rattle.pol_cursor.specs.Writing.{Writes};
+ghost use Rattle.pol_genfs.specs.GenfsRecord.{spell_genfs};
 
 use crate::genfs_rec::{GenfsPathRec, GenfsRec};
-use pol_context::write_context;
-use pol_cursor::{push_number, write_name};
+use pol_cursor::{Part, Written};
 use std::alloc::AllocError;
 
-/// Appends the bytes of a file system and of its paths, which are the same in each version.
-///
-/// After want of memory a part of them may be there.
-pub fn write_genfs(entry: &GenfsRec, version: u32, out: &mut Vec<u8>) -> Result<(), AllocError>
-    ensures { OnOk result (out.new.items ≡ out.old.items ++ spell_genfs entry.now) }
+/// Appends the bytes of a file system and of its paths, which are the same in each version. Out of memory, a beginning of them was appended.
+pub fn write_genfs(entry: &GenfsRec, _version: u32, out: &mut Vec<u8>) -> Result<(), AllocError>
+    ensures { Writes out.old.items out.new.items (spell_genfs entry.now) result }
 {
-    write_name(entry.fstype.as_slice(), out)?;
-    push_number(out, 4, entry.paths.len() as u64)?;
-    write_paths(entry.paths.as_slice(), version, out)
+    entry.write(out)
 }
 
-fn write_paths(paths: &[GenfsPathRec], version: u32, out: &mut Vec<u8>) -> Result<(), AllocError>
-    ensures { OnOk result (out.new.items ≡ out.old.items ++ flat_map spell_path paths.now) }
-{
-    for path in paths {
-        write_path(path, version, out)?;
+impl Written for GenfsRec {
+    ghost use Rattle.pol_genfs.specs.GenfsRecord.{spell_genfs};
+
+    ghost spelling = { spell_genfs };
+
+    fn write(&self, out: &mut Vec<u8>) -> Result<(), AllocError> {
+        let fstype = (
+            Part::U32(self.fstype.len() as u64),
+            Part::Bytes(self.fstype.as_slice()),
+        );
+        let count = Part::U32(self.paths.len() as u64);
+        (fstype, (count, &self.paths)).write(out)
     }
-    Ok(())
 }
 
-fn write_path(path: &GenfsPathRec, version: u32, out: &mut Vec<u8>) -> Result<(), AllocError>
-    ensures { OnOk result (out.new.items ≡ out.old.items ++ spell_path path.now) }
-{
-    write_name(path.path.as_slice(), out)?;
-    push_number(out, 4, path.class as u64)?;
-    write_context(&path.context, version, out)
+impl Written for GenfsPathRec {
+    ghost use Rattle.pol_genfs.specs.GenfsRecord.{spell_path};
+
+    ghost spelling = { spell_path };
+
+    fn write(&self, out: &mut Vec<u8>) -> Result<(), AllocError> {
+        let path = (
+            Part::U32(self.path.len() as u64),
+            Part::Bytes(self.path.as_slice()),
+        );
+        let class = Part::U32(self.class as u64);
+        (path, class, &self.context).write(out)
+    }
 }

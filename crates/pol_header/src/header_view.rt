@@ -1,4 +1,4 @@
-ghost use Rattle.std.specs.Prelude.{◌≡◌, ◌≤◌, ◌+◌, IfOk, OnOk, length};
+ghost use Rattle.std.specs.Prelude.{◌≡◌, ◌≤◌, ◌+◌, Ok, IfOk, OnOk, length};
 ghost use Rattle.pol_cursor.specs.Outcome.{Answers};
 ghost use Rattle.pol_header.specs.HeaderRecord.{identity_at, counts_at, header_at, header_in, HasHeader};
 
@@ -47,14 +47,14 @@ impl<'a> HeaderView<'a> {
         u32_in(self.bytes, self.place as usize + 20)
     }
 
-    /// The same header, owned.
-    pub fn rec(&self) -> HeaderRec
-        ensures { result ≡ self.now }
+    /// A copy of the header. It takes no memory, and so there is no error.
+    pub fn rec(&self, _alloc: Global) -> Result<HeaderRec, AllocError>
+        ensures { result ≡ Ok self.now }
     {
-        HeaderRec {
+        Ok(HeaderRec {
             version: self.version(),
             config: self.config(),
-        }
+        })
     }
 }
 

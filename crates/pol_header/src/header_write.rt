@@ -1,20 +1,31 @@
-ghost use Rattle.std.specs.Prelude.{◌≡◌, ◌++◌, OnOk};
+ghost use Rattle.pol_cursor.specs.Writing.{Writes};
 ghost use Rattle.pol_header.specs.HeaderRecord.{spell_header};
 
 use crate::causes::{MAGIC, SYMBOL_TABLES, context_tables};
 use crate::header_rec::HeaderRec;
-use pol_cursor::push_number;
+use pol_cursor::{Part, Written};
 use std::alloc::AllocError;
 
-/// Appends the 32 bytes of a header. The number of context tables is that of its version.
+/// Appends the 32 bytes of a header. The number of context tables is that of its version. Out of memory, a beginning of them was
+/// appended.
 pub fn write_header(header: &HeaderRec, out: &mut Vec<u8>) -> Result<(), AllocError>
-    ensures { OnOk result (out.new.items ≡ out.old.items ++ spell_header header.now) }
+    ensures { Writes out.old.items out.new.items (spell_header header.now) result }
 {
-    push_number(out, 4, MAGIC as u64)?;
-    push_number(out, 4, 8)?;
-    out.extend_from_slice(b"SE Linux")?;
-    push_number(out, 4, header.version as u64)?;
-    push_number(out, 4, header.config as u64)?;
-    push_number(out, 4, SYMBOL_TABLES as u64)?;
-    push_number(out, 4, context_tables(header.version) as u64)
+    header.write(out)
+}
+
+impl Written for HeaderRec {
+    ghost use Rattle.pol_header.specs.HeaderRecord.{spell_header};
+
+    ghost spelling = { spell_header };
+
+    fn write(&self, out: &mut Vec<u8>) -> Result<(), AllocError> {
+        let magic = Part::U32(MAGIC as u64);
+        let identity = (magic, Part::U32(8), Part::Bytes(b"SE Linux"));
+        let version = Part::U32(self.version as u64);
+        let config = Part::U32(self.config as u64);
+        let tables = Part::U32(context_tables(self.version) as u64);
+        let counts = (Part::U32(SYMBOL_TABLES as u64), tables);
+        (identity, version, config, counts).write(out)
+    }
 }

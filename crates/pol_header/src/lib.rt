@@ -1,4 +1,4 @@
-//! The reader of policies. It reads the header.
+//! The header of a policy: its version and its flags.
 #![tactic(auto)]
 
 mod causes;

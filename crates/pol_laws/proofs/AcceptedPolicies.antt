@@ -5,9 +5,9 @@ use Rattle.pol_cursor.specs.Outcome.{Outcome, Reader, Got, Bad, field, ◌>>=◌
 use Rattle.pol_cursor.specs.Parts.{end_at}
 use Rattle.pol_cursor.proofs.Laws.{and_then_got}
 use Rattle.pol_symbols.specs.PolicySymbols.{symbols_at}
-use Rattle.pol_read.specs.declared.Parts.{Parts}
-use Rattle.pol_read.specs.PolicyParts.{front_at, rule_lists_at, label_lists_at, policy_at}
-use Rattle.pol_read.specs.Acceptance.{undeclared, unless_undeclared, judged, accept}
+use Rattle.pol_file.specs.declared.Parts.{Parts}
+use Rattle.pol_file.specs.PolicyParts.{front_at, rule_lists_at, label_lists_at, policy_at}
+use Rattle.pol_file.specs.Acceptance.{undeclared, unless_undeclared, judged, accept}
 use Rattle.pol_laws.proofs.CutParts.{ends_there}
 
 -- ---- nothing is left

@@ -5,10 +5,10 @@ use Rattle.std.proofs.lemmas.List.{take_all}
 use Rattle.pol_cursor.specs.declared.Fault.{Fault}
 use Rattle.pol_cursor.specs.declared.Cause.TheVariants.{Short}
 use Rattle.pol_cursor.specs.Outcome.{Outcome, fault}
-use Rattle.pol_read.specs.declared.Parts.{Parts}
-use Rattle.pol_read.specs.TypeMapRows.{type_map_at}
-use Rattle.pol_read.specs.PolicyParts.{front_at, rule_lists_at, label_lists_at, policy_at}
-use Rattle.pol_read.specs.Acceptance.{judged, accept}
+use Rattle.pol_file.specs.declared.Parts.{Parts}
+use Rattle.pol_file.specs.TypeMapRows.{type_map_at}
+use Rattle.pol_file.specs.PolicyParts.{front_at, rule_lists_at, label_lists_at, policy_at}
+use Rattle.pol_file.specs.Acceptance.{judged, accept}
 use Rattle.pol_laws.specs.CutFiles.{IsCutShort, IsGoodUpTo, CutField}
 use Rattle.pol_laws.proofs.AcceptedPolicies.{IsRead, accepted_is_read}
 use Rattle.pol_laws.proofs.CutParts.{IsLocal, CutPart, Reaches, local-done, local-then, local-records_after, local-counted, local-placed, local-end}

@@ -101,11 +101,11 @@ type_set_local =
     local-then (local-number _ 4) λ flags.
     local-done _
 
-name_set_local : (version : ℕ) → IsLocal (constraint.name_set_at version)
-unfolding constraint.name_set_at
-name_set_local version =
-    local-then (bitmap_local None) λ names.
-    local-then (local-optional (constraint.has_type_set version) type_set_local) λ written.
+sets_local : (version kind : ℕ) → IsLocal (constraint.sets_at version kind)
+unfolding constraint.sets_at
+sets_local version kind =
+    local-then (local-optional (constraint.has_names kind) (bitmap_local None)) λ names.
+    local-then (local-optional (constraint.has_type_set version kind) type_set_local) λ type_set.
     local-done _
 
 constraint_item_local : (version : ℕ) (xtarget : Bool) (left values : ℕ) → IsLocal (constraint.item_at version xtarget left values)
@@ -114,7 +114,7 @@ constraint_item_local version xtarget left values =
     local-then (local-number_if _ 4 _) λ kind.
     local-then (local-number_if _ 4 _) λ attr.
     local-then (local-number_if _ 4 _) λ op.
-    local-then (local-optional (kind == 5) (name_set_local version)) λ set.
+    local-then (sets_local version kind) λ sets.
     local-done _
 
 constraint_items_local : (version : ℕ) (xtarget : Bool) (count : ℕ) → IsLocal (constraint.items_at version xtarget count)

@@ -8,7 +8,7 @@ use Rattle.pol_cursor.specs.References.{placed}
 use Rattle.pol_cursor.specs.Contexts.{records_after}
 use Rattle.pol_symtab.specs.Freshness.{Gives}
 use Rattle.pol_symtab.proofs.FreshRecords.{Gives-part, Gives-done}
-use Rattle.pol_read.proofs.ReadValues.{gives-others, gives-weaker, gives-placed, gives-list_of}
+use Rattle.pol_file.proofs.ReadValues.{gives-others, gives-weaker, gives-placed, gives-list_of}
 use Rattle.pol_laws.specs.OptionalParts.{shape_of_part, first_of, first_in, first_placed}
 
 -- no value that is read has a wrong part

@@ -8,11 +8,11 @@ use Rattle.pol_cursor.specs.References.{placed}
 use Rattle.pol_symtab.proofs.FreshRecords.{Gives-part, Gives-done}
 use Rattle.pol_trans.specs.RoleTransRecord.{role_trans_at}
 use Rattle.pol_trans.specs.RoleAllowRecord.{role_allow_at}
-use Rattle.pol_read.specs.declared.Parts.{Parts}
-use Rattle.pol_read.specs.PolicyParts.{front_at, rule_lists_at, label_lists_at, policy_at}
-use Rattle.pol_read.specs.Acceptance.{accept}
-use Rattle.pol_read.proofs.ReadValues.{gives-others}
-use Rattle.pol_read.proofs.PolicyTypes.{type_map_long}
+use Rattle.pol_file.specs.declared.Parts.{Parts}
+use Rattle.pol_file.specs.PolicyParts.{front_at, rule_lists_at, label_lists_at, policy_at}
+use Rattle.pol_file.specs.Acceptance.{accept}
+use Rattle.pol_file.proofs.ReadValues.{gives-others}
+use Rattle.pol_file.proofs.PolicyTypes.{type_map_long}
 use Rattle.pol_laws.specs.OptionalParts.{wrong_if}
 use Rattle.pol_laws.specs.PolicyShape.{shape_of_rule_lists, shape_of_label_lists, shape}
 use Rattle.pol_laws.proofs.AcceptedPolicies.{accepted_is_read}

@@ -8,8 +8,7 @@ use Rattle.pol_bitmap.specs.declared.Node.{Node}
 use Rattle.pol_bitmap.specs.Bitmap.{bitmap_at}
 use Rattle.pol_mls.specs.LevelRecord.{level_at}
 use Rattle.pol_mls.specs.RangeRecord.{range_at, level_of}
-use Rattle.pol_constraints.specs.declared.NameSet.{NameSet}
-use Rattle.pol_constraints.specs.ConstraintRecord.{has_type_set, type_set_at, name_set_at, item_at, items_at, values_after_item, constraint_at}
+use Rattle.pol_constraints.specs.ConstraintRecord.{has_names, has_type_set, type_set_at, sets_at, item_at, items_at, values_after_item, constraint_at}
 use Rattle.pol_symtab.specs.Claims.{Claims}
 use Rattle.pol_symtab.specs.Freshness.{Gives}
 use Rattle.pol_symtab.proofs.FreshRecords.{Gives-part, Gives-any, Gives-done}
@@ -36,8 +35,8 @@ use Rattle.pol_contexts.specs.FsUseRecord.{behaviour_at, fsuse_at}
 use Rattle.pol_contexts.specs.IbPkeyRecord.{ibpkey_at}
 use Rattle.pol_contexts.specs.IbEndPortRecord.{ibendport_at}
 use Rattle.pol_genfs.specs.GenfsRecord.{path_at, genfs_at}
-use Rattle.pol_read.proofs.ReadValues.{gives-others}
-use Rattle.pol_laws.specs.RecordShapes.{shape_of_range, type_set_of, shape_of_item, shape_of_constraint, shape_of_class, shape_of_user, shape_of_av, shape_of_condnode, shape_of_range_trans, shape_of_context, shape_of_sid, shape_of_named, shape_of_port, shape_of_address, shape_of_fsuse, shape_of_ibpkey, shape_of_ibendport, shape_of_path, shape_of_genfs}
+use Rattle.pol_file.proofs.ReadValues.{gives-others}
+use Rattle.pol_laws.specs.RecordShapes.{shape_of_range, shape_of_item, shape_of_constraint, shape_of_class, shape_of_user, shape_of_av, shape_of_condnode, shape_of_range_trans, shape_of_context, shape_of_sid, shape_of_named, shape_of_port, shape_of_address, shape_of_fsuse, shape_of_ibpkey, shape_of_ibendport, shape_of_path, shape_of_genfs}
 use Rattle.pol_laws.proofs.ShapedParts.{IsShaped, part_shaped, none-first, none-last, gives-optional, shaped-list_of, shaped-records_at, shaped-counted}
 
 -- ---- a range
@@ -60,19 +59,12 @@ range_shaped =
 
 -- ---- symbols
 
-name_set_shaped : (version : ℕ) → Gives (name_set_at version) (λ set. is_some set.written ≡ has_type_set version)
-unfolding name_set_at
-name_set_shaped version =
-    gives-others (bitmap_at None) λ names.
-    Gives-part (gives-optional (has_type_set version) (Gives-any type_set_at)) λ written written-there.
-    Gives-done _ _ written-there.0
-
--- names come with a type set exactly in the versions that have it
-type_set_there : (version : ℕ) (there : Bool) (set : Option NameSet) → is_some set ≡ there → IfSome set (λ set. is_some set.written ≡ has_type_set version) → is_some (type_set_of set) ≡ (there && has_type_set version)
-type_set_there version true (Some set) e h = h
-type_set_there version true None e h = absurd cc
-type_set_there version false (Some set) e h = absurd cc
-type_set_there version false None e h = refl
+sets_shaped : (version kind : ℕ) → Gives (sets_at version kind) (λ sets. (is_some sets.0 ≡ has_names kind) × (is_some sets.1 ≡ has_type_set version kind))
+unfolding sets_at
+sets_shaped version kind =
+    Gives-part (gives-optional (has_names kind) (Gives-any (bitmap_at None))) λ names names-there.
+    Gives-part (gives-optional (has_type_set version kind) (Gives-any type_set_at)) λ type_set type_set-there.
+    Gives-done _ (names, type_set) (names-there.0, type_set-there.0)
 
 item_shaped : (version : ℕ) (xtarget : Bool) (left values : ℕ) → IsShaped (item_at version xtarget left values) (shape_of_item version)
 unfolding item_at
@@ -80,10 +72,10 @@ item_shaped version xtarget left values =
     gives-others (number_if _ 4 _) λ kind.
     gives-others (number_if _ 4 _) λ attr.
     gives-others (number_if _ 4 _) λ op.
-    Gives-part (gives-optional (kind == 5) (name_set_shaped version)) λ set set-there.
+    Gives-part (sets_shaped version kind) λ sets sets-there.
     Gives-done _ _
-    (none-first _ _ (part_shaped (kind == 5) set (field 7 6) set-there.0)
-    (none-first _ _ (part_shaped (kind == 5 && has_type_set version) (type_set_of set) (field 7 6) (type_set_there version (kind == 5) set set-there.0 set-there.1))
+    (none-first _ _ (part_shaped (has_names kind) sets.0 (field 7 6) sets-there.0)
+    (none-first _ _ (part_shaped (has_type_set version kind) sets.1 (field 7 6) sets-there.1)
     none-last))
 
 constraint_shaped : (version : ℕ) (xtarget : Bool) → IsShaped (constraint_at version xtarget) (shape_of_constraint version)

@@ -17,7 +17,7 @@ use Rattle.pol_trans.specs.NameGroupRecord.{name_group_at}
 use Rattle.pol_trans.specs.NameTransitions.{entries_at, groups_at, name_transitions_at}
 use Rattle.pol_context.specs.EntryLists.{table_at as context_table_at}
 use Rattle.pol_contexts.specs.ContextTables.{table_if, has_infiniband, contexts_at}
-use Rattle.pol_read.proofs.ReadValues.{gives-others}
+use Rattle.pol_file.proofs.ReadValues.{gives-others}
 use Rattle.pol_laws.specs.OptionalParts.{shape_of_list, first_placed}
 use Rattle.pol_laws.specs.RecordShapes.{shape_of_class, shape_of_user, shape_of_av, shape_of_condnode}
 use Rattle.pol_laws.specs.TableShapes.{shape_of_symbols, has_groups, shape_of_name_transitions, shape_of_contexts}

@@ -51,8 +51,8 @@ use Rattle.pol_context.specs.EntryLists.{table_at}
 use Rattle.pol_contexts.specs.ContextTables.{has_infiniband, contexts_at}
 use Rattle.pol_contexts.proofs.ContextLaws.{sid_spelled, named_spelled, port_spelled, address_spelled, fsuse_spelled, ibpkey_spelled, ibendport_spelled}
 use Rattle.pol_genfs.proofs.GenfsLaws.{genfs_spelled}
-use Rattle.pol_read.specs.PolicyParts.{front_at, rule_lists_at, label_lists_at}
-use Rattle.pol_read.specs.TypeMapRows.{type_map_at}
+use Rattle.pol_file.specs.PolicyParts.{front_at, rule_lists_at, label_lists_at}
+use Rattle.pol_file.specs.TypeMapRows.{type_map_at}
 use Rattle.pol_laws.specs.PolicySpelling.{spell_list, spell_symbol_table, spell_front, spell_symbols, spell_name_transitions, spell_rule_lists, spell_contexts, spell_label_lists}
 use Rattle.pol_laws.proofs.SpelledLists.{IsSpelledBy, spelled_through, list_spelled, records_after_spelled, symbol_table_spelled, list_if_spelled}
 

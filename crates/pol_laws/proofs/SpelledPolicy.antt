@@ -6,9 +6,9 @@ use Rattle.pol_cursor.specs.Outcome.{field}
 use Rattle.pol_cursor.specs.Parts.{end_at}
 use Rattle.pol_cursor.specs.Spelling.{AreBytes}
 use Rattle.pol_cursor.proofs.Laws.{Reads-part, Reads-done}
-use Rattle.pol_read.specs.declared.Parts.{Parts}
-use Rattle.pol_read.specs.PolicyParts.{policy_at}
-use Rattle.pol_read.specs.Acceptance.{accept}
+use Rattle.pol_file.specs.declared.Parts.{Parts}
+use Rattle.pol_file.specs.PolicyParts.{policy_at}
+use Rattle.pol_file.specs.Acceptance.{accept}
 use Rattle.pol_laws.specs.PolicySpelling.{spell_policy}
 use Rattle.pol_laws.proofs.AcceptedPolicies.{accepted_is_read}
 use Rattle.pol_laws.proofs.CutParts.{ends_there}

@@ -5,8 +5,8 @@ use Rattle.pol_cursor.specs.declared.Fault.{Fault}
 use Rattle.pol_cursor.specs.declared.Field.{Field}
 use Rattle.pol_cursor.specs.declared.Cause.TheVariants.{Short}
 use Rattle.pol_cursor.specs.Outcome.{fault}
-use Rattle.pol_read.specs.Acceptance.{accept}
-use Rattle.pol_read.specs.declared.Parts.{Parts}
+use Rattle.pol_file.specs.Acceptance.{accept}
+use Rattle.pol_file.specs.declared.Parts.{Parts}
 
 -- a file of n bytes is refused as too short, at a field that begins within them or at their end
 abbrev pub IsCutShort : ℕ → Result Parts Fault → Type 0

@@ -2,9 +2,9 @@
 use Rattle.std.specs.Prelude.{ℕ, ◌==◌, not, Option, [], ◌∷◌, length}
 use Rattle.pol_cursor.specs.declared.Field.{Field}
 use Rattle.pol_cursor.specs.Outcome.{field}
-use Rattle.pol_read.specs.declared.RuleLists.{RuleLists}
-use Rattle.pol_read.specs.declared.LabelLists.{LabelLists}
-use Rattle.pol_read.specs.declared.Parts.{Parts}
+use Rattle.pol_file.specs.declared.RuleLists.{RuleLists}
+use Rattle.pol_file.specs.declared.LabelLists.{LabelLists}
+use Rattle.pol_file.specs.declared.Parts.{Parts}
 use Rattle.pol_laws.specs.OptionalParts.{wrong_if, first_of, first_placed}
 use Rattle.pol_laws.specs.RecordShapes.{shape_of_av, shape_of_condnode, shape_of_range_trans, shape_of_genfs}
 use Rattle.pol_laws.specs.TableShapes.{shape_of_symbols, has_groups, shape_of_name_transitions, shape_of_contexts}

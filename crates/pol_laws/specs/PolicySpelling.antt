@@ -34,10 +34,10 @@ use Rattle.pol_contexts.specs.IbEndPortRecord.{spell_ibendport}
 use Rattle.pol_genfs.specs.GenfsRecord.{spell_genfs}
 use Rattle.pol_contexts.specs.ContextTables.{has_infiniband}
 use Rattle.pol_contexts.specs.declared.tables.Contexts.{Contexts}
-use Rattle.pol_read.specs.declared.Front.{Front}
-use Rattle.pol_read.specs.declared.RuleLists.{RuleLists}
-use Rattle.pol_read.specs.declared.LabelLists.{LabelLists}
-use Rattle.pol_read.specs.declared.Parts.{Parts}
+use Rattle.pol_file.specs.declared.Front.{Front}
+use Rattle.pol_file.specs.declared.RuleLists.{RuleLists}
+use Rattle.pol_file.specs.declared.LabelLists.{LabelLists}
+use Rattle.pol_file.specs.declared.Parts.{Parts}
 
 -- the count of a list, and its records
 unfoldable pub spell_list : {A : Type 0} → (A → List ℕ) → List (Placed A) → List ℕ

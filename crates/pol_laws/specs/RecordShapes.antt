@@ -1,14 +1,11 @@
 -- The first wrong optional part of a record, in the order of the file.
-use Rattle.std.specs.Prelude.{ℕ, ◌==◌, ◌&&◌, Option, [], ◌∷◌}
-use Rattle.std.specs.Option.{option_and_then}
+use Rattle.std.specs.Prelude.{ℕ, ◌==◌, Option, [], ◌∷◌}
 use Rattle.pol_cursor.specs.declared.Field.{Field}
 use Rattle.pol_cursor.specs.Outcome.{field}
 use Rattle.pol_mls.specs.declared.RangeRec.{RangeRec}
 use Rattle.pol_constraints.specs.declared.ConstraintItem.{ConstraintItem}
 use Rattle.pol_constraints.specs.declared.ConstraintRec.{ConstraintRec}
-use Rattle.pol_constraints.specs.declared.NameSet.{NameSet}
-use Rattle.pol_constraints.specs.declared.TypeSet.{TypeSet}
-use Rattle.pol_constraints.specs.ConstraintRecord.{has_type_set}
+use Rattle.pol_constraints.specs.ConstraintRecord.{has_names, has_type_set}
 use Rattle.pol_classes.specs.declared.ClassRec.{ClassRec}
 use Rattle.pol_symbols.specs.declared.UserRec.{UserRec}
 use Rattle.pol_avtab.specs.declared.AvRec.{AvRec}
@@ -34,17 +31,13 @@ shape_of_range range = shape_of_part (range.n == 2) range.high (field 15 3)
 
 -- ---- symbols
 
--- the type set of the names of an item, where it has one
-abbrev pub type_set_of : Option NameSet → Option TypeSet
-type_set_of set = option_and_then (λ set. set.written) set
-
 -- an item of a constraint has names exactly where its kind is 5 (libsepol's CEXPR_NAMES), and a type set exactly where its kind is 5
 -- and the version has them
 abbrev pub shape_of_item : ℕ → ConstraintItem → Option Field
 shape_of_item version item =
     first_of (
-    shape_of_part (item.kind == 5) item.set (field 7 6)
-    ∷ shape_of_part (item.kind == 5 && has_type_set version) (type_set_of item.set) (field 7 6)
+    shape_of_part (has_names item.kind) item.names (field 7 6)
+    ∷ shape_of_part (has_type_set version item.kind) item.type_set (field 7 6)
     ∷ [])
 
 -- the items of a constraint

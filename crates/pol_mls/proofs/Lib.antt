@@ -1,2 +1,3 @@
 pub mod MlsLaws
 pub mod RunTexts
+pub mod RangePlaces

@@ -1,4 +1,5 @@
 use pol_bitmap::Set;
+use pol_cursor::OwnedList;
 
 /// A level, owned.
 #[derive(Drop)]
@@ -8,3 +9,6 @@ pub struct LevelRec {
     /// The categories: bit v - 1 stands for the value v.
     pub categories: Set,
 }
+
+/// Levels, owned.
+pub type LevelRecList = OwnedList<LevelRec>;

@@ -73,7 +73,7 @@ impl<'a> LevelView<'a> {
         dangling(names, self.place, field, TableKind::Levels, self.sens())
     }
 
-    /// The same level, owned.
+    /// A copy of the level.
     pub fn rec(&self, alloc: Global) -> Result<LevelRec, AllocError>
         ensures { IfOk result (λ level. level ≡ self.now.value) }
     {

@@ -13,10 +13,10 @@ mod run;
 mod run_text;
 mod texts;
 
-pub use level_rec::LevelRec;
+pub use level_rec::{LevelRec, LevelRecList};
 pub use level_view::{LevelView, read_level};
 pub use level_write::write_level;
-pub use range_rec::RangeRec;
+pub use range_rec::{RangeRec, RangeRecList};
 pub use range_view::{RangeView, read_range};
 pub use range_write::write_range;
 pub use record_laws::{levels_have_laws, ranges_have_laws};

@@ -1,5 +1,6 @@
 use crate::level_rec::LevelRec;
 use pol_bitmap::Set;
+use pol_cursor::OwnedList;
 
 /// A range of levels, owned.
 #[derive(Drop)]
@@ -13,3 +14,6 @@ pub struct RangeRec {
     /// The high level, where n is 2.
     pub high: Option<LevelRec>,
 }
+
+/// Ranges, owned.
+pub type RangeRecList = OwnedList<RangeRec>;

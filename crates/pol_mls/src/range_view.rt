@@ -129,7 +129,7 @@ impl<'a> RangeView<'a> {
         }
     }
 
-    /// The same range, owned.
+    /// A copy of the range.
     pub fn rec(&self, alloc: Global) -> Result<RangeRec, AllocError>
         ensures { IfOk result (λ range. range ≡ self.now.value) }
     {

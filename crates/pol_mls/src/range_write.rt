@@ -1,25 +1,51 @@
-ghost use Rattle.std.specs.Prelude.{◌≡◌, ◌++◌, OnOk};
+ghost use Rattle.std.specs.Prelude.{◌≡◌};
+ghost use Rattle.pol_cursor.specs.Parts.{spell_optional};
+ghost use Rattle.pol_cursor.specs.Spelling.{bytes_of};
+ghost use Rattle.pol_cursor.specs.Writing.{Writes, spell_part};
+ghost use Rattle.pol_bitmap.specs.Bitmap.{spell_bitmap};
 ghost use Rattle.pol_mls.specs.RangeRecord.{spell_range};
 
 use crate::range_rec::RangeRec;
-use pol_bitmap::write_bitmap;
-use pol_cursor::push_number;
+use pol_bitmap::Set;
+use pol_cursor::{Part, Written};
 use std::alloc::AllocError;
 
-/// Appends the bytes of a range, which are the same in each version: the numbers, and then the bitmaps.
-///
-/// After want of memory a part of them may be there.
+/// Appends the bytes of a range, which are the same in each version. Out of memory, a beginning of them was appended.
 pub fn write_range(range: &RangeRec, _version: u32, out: &mut Vec<u8>) -> Result<(), AllocError>
-    ensures { OnOk result (out.new.items ≡ out.old.items ++ spell_range range.now) }
+    ensures { Writes out.old.items out.new.items (spell_range range.now) result }
 {
-    push_number(out, 4, range.n as u64)?;
-    push_number(out, 4, range.low as u64)?;
+    range.write(out)
+}
+
+impl Written for RangeRec {
+    ghost use Rattle.pol_mls.specs.RangeRecord.{spell_range};
+
+    ghost spelling = { spell_range };
+
+    fn write(&self, out: &mut Vec<u8>) -> Result<(), AllocError> {
+        let n = Part::U32(self.n as u64);
+        let low = Part::U32(self.low as u64);
+        let categories = (&self.low_categories, high_categories(self));
+        (n, low, high_sens(self), categories).write(out)
+    }
+}
+
+// The sensitivity of the high level, where the range has one of its own.
+fn high_sens(range: &RangeRec) -> Option<Part<'static>>
+    ensures { spell_optional spell_part result ≡ spell_optional (λ level. bytes_of 4 level.sens) range.now.high }
+{
     match &range.high {
-        None => write_bitmap(&range.low_categories, out),
-        Some(high) => {
-            push_number(out, 4, high.sens as u64)?;
-            write_bitmap(&range.low_categories, out)?;
-            write_bitmap(&high.categories, out)
-        }
+        Some(high) => Some(Part::U32(high.sens as u64)),
+        None => None,
+    }
+}
+
+// The categories of the high level, where the range has one of its own.
+fn high_categories(range: &RangeRec) -> Option<&Set>
+    ensures { spell_optional (λ set. spell_bitmap set.now) result ≡ spell_optional (λ level. spell_bitmap level.categories) range.now.high }
+{
+    match &range.high {
+        Some(high) => Some(&high.categories),
+        None => None,
     }
 }

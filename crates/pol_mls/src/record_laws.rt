@@ -9,7 +9,7 @@ pub fn levels_have_laws()
     ensures spelled { IsReadFromSpelling level_at spell_level LevelFits }
 {}
 
-/// The same of a range, whose high level stands there exactly where n is 2.
+/// Both laws of a range, whose high level stands there exactly where n is 2.
 pub fn ranges_have_laws()
     ensures again { IsReadAgain range_at spell_range RangeFits }
     ensures spelled { IsReadFromSpelling range_at spell_range RangeFits }

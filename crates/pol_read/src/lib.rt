@@ -1,22 +1,10 @@
-//! The reader of whole policies.
+//! A policy that was accepted, with its stored rules.
 #![tactic(auto)]
 
-mod dangling;
-mod kinds;
-mod parts;
 mod policy;
-mod reading;
-mod referring;
-mod rule;
-mod rule_index;
-mod rule_order;
 mod rules;
 mod sorting;
-mod sums;
-mod type_map;
 
-pub use parts::{Front, LabelLists, Parts, RuleLists};
+pub use pol_file::{TypeMap, TypeMapRow};
+pub use pol_rules::{Condition, Rule, RuleKey, RuleKind, RulePart};
 pub use policy::{Policy, read};
-pub use referring::{Referring, check_records, check_table};
-pub use rule::{Condition, Rule, RuleKind, RulePart};
-pub use type_map::{TypeMap, TypeMapRow, row_of};

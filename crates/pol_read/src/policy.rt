@@ -1,20 +1,17 @@
-ghost use Rattle.std.specs.Prelude.{◌≡◌, ◌<◌, ◌≤◌, ◌-◌, Some, IfOk, option_map, slice_get, length};
+ghost use Rattle.std.specs.Prelude.{◌≡◌, ◌<◌, ◌≤◌, ◌-◌, Ok, Some, None, IfOk, option_map, slice_get, length};
 ghost use Rattle.pol_avtab.specs.CondNodeRecord.{node_condition};
-ghost use Rattle.pol_read.specs.Acceptance.{Accepts};
-ghost use Rattle.pol_read.specs.TypeValues.{IsTypeValue, HasTypeValues};
+ghost use Rattle.pol_file.specs.Acceptance.{accept, undeclared, Accepts};
+ghost use Rattle.pol_file.specs.TypeValues.{IsTypeValue, HasTypeValues};
 
-use crate::dangling::check_references;
-use crate::parts::Parts;
-use crate::reading::read_parts;
-use crate::rule_index::{RuleIndex, index_rules};
-use crate::type_map::row_of;
 use pol_avtab::{AvTable, Conditionals};
 use pol_bitmap::BitmapView;
 use pol_contexts::Contexts;
-use pol_cursor::{Cursor, ReadError, TableKind};
+use pol_cursor::{ReadError, TableKind};
 use pol_datums::TypeView;
 use pol_expr::ConditionView;
+use pol_file::{Parts, read_file, row_of};
 use pol_genfs::GenfsList;
+use pol_rules::{RuleIndex, index_rules};
 use pol_symbols::Symbols;
 use pol_trans::{NameTrans, RangeTransList, RoleAllowList, RoleTransList};
 use std::alloc::{AllocError, Global};
@@ -23,24 +20,37 @@ use std::marker::Model;
 /// A policy that was accepted. Contracts see its parts.
 #[derive(Drop)]
 pub struct Policy<'a> {
+    // The file that it was read from.
+    pub(crate) bytes: &'a [u8],
     pub(crate) parts: Parts<'a>,
     // What finds a stored rule by its number.
     pub(crate) index: RuleIndex,
 }
 
 impl<'a> Model for Policy<'a> {
-    ghost use Rattle.pol_read.specs.declared.parts.Parts.{Parts};
-    ghost use Rattle.pol_read.specs.RuleNumbers.{IsIndexOf};
-    ghost use Rattle.pol_read.specs.TypeValues.{HasTypeValues};
+    ghost use Rattle.std.specs.Prelude.{◌≡◌, Ok};
+    ghost use Rattle.pol_file.specs.declared.Parts.{Parts};
+    ghost use Rattle.pol_file.specs.Acceptance.{accept};
+    ghost use Rattle.pol_file.specs.TypeValues.{HasTypeValues};
+    ghost use Rattle.pol_rules.specs.RuleNumbers.{IsIndexOf};
 
     ghost Value = { Parts };
 
     ghost view = { λ p. p.parts };
 
-    ghost invariant = { λ p. HasTypeValues p.parts × IsIndexOf p.parts p.index };
+    ghost invariant = { λ p. (accept p.bytes.now ≡ Ok p.parts) × HasTypeValues p.parts × IsIndexOf p.parts p.index };
 }
 
 impl<'a> Policy<'a> {
+    /// The bytes of the file that was accepted as this policy. Each value that the policy names is declared.
+    #[tactic(auto, using(pol_file::proofs::Acceptances::accepted_is_declared))]
+    pub fn bytes(&self) -> &'a [u8]
+        ensures accepted { accept result.now ≡ Ok self.now }
+        ensures declared { undeclared self.now ≡ None }
+    {
+        self.bytes
+    }
+
     /// The version of the format, 28 to 34.
     pub fn version(&self) -> u32
         ensures { result ≡ self.now.front.header.version }
@@ -85,7 +95,7 @@ impl<'a> Policy<'a> {
     }
 
     /// The record of that number in the table of types, from 0 on. It has a type value, also where it is an alias.
-    #[tactic(auto, using(crate::proofs::PolicyTypes::type_value_at))]
+    #[tactic(auto, using(pol_file::proofs::PolicyTypes::type_value_at))]
     pub fn type_record(&self, number: u32) -> TypeView<'a>
         requires { number < length self.now.symbols.types.records }
         ensures is { slice_get self.now.symbols.types.records number ≡ Some result }
@@ -168,23 +178,26 @@ impl<'a> Policy<'a> {
 /// Reads a policy of at most 64 MiB. Nothing is reserved by a claimed count alone.
 ///
 /// The error is the first fault in file order; where there is none, it is the first reference whose value no primary record
-/// declares, as `Dangling`. A policy of more than 400,000,000 stored rules, which is more than 64 MiB hold, would be answered as
-/// want of memory.
-#[tactic(auto, unfolding(crate::specs::Acceptance::accept))]
+/// declares, as `Dangling`.
 pub fn read<'a>(alloc: Global, bytes: &'a [u8]) -> Result<Policy<'a>, ReadError>
     requires { length bytes.now ≤ 67108864 }
     ensures { Accepts (λ policy. policy) result bytes.now }
 {
-    let parts = read_parts(alloc, &mut Cursor::new(bytes))?;
-    check_references(&parts)?;
-    Ok(indexed(alloc, parts)?)
+    let parts = read_file(alloc, bytes)?;
+    Ok(indexed(alloc, bytes, parts)?)
 }
 
-// The policy of these parts.
-fn indexed<'a>(alloc: Global, parts: Parts<'a>) -> Result<Policy<'a>, AllocError>
-    requires { HasTypeValues parts }
+// The policy of these parts of a file.
+#[tactic(auto, using(pol_rules::proofs::RuleCounts::accepted_has_few_rules, pol_file::proofs::Acceptances::accepted_has_type_values))]
+fn indexed<'a>(alloc: Global, bytes: &'a [u8], parts: Parts<'a>) -> Result<Policy<'a>, AllocError>
+    requires size { length bytes.now ≤ 67108864 }
+    requires accepted { accept bytes.now ≡ Ok parts }
     ensures { IfOk result (λ policy. policy ≡ parts.entry) }
 {
     let index = index_rules(alloc, &parts)?;
-    Ok(Policy { parts, index })
+    Ok(Policy {
+        bytes,
+        parts,
+        index,
+    })
 }

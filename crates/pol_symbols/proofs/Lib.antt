@@ -1,4 +1,3 @@
 pub mod UserLaws
-pub mod UserPlaces
 pub mod TableSequences
 pub mod SymbolSearch

@@ -10,7 +10,7 @@ use Rattle.pol_symtab.specs.Freshness.{claims_after}
 use Rattle.pol_symtab.specs.SymbolTables.{Table, table_at, table_start, declares, value_named, primary_index, primary_name, rank_of}
 use Rattle.pol_commons.specs.declared.PermissionRec.{PermissionRec}
 use Rattle.pol_commons.specs.CommonTable.{commons_at, inherited_from}
-use Rattle.pol_commons.specs.Permissions.{of_value, mask_of}
+use Rattle.pol_commons.specs.Permissions.{mask_of, of_name, of_value}
 use Rattle.pol_datums.specs.declared.RoleRec.{RoleRec}
 use Rattle.pol_datums.specs.declared.TypeRec.{TypeRec}
 use Rattle.pol_datums.specs.declared.BooleanRec.{BooleanRec}
@@ -164,6 +164,10 @@ permissions_in_class symbols value = permissions_found symbols (find (declares (
 -- the name of the permission of a value
 abbrev pub permission_name_in : Symbols → ℕ → ℕ → Option (List ℕ)
 permission_name_in symbols class value = option_map (λ permission. permission.name) (of_value value (permissions_in_class symbols class))
+
+-- the value of the permission of a name
+abbrev pub permission_value_in : Symbols → ℕ → List ℕ → Option ℕ
+permission_value_in symbols class name = option_map (λ permission. permission.value) (of_name name (permissions_in_class symbols class))
 
 -- their bits in an access vector
 abbrev pub permission_mask_in : Symbols → ℕ → ℕ

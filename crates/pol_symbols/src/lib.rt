@@ -2,6 +2,7 @@
 #![tactic(auto)]
 
 mod record_laws;
+mod symbol_views;
 mod symbols;
 mod user_kind;
 mod user_rec;

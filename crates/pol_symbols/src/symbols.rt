@@ -2,8 +2,8 @@ ghost use Rattle.std.specs.Prelude.{◌≡◌, true, option_map};
 ghost use Rattle.pol_cursor.specs.Outcome.{Yields};
 ghost use Rattle.std.specs.List.{find};
 ghost use Rattle.pol_symtab.specs.SymbolTables.{declares};
-ghost use Rattle.pol_commons.specs.Permissions.{of_value};
-ghost use Rattle.pol_symbols.specs.PolicySymbols.{flavour_in, permissions_of, permission_name_in, permission_mask_in, prims_in, count_in, roles_at, types_at, users_at, booleans_at, levels_at, categories_at, rule_tables_at, other_tables_at, symbols_at, value_in, index_in, name_in, rank_in};
+ghost use Rattle.pol_commons.specs.Permissions.{of_name, of_value};
+ghost use Rattle.pol_symbols.specs.PolicySymbols.{flavour_in, permissions_of, permission_name_in, permission_value_in, permission_mask_in, prims_in, count_in, roles_at, types_at, users_at, booleans_at, levels_at, categories_at, rule_tables_at, other_tables_at, symbols_at, value_in, index_in, name_in, rank_in};
 
 use crate::user_kind::User;
 use pol_classes::{ClassTable, ClassView, read_class_table};
@@ -168,6 +168,31 @@ impl<'a> Symbols<'a> {
         };
         match self.permission(&class, value) {
             Some(permission) => Some(permission.name()),
+            None => None,
+        }
+    }
+
+    // The permission of that name of a class: its own, or its common's.
+    #[tactic(auto, using(crate::proofs::SymbolSearch::own_named, crate::proofs::SymbolSearch::other_named))]
+    fn permission_named(&self, class: &ClassView<'a>, name: &[u8]) -> Option<PermissionView<'a>>
+        ensures { result ≡ of_name name.now (permissions_of self.now class.now.value) }
+    {
+        match class.permissions().of_name(name) {
+            Some(permission) => Some(permission),
+            None => inherited_from(&self.commons, class.common()).of_name(name),
+        }
+    }
+
+    /// The value of the permission of that name of the class of a value, which is its own or its common's. `None` exactly
+    /// where there is none. Takes no memory.
+    pub fn perm_value(&self, class: u32, name: &[u8]) -> Option<u32>
+        ensures { result ≡ permission_value_in self.now class name.now }
+    {
+        let Some(class) = self.class(class) else {
+            return None;
+        };
+        match self.permission_named(&class, name) {
+            Some(permission) => Some(permission.value()),
             None => None,
         }
     }

@@ -47,6 +47,7 @@ impl<'a> ReadAfter<'a> for User {
 }
 
 impl SymbolKind for User {
+    ghost use Rattle.pol_symbols.specs.UserRecord.{spell_user, UserFits};
     ghost use Rattle.std.specs.Prelude.{true};
 
     ghost name_of = { λ user. user.name };
@@ -54,6 +55,10 @@ impl SymbolKind for User {
     ghost value_of = { λ user. user.value };
 
     ghost is_primary = { λ user. true };
+
+    ghost spelling = { spell_user };
+
+    ghost fits = { UserFits };
 }
 
 impl<'a> Symbol<'a> for User {

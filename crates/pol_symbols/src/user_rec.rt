@@ -11,7 +11,7 @@ pub struct UserRec {
     pub bounds: u32,
     /// One byte or more, from 0x21 to 0x7E.
     pub name: ByteList,
-    /// Its roles: bit v - 1 stands for the value v.
+    /// The roles of the user: bit v - 1 stands for the value v.
     pub roles: Set,
     /// The levels that it may have.
     pub range: RangeRec,

@@ -1,11 +1,14 @@
 ghost use Rattle.std.specs.Prelude.{◌≡◌, ◌+◌, ◌≤◌, IfOk, length};
 ghost use Rattle.pol_cursor.specs.Outcome.{Answers};
 ghost use Rattle.pol_cursor.specs.References.{dangling_of};
-ghost use Rattle.pol_symbols.specs.UserRecord.{user_at, user_in, HasUser, roles_in_place, range_in_place, range_place, level_place, level_mentions, user_references};
+ghost use Rattle.pol_symbols.specs.UserRecord.{user_at, user_in, HasUser, roles_in_place, range_in_place, range_place, level_place, level_mentions};
 
+use crate::user_kind::User;
 use crate::user_rec::UserRec;
 use pol_bitmap::{BitmapView, Set};
-use pol_cursor::{ByteList, Cursor, Fault, Mention, Names, TableKind, string_in, u32_in};
+use pol_cursor::{
+    ByteList, Copied, Cursor, Fault, Mention, Names, Referring, TableKind, string_in, u32_in,
+};
 use pol_datums::{dangling_bounds, read_bounds, read_new_value};
 use pol_mls::{LevelView, RangeView, read_level, read_range};
 use pol_symtab::{Taken, read_symbol_length, read_symbol_name};
@@ -43,7 +46,7 @@ impl<'a> UserView<'a> {
         UserView { bytes, place }
     }
 
-    /// Its value.
+    /// The value of the user.
     pub fn value(&self) -> u32
         ensures { result ≡ self.now.value.value }
     {
@@ -57,7 +60,7 @@ impl<'a> UserView<'a> {
         u32_in(self.bytes, self.place as usize + 8)
     }
 
-    /// Its name.
+    /// The name of the user.
     pub fn name(&self) -> &'a [u8]
         ensures { result.now ≡ self.now.value.name }
     {
@@ -65,7 +68,7 @@ impl<'a> UserView<'a> {
         string_in(self.bytes, self.place as usize + 12, len as usize)
     }
 
-    /// Its roles: bit v - 1 stands for the value v.
+    /// The roles of the user: bit v - 1 stands for the value v.
     pub fn roles(&self) -> BitmapView<'a>
         ensures { result ≡ self.now.value.roles }
     {
@@ -73,7 +76,7 @@ impl<'a> UserView<'a> {
     }
 
     /// The levels that it may have.
-    #[tactic(auto, using(crate::proofs::UserPlaces::length_part, pol_bitmap::proofs::NodePlaces::length_nodes_in))]
+    #[tactic(auto, using(pol_cursor::proofs::Facts::length_part, pol_bitmap::proofs::NodePlaces::length_nodes_in))]
     pub fn range(&self) -> RangeView<'a>
         ensures { result ≡ record { place = range_place self.now; value = self.now.value.range } }
     {
@@ -81,7 +84,7 @@ impl<'a> UserView<'a> {
     }
 
     /// The level that it has by default.
-    #[tactic(auto, using(crate::proofs::UserPlaces::length_part, crate::proofs::UserPlaces::range_ends, pol_bitmap::proofs::NodePlaces::length_nodes_in))]
+    #[tactic(auto, using(pol_cursor::proofs::Facts::length_part, pol_mls::proofs::RangePlaces::range_ends, pol_bitmap::proofs::NodePlaces::length_nodes_in))]
     pub fn level(&self) -> LevelView<'a>
         ensures { result ≡ record { place = level_place self.now; value = self.now.value.level } }
     {
@@ -89,19 +92,7 @@ impl<'a> UserView<'a> {
         LevelView::at(self.bytes, place)
     }
 
-    /// The first reference, in file order, whose value no primary record declares, as a fault at its field: the user that
-    /// bounds it, and the sensitivities of its range and of its level.
-    pub fn dangling<N: Names>(&self, names: &N) -> Option<Fault>
-        ensures { result ≡ dangling_of (N.named names.now) (user_references self.now) }
-    {
-        let bounds = Mention::new(USER, 3, self.place + 8, TableKind::Users, self.bounds());
-        match dangling_bounds(names, bounds) {
-            Some(fault) => Some(fault),
-            None => self.dangling_levels(names),
-        }
-    }
-
-    #[tactic(auto, using(crate::proofs::UserPlaces::dangling_none, crate::proofs::UserPlaces::dangling_some))]
+    #[tactic(auto, using(pol_cursor::proofs::DanglingLists::dangling_none, pol_cursor::proofs::DanglingLists::undeclared_first))]
     fn dangling_levels<N: Names>(&self, names: &N) -> Option<Fault>
         ensures { result ≡ dangling_of (N.named names.now) (level_mentions self.now) }
     {
@@ -110,18 +101,33 @@ impl<'a> UserView<'a> {
             None => self.level().dangling(names),
         }
     }
+}
 
-    /// The same user, owned.
-    pub fn rec(&self, alloc: Global) -> Result<UserRec, AllocError>
-        ensures { IfOk result (λ user. user ≡ self.now.value) }
-    {
+impl<'a> Referring<'a> for User {
+    ghost use Rattle.pol_symbols.specs.UserRecord.{user_references};
+
+    ghost references = { user_references };
+
+    /// The first reference, in file order, whose value no primary record declares, as a fault at its field: the user that
+    /// bounds it, and the sensitivities of its range and of its level.
+    fn dangling<N: Names>(view: &UserView<'a>, names: &N) -> Option<Fault> {
+        let bounds = Mention::new(USER, 3, view.place + 8, TableKind::Users, view.bounds());
+        match dangling_bounds(names, bounds) {
+            Some(fault) => Some(fault),
+            None => view.dangling_levels(names),
+        }
+    }
+}
+
+impl<'a> Copied<'a> for User {
+    fn rec(view: &UserView<'a>, alloc: Global) -> Result<UserRec, AllocError> {
         Ok(UserRec {
-            value: self.value(),
-            bounds: self.bounds(),
-            name: ByteList::from_vec(Vec::from_slice(alloc, self.name())?),
-            roles: Set::from_view(alloc, &self.roles())?,
-            range: self.range().rec(alloc)?,
-            level: self.level().rec(alloc)?,
+            value: view.value(),
+            bounds: view.bounds(),
+            name: ByteList::copy_of(alloc, view.name())?,
+            roles: Set::from_view(alloc, &view.roles())?,
+            range: view.range().rec(alloc)?,
+            level: view.level().rec(alloc)?,
         })
     }
 }

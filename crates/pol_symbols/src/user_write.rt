@@ -1,23 +1,28 @@
-ghost use Rattle.std.specs.Prelude.{◌≡◌, ◌++◌, OnOk};
+ghost use Rattle.pol_cursor.specs.Writing.{Writes};
 ghost use Rattle.pol_symbols.specs.UserRecord.{spell_user};
 
 use crate::user_rec::UserRec;
-use pol_bitmap::write_bitmap;
-use pol_cursor::push_number;
-use pol_mls::{write_level, write_range};
+use pol_cursor::{Part, Written};
 use std::alloc::AllocError;
 
-/// Appends the bytes of a user, which are the same in each version.
-///
-/// After want of memory a part of them may be there.
-pub fn write_user(user: &UserRec, version: u32, out: &mut Vec<u8>) -> Result<(), AllocError>
-    ensures { OnOk result (out.new.items ≡ out.old.items ++ spell_user user.now) }
+/// Appends the bytes of a user, which are the same in each version. Out of memory, a beginning of them was appended.
+pub fn write_user(user: &UserRec, _version: u32, out: &mut Vec<u8>) -> Result<(), AllocError>
+    ensures { Writes out.old.items out.new.items (spell_user user.now) result }
 {
-    push_number(out, 4, user.name.len() as u64)?;
-    push_number(out, 4, user.value as u64)?;
-    push_number(out, 4, user.bounds as u64)?;
-    out.extend_from_slice(user.name.as_slice())?;
-    write_bitmap(&user.roles, out)?;
-    write_range(&user.range, version, out)?;
-    write_level(&user.level, version, out)
+    user.write(out)
+}
+
+impl Written for UserRec {
+    ghost use Rattle.pol_symbols.specs.UserRecord.{spell_user};
+
+    ghost spelling = { spell_user };
+
+    fn write(&self, out: &mut Vec<u8>) -> Result<(), AllocError> {
+        let len = Part::U32(self.name.len() as u64);
+        let value = Part::U32(self.value as u64);
+        let bounds = Part::U32(self.bounds as u64);
+        let name = Part::Bytes(self.name.as_slice());
+        let levels = (&self.range, &self.level);
+        (len, value, bounds, (name, &self.roles, levels)).write(out)
+    }
 }

@@ -50,7 +50,7 @@ position_none {X} p xs none =
     whole p (x ∷ xs) none = rw (none 0 x refl) (omega (arith, whole p xs (λ j y at. none (suc j) y at)))
 
 module _ {X : Type 0} (p : X → Bool) (xs : List X) where
-  found_at : (i : ℕ) → position p xs ≡ Some i → (i < length xs) × (find p xs ≡ slice_get xs i)
+  pub found_at : (i : ℕ) → position p xs ≡ Some i → (i < length xs) × (find p xs ≡ slice_get xs i)
   found_at i e =
       let h = cond_some (ltb (position_or_len p xs) (length xs)) (position_or_len p xs) i e in
       let lt : position_or_len p xs < length xs = ltb-true _ _ h.0 in
@@ -60,7 +60,7 @@ module _ {X : Type 0} (p : X → Bool) (xs : List X) where
   none-go true n e = absurd cc
   none-go false n e = refl
 
-  nothing_found : position p xs ≡ None → find p xs ≡ None
+  pub nothing_found : position p xs ≡ None → find p xs ≡ None
   nothing_found e =
       let past : length xs ≤ position_or_len p xs = ltb-false _ _ (none-go (ltb (position_or_len p xs) (length xs)) (position_or_len p xs) e) in
       find_at p xs ∙ slice_get_past xs (position_or_len p xs) past

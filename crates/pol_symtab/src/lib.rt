@@ -13,9 +13,9 @@ mod taken;
 mod value_index;
 
 pub use causes::{length_cause, name_cause, new_value_cause, primary_value_cause, value_cause};
-pub use record_laws::ranks_have_law;
+pub use record_laws::{ranks_have_law, tables_have_laws};
 pub use symbol::{Symbol, SymbolKind};
 pub use symbol_fields::{read_symbol_length, read_symbol_name};
-pub use symbol_table::{SymbolTable, read_symbol_table, read_whole_table};
+pub use symbol_table::{SymbolTable, check_table, read_symbol_table, read_whole_table};
 pub use table_head::{TableHead, read_table_head};
 pub use taken::{TableContext, Taken};

@@ -14,6 +14,12 @@ pub trait SymbolKind: Record {
 
     /// Whether it is primary, and so no alias.
     ghost is_primary: { Self.Owned → Bool };
+
+    /// The bytes of a record.
+    ghost spelling: { Self.Owned → List ℕ };
+
+    /// What the members of a record have to be for the bytes to say them.
+    ghost fits: { Self.Owned → Type 0 };
 }
 
 /// A kind of record of a symbol table, which is read under the claims of the records before it.

@@ -1,6 +1,7 @@
 ghost use Rattle.std.specs.Prelude.{◌≡◌, ◌<◌, ◌≤◌, Some, IfOk, option_map, slice_get, length};
 ghost use Rattle.pol_cursor.specs.Outcome.{Yields};
 ghost use Rattle.pol_cursor.specs.Contexts.{context_after};
+ghost use Rattle.pol_cursor.specs.References.{values_of, AreDeclared, references_in};
 ghost use Rattle.pol_symtab.specs.SymbolTables.{index_named, value_named, primary_index, primary_name, rank_of, table_records_at, table_at, table_start};
 ghost use Rattle.pol_symtab.specs.TableIndex.{HaveDistinctNames, HaveDistinctValues};
 ghost use Rattle.pol_symtab.specs.declared.taken.TableContext.{TableContext};
@@ -11,7 +12,10 @@ use crate::symbol_laws::symbol_laws;
 use crate::table_head::{TableHead, read_table_head};
 use crate::taken::{TableContext, Taken};
 use crate::value_index::index_values;
-use pol_cursor::{Cursor, ReadError, Records, read_records_after};
+use pol_cursor::{
+    Copied, Cursor, Fault, Names, OwnedList, ReadError, Records, Referring, check_records,
+    read_records_after,
+};
 use std::alloc::{AllocError, Global};
 use std::marker::Model;
 
@@ -138,6 +142,31 @@ where
             None => None,
         }
     }
+}
+
+impl<'a, K: SymbolKind + Copied<'a> + Drop> SymbolTable<'a, K>
+where
+    K::View: Drop,
+    K::Owned: Drop,
+{
+    /// All records, owned.
+    pub fn rec(&self, alloc: Global) -> Result<OwnedList<K::Owned>, AllocError>
+        ensures { IfOk result (λ list. list ≡ values_of self.now.records) }
+    {
+        self.records.rec(alloc)
+    }
+}
+
+/// Refuses the records of a table at their first reference, in file order, whose value no primary record declares.
+pub fn check_table<'a, K: SymbolKind + Referring<'a> + Drop, N: Names>(
+    table: &SymbolTable<'a, K>,
+    names: &N,
+) -> Result<(), Fault>
+where
+    K::View: Drop,
+    ensures { AreDeclared result (N.named names.now) (references_in K.references table.now.records) }
+{
+    check_records(&table.records, names)
 }
 
 /// Reads the records of a table behind its head, the first of them under the context, and answers the last context too. What

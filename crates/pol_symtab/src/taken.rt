@@ -32,7 +32,7 @@ impl<'a> Taken<'a> {
         }
     }
 
-    /// Adds the name of a record, and its value where it is primary. After want of memory nothing was added.
+    /// Adds the name of a record, and its value where it is primary. Out of memory, nothing was added.
     pub fn add(&mut self, name: &'a [u8], value: Option<u32>) -> Result<(), AllocError>
         ensures ok { OnOk result (self.new ≡ with_claim self.old name.now value) }
         ensures err { OnErr result (self.new ≡ self.old) }

@@ -1,2 +1,4 @@
 pub mod Groups
 pub mod SidNames
+pub mod RisingNames
+pub mod OrderedNames

@@ -3,3 +3,5 @@ pub mod NameTexts
 pub mod AddressTexts
 pub mod NumberNames
 pub mod NumberTexts
+pub mod NameLists
+pub mod SetTexts

@@ -13,7 +13,7 @@ pub fn push_ipv4_text(out: &mut Vec<u8>, address: &[u8]) -> Result<(), AllocErro
     match address.split_first() {
         None => Ok(()),
         Some((first, others)) => {
-            push_decimal(out, *first as u32)?;
+            push_decimal(out, u64::from(*first))?;
             push_after_points(out, others)
         }
     }
@@ -24,7 +24,7 @@ fn push_after_points(out: &mut Vec<u8>, bytes: &[u8]) -> Result<(), AllocError>
 {
     for byte in bytes {
         out.push(b'.')?;
-        push_decimal(out, *byte as u32)?;
+        push_decimal(out, u64::from(*byte))?;
     }
     Ok(())
 }

@@ -69,7 +69,7 @@ fn push_numbered(out: &mut Vec<u8>, word: &[u8], number: u32) -> Result<(), Allo
     ensures { OnOk result (out.new.items ≡ out.old.items ++ word.now ++ decimal number) }
 {
     out.extend_from_slice(word)?;
-    push_decimal(out, number)
+    push_decimal(out, u64::from(number))
 }
 
 /// The word of a behaviour in a rule: 1 is `fs_use_xattr`, 2 `fs_use_trans` and 3 `fs_use_task`.

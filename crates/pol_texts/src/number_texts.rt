@@ -5,7 +5,7 @@ use itoa::Buffer;
 use std::alloc::AllocError;
 
 /// Appends a decimal number.
-pub fn push_decimal(out: &mut Vec<u8>, number: u32) -> Result<(), AllocError>
+pub fn push_decimal(out: &mut Vec<u8>, number: u64) -> Result<(), AllocError>
     ensures { OnOk result (out.new.items ≡ out.old.items ++ decimal number) }
 {
     let mut digits = Buffer::new();
@@ -16,12 +16,12 @@ pub fn push_decimal(out: &mut Vec<u8>, number: u32) -> Result<(), AllocError>
 pub fn push_ports_text(out: &mut Vec<u8>, low: u32, high: u32) -> Result<(), AllocError>
     ensures { OnOk result (out.new.items ≡ out.old.items ++ ports_text low high) }
 {
-    push_decimal(out, low)?;
+    push_decimal(out, u64::from(low))?;
     if low == high {
         return Ok(());
     }
     out.push(b'-')?;
-    push_decimal(out, high)
+    push_decimal(out, u64::from(high))
 }
 
 /// Appends the text of a range of partition keys: `0xLOW`, or `0xLOW-0xHIGH` where they differ, in lower hexadecimal digits

@@ -1,4 +1,3 @@
-pub mod InnerPlaces
 pub mod RoleAllowRecord
 pub mod RoleTransRecord
 pub mod NameTransRecord

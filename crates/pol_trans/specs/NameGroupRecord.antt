@@ -5,11 +5,10 @@ use Rattle.pol_cursor.specs.declared.table_kind.TableKind.TheVariants.{Types, Cl
 use Rattle.pol_cursor.specs.Outcome.{Reader, field, ◌>>=◌, done}
 use Rattle.pol_cursor.specs.Parts.{num, number, counted, records_at, spell_counted, CountedFits}
 use Rattle.pol_cursor.specs.References.{Placed, Reference, values_of}
-use Rattle.pol_cursor.specs.Runs.{run_in, HasRun}
+use Rattle.pol_cursor.specs.Runs.{run_in, HasRun, placed_from}
 use Rattle.pol_cursor.specs.Spelling.{bytes_of}
 use Rattle.pol_bitmap.specs.Bitmap.{bitmap_at, spell_bitmap, BitmapFits}
 use Rattle.pol_bitmap.specs.Nodes.{bitmap_in, bitmap_size, HasBitmap}
-use Rattle.pol_trans.specs.InnerPlaces.{placed_from}
 use Rattle.pol_trans.specs.declared.name_datum_rec.NameDatumRec.{NameDatumRec}
 use Rattle.pol_trans.specs.declared.name_group_rec.NameGroupRec.{NameGroupRec}
 use Rattle.pol_cursor.specs.FileNames.{name_at, spell_name, name_in, name_end}

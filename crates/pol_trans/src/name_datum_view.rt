@@ -6,7 +6,9 @@ use crate::name_datum_rec::NameDatumRec;
 use crate::rows::NAME_GROUP;
 use pol_bitmap::{BitmapView, Set};
 use pol_cursor::TableKind::Types;
-use pol_cursor::{Cursor, Fault, Field, Inner, Names, Record, RecordView, dangling, u32_in};
+use pol_cursor::{
+    Copied, Cursor, Fault, Field, Inner, Names, Record, RecordView, dangling, u32_in,
+};
 use std::alloc::{AllocError, Global};
 use std::marker::Model;
 
@@ -112,5 +114,11 @@ impl<'a> RecordView<'a> for NameDatum {
 
     fn at(bytes: &'a [u8], place: u32) -> NameDatumView<'a> {
         NameDatumView { bytes, place }
+    }
+}
+
+impl<'a> Copied<'a> for NameDatum {
+    fn rec(view: &Self::View, alloc: Global) -> Result<Self::Owned, AllocError> {
+        view.rec(alloc)
     }
 }

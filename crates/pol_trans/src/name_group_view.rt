@@ -4,15 +4,14 @@ ghost use Rattle.pol_cursor.specs.References.{dangling_of, values_of};
 ghost use Rattle.pol_cursor.specs.FileNames.{name_end};
 ghost use Rattle.pol_trans.specs.NameGroupRecord.{name_group_at, name_group_in, HasNameGroup, name_group_references, name_data_of, name_datum_reference};
 
-use crate::name_datum_rec::{NameDatumRec, NameDatumRecList};
 use crate::name_datum_view::NameDatum;
 use crate::name_group_rec::NameGroupRec;
 use crate::rows::NAME_GROUP;
 use pol_bitmap::BitmapView;
 use pol_cursor::TableKind::{Classes, Types};
 use pol_cursor::{
-    ByteList, Cursor, Fault, Field, Mention, Names, ReadAlone, Record, RecordView, Run,
-    first_dangling, read_name, read_run, string_in, u32_in,
+    ByteList, Copied, Cursor, Fault, Field, Mention, Names, ReadAlone, Record, RecordView,
+    Referring, Run, first_dangling, read_name, read_run, string_in, u32_in,
 };
 use std::alloc::{AllocError, Global};
 use std::marker::Model;
@@ -70,7 +69,7 @@ impl<'a> NameGroupView<'a> {
     }
 
     /// The data, in file order.
-    #[tactic(auto, using(crate::proofs::NameData::data_placed, crate::proofs::NameData::length_part))]
+    #[tactic(auto, using(crate::proofs::NameData::data_placed, pol_cursor::proofs::Facts::length_part))]
     pub fn data(&self) -> Run<'a, NameDatum>
         ensures placed { result ≡ name_data_of self.now }
         ensures values { values_of result ≡ self.now.value.datums }
@@ -126,10 +125,10 @@ impl<'a> NameGroupView<'a> {
         ensures { IfOk result (λ group. group ≡ self.now.value) }
     {
         Ok(NameGroupRec {
-            name: ByteList::from_vec(Vec::from_slice(alloc, self.name())?),
+            name: ByteList::copy_of(alloc, self.name())?,
             target: self.target(),
             class: self.class(),
-            datums: NameDatumRecList::from_vec(owned_data(alloc, self.data())?),
+            datums: self.data().rec(alloc)?,
         })
     }
 }
@@ -153,17 +152,6 @@ fn dangling_default<N: Names>(run: Run<'_, NameDatum>, names: &N) -> Option<Faul
         }
     }
     None
-}
-
-// The data, owned.
-fn owned_data(alloc: Global, run: Run<'_, NameDatum>) -> Result<Vec<NameDatumRec>, AllocError>
-    ensures { IfOk result (λ datums. datums.items ≡ values_of run.entry) }
-{
-    let mut datums = Vec::new(alloc);
-    for datum in run {
-        datums.push(datum.rec(alloc)?)?;
-    }
-    Ok(datums)
 }
 
 /// The group at the cursor, which then stands behind it. Takes no memory. `BadName` where the name is empty or
@@ -211,5 +199,19 @@ impl<'a> RecordView<'a> for NameGroupRec {
 
     fn at(bytes: &'a [u8], place: u32) -> NameGroupView<'a> {
         NameGroupView { bytes, place }
+    }
+}
+
+impl<'a> Copied<'a> for NameGroupRec {
+    fn rec(view: &Self::View, alloc: Global) -> Result<Self::Owned, AllocError> {
+        view.rec(alloc)
+    }
+}
+
+impl<'a> Referring<'a> for NameGroupRec {
+    ghost references = { name_group_references };
+
+    fn dangling<N: Names>(view: &Self::View, names: &N) -> Option<Fault> {
+        view.dangling(names)
     }
 }

@@ -1,36 +1,45 @@
-ghost use Rattle.std.specs.Prelude.{◌≡◌, ◌++◌, OnOk};
-ghost use Rattle.std.specs.List.{flat_map};
-ghost use Rattle.pol_trans.specs.NameGroupRecord.{spell_name_datum, spell_name_group};
+ghost use Rattle.pol_cursor.specs.Writing.{Writes};
+ghost use Rattle.pol_trans.specs.NameGroupRecord.{spell_name_group};
 
 use crate::name_datum_rec::NameDatumRec;
 use crate::name_group_rec::NameGroupRec;
-use pol_bitmap::write_bitmap;
-use pol_cursor::{push_number, write_name};
+use pol_cursor::{Part, Written};
 use std::alloc::AllocError;
 
-/// Appends the bytes of a group of file-name transitions, which are the same in each version that has groups.
-///
-/// After want of memory a part of them may be there.
+/// Appends the bytes of a group of file-name transitions, which are the same in each version that has groups. Out of memory, a beginning of them was appended.
 pub fn write_name_group(
     group: &NameGroupRec,
     _version: u32,
     out: &mut Vec<u8>,
 ) -> Result<(), AllocError>
-    ensures { OnOk result (out.new.items ≡ out.old.items ++ spell_name_group group.now) }
+    ensures { Writes out.old.items out.new.items (spell_name_group group.now) result }
 {
-    write_name(group.name.as_slice(), out)?;
-    push_number(out, 4, group.target as u64)?;
-    push_number(out, 4, group.class as u64)?;
-    push_number(out, 4, group.datums.len() as u64)?;
-    write_name_data(group.datums.as_slice(), out)
+    group.write(out)
 }
 
-fn write_name_data(datums: &[NameDatumRec], out: &mut Vec<u8>) -> Result<(), AllocError>
-    ensures { OnOk result (out.new.items ≡ out.old.items ++ flat_map spell_name_datum datums.now) }
-{
-    for datum in datums {
-        write_bitmap(&datum.sources, out)?;
-        push_number(out, 4, datum.default as u64)?;
+impl Written for NameGroupRec {
+    ghost use Rattle.pol_trans.specs.NameGroupRecord.{spell_name_group};
+
+    ghost spelling = { spell_name_group };
+
+    fn write(&self, out: &mut Vec<u8>) -> Result<(), AllocError> {
+        let name = (
+            Part::U32(self.name.len() as u64),
+            Part::Bytes(self.name.as_slice()),
+        );
+        let target = Part::U32(self.target as u64);
+        let class = Part::U32(self.class as u64);
+        let count = Part::U32(self.datums.len() as u64);
+        (name, target, class, (count, &self.datums)).write(out)
     }
-    Ok(())
+}
+
+impl Written for NameDatumRec {
+    ghost use Rattle.pol_trans.specs.NameGroupRecord.{spell_name_datum};
+
+    ghost spelling = { spell_name_datum };
+
+    fn write(&self, out: &mut Vec<u8>) -> Result<(), AllocError> {
+        (&self.sources, Part::U32(self.default as u64)).write(out)
+    }
 }

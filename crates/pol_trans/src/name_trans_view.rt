@@ -8,8 +8,8 @@ use crate::name_trans_rec::NameTransRec;
 use crate::rows::NAME_TRANS;
 use pol_cursor::TableKind::{Classes, Types};
 use pol_cursor::{
-    ByteList, Cursor, Fault, Field, Mention, Names, ReadAlone, Record, RecordView, first_dangling,
-    read_name, string_in, u32_in,
+    ByteList, Copied, Cursor, Fault, Field, Mention, Names, ReadAlone, Record, RecordView,
+    Referring, first_dangling, read_name, string_in, u32_in,
 };
 use std::alloc::{AllocError, Global};
 use std::marker::Model;
@@ -103,9 +103,8 @@ impl<'a> NameTransView<'a> {
     pub fn rec(&self, alloc: Global) -> Result<NameTransRec, AllocError>
         ensures { IfOk result (λ trans. trans ≡ self.now.value) }
     {
-        let name = Vec::from_slice(alloc, self.name())?;
         Ok(NameTransRec {
-            name: ByteList::from_vec(name),
+            name: ByteList::copy_of(alloc, self.name())?,
             source: self.source(),
             target: self.target(),
             class: self.class(),
@@ -167,5 +166,19 @@ impl<'a> RecordView<'a> for NameTransRec {
 
     fn at(bytes: &'a [u8], place: u32) -> NameTransView<'a> {
         NameTransView { bytes, place }
+    }
+}
+
+impl<'a> Copied<'a> for NameTransRec {
+    fn rec(view: &Self::View, alloc: Global) -> Result<Self::Owned, AllocError> {
+        view.rec(alloc)
+    }
+}
+
+impl<'a> Referring<'a> for NameTransRec {
+    ghost references = { name_trans_references };
+
+    fn dangling<N: Names>(view: &Self::View, names: &N) -> Option<Fault> {
+        view.dangling(names)
     }
 }

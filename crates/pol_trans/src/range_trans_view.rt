@@ -7,7 +7,8 @@ use crate::range_trans_rec::RangeTransRec;
 use crate::rows::RANGE_TRANS;
 use pol_cursor::TableKind::{Classes, Types};
 use pol_cursor::{
-    Cursor, Fault, Field, Mention, Names, ReadAlone, Record, RecordView, first_dangling, u32_in,
+    Copied, Cursor, Fault, Field, Mention, Names, ReadAlone, Record, RecordView, Referring,
+    first_dangling, u32_in,
 };
 use pol_mls::{RangeView, read_range};
 use std::alloc::{AllocError, Global};
@@ -146,5 +147,19 @@ impl<'a> RecordView<'a> for RangeTransRec {
 
     fn at(bytes: &'a [u8], place: u32) -> RangeTransView<'a> {
         RangeTransView { bytes, place }
+    }
+}
+
+impl<'a> Copied<'a> for RangeTransRec {
+    fn rec(view: &Self::View, alloc: Global) -> Result<Self::Owned, AllocError> {
+        view.rec(alloc)
+    }
+}
+
+impl<'a> Referring<'a> for RangeTransRec {
+    ghost references = { range_trans_references };
+
+    fn dangling<N: Names>(view: &Self::View, names: &N) -> Option<Fault> {
+        view.dangling(names)
     }
 }

@@ -1,23 +1,30 @@
-ghost use Rattle.std.specs.Prelude.{◌≡◌, ◌++◌, OnOk};
+ghost use Rattle.pol_cursor.specs.Writing.{Writes};
 ghost use Rattle.pol_trans.specs.RangeTransRecord.{spell_range_trans};
 
 use crate::range_trans_rec::RangeTransRec;
-use pol_cursor::push_number;
-use pol_mls::write_range;
+use pol_cursor::{Part, Written};
 use std::alloc::AllocError;
 
-/// Appends the bytes of a range transition, which are the same in each version.
-///
-/// After want of memory a part of them may be there.
+/// Appends the bytes of a range transition, which are the same in each version. Out of memory, a beginning of them was appended.
 pub fn write_range_trans(
     trans: &RangeTransRec,
-    version: u32,
+    _version: u32,
     out: &mut Vec<u8>,
 ) -> Result<(), AllocError>
-    ensures { OnOk result (out.new.items ≡ out.old.items ++ spell_range_trans trans.now) }
+    ensures { Writes out.old.items out.new.items (spell_range_trans trans.now) result }
 {
-    push_number(out, 4, trans.source as u64)?;
-    push_number(out, 4, trans.target as u64)?;
-    push_number(out, 4, trans.class as u64)?;
-    write_range(&trans.range, version, out)
+    trans.write(out)
+}
+
+impl Written for RangeTransRec {
+    ghost use Rattle.pol_trans.specs.RangeTransRecord.{spell_range_trans};
+
+    ghost spelling = { spell_range_trans };
+
+    fn write(&self, out: &mut Vec<u8>) -> Result<(), AllocError> {
+        let source = Part::U32(self.source as u64);
+        let target = Part::U32(self.target as u64);
+        let class = Part::U32(self.class as u64);
+        (source, target, class, &self.range).write(out)
+    }
 }

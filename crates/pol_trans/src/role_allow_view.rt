@@ -7,7 +7,8 @@ use crate::role_allow_rec::RoleAllowRec;
 use crate::rows::ROLE_ALLOW;
 use pol_cursor::TableKind::Roles;
 use pol_cursor::{
-    Cursor, Fault, Field, Mention, Names, ReadAlone, Record, RecordView, first_dangling, u32_in,
+    Copied, Cursor, Fault, Field, Mention, Names, ReadAlone, Record, RecordView, Referring,
+    first_dangling, u32_in,
 };
 use std::alloc::{AllocError, Global};
 use std::marker::Model;
@@ -121,5 +122,19 @@ impl<'a> RecordView<'a> for RoleAllowRec {
 
     fn at(bytes: &'a [u8], place: u32) -> RoleAllowView<'a> {
         RoleAllowView { bytes, place }
+    }
+}
+
+impl<'a> Copied<'a> for RoleAllowRec {
+    fn rec(view: &Self::View, alloc: Global) -> Result<Self::Owned, AllocError> {
+        view.rec(alloc)
+    }
+}
+
+impl<'a> Referring<'a> for RoleAllowRec {
+    ghost references = { role_allow_references };
+
+    fn dangling<N: Names>(view: &Self::View, names: &N) -> Option<Fault> {
+        view.dangling(names)
     }
 }

@@ -7,7 +7,8 @@ use crate::role_trans_rec::RoleTransRec;
 use crate::rows::ROLE_TRANS;
 use pol_cursor::TableKind::{Classes, Roles, Types};
 use pol_cursor::{
-    Cursor, Fault, Field, Mention, Names, ReadAlone, Record, RecordView, first_dangling, u32_in,
+    Copied, Cursor, Fault, Field, Mention, Names, ReadAlone, Record, RecordView, Referring,
+    first_dangling, u32_in,
 };
 use std::alloc::{AllocError, Global};
 use std::marker::Model;
@@ -141,5 +142,19 @@ impl<'a> RecordView<'a> for RoleTransRec {
 
     fn at(bytes: &'a [u8], place: u32) -> RoleTransView<'a> {
         RoleTransView { bytes, place }
+    }
+}
+
+impl<'a> Copied<'a> for RoleTransRec {
+    fn rec(view: &Self::View, alloc: Global) -> Result<Self::Owned, AllocError> {
+        view.rec(alloc)
+    }
+}
+
+impl<'a> Referring<'a> for RoleTransRec {
+    ghost references = { role_trans_references };
+
+    fn dangling<N: Names>(view: &Self::View, names: &N) -> Option<Fault> {
+        view.dangling(names)
     }
 }

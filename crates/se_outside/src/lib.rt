@@ -11,8 +11,6 @@ mod plan;
 mod real;
 mod sink;
 mod sure;
-#[cfg(test)]
-mod tests;
 
 pub use files::{Failed, Files, Slot};
 pub use mem_files::MemFiles;

@@ -1,8 +1,9 @@
 -- What the turns of a reading loop keep.
-use Rattle.std.proofs.Common.{◌≡◌, ◌≢◌, ◌≤◌, ◌<◌, ◌+◌, ◌++◌, ℕ, List, [], length, take, drop, true, Some, Result, Ok, refl, sym, ◌∙◌, ap, arith, append_assoc, length-append}
-use Rattle.std.proofs.lemmas.List.{take-append-drop, length-take-le}
+use Rattle.std.proofs.Common.{◌≡◌, ◌≢◌, ◌≤◌, ◌<◌, ◌+◌, ◌++◌, ◌∷◌, ℕ, zero, suc, List, [], length, take, drop, true, Some, Result, Ok, refl, sym, subst, ◌∙◌, ap, arith, append_assoc, length-append}
+use Rattle.std.proofs.lemmas.List.{take_all, take-append-drop, take-take, length-take-le}
 use Rattle.se_outside.specs.Outside.{SlotState, Reads}
 use Rattle.se_outside.specs.declared.Slot.{Slot}
+use Rattle.se_tools.proofs.Gains.{append_nil}
 
 -- Nothing but the slot's place changes.
 pub record Kept (start now : Slot → SlotState) (slot : Slot) : Type 0 where
@@ -50,3 +51,27 @@ turns-more {E} start mid new slot turn k limit bytes more into turns reads some 
       turns = omega (arith, longer into bytes more k reads.this.bound grown, turns.turns);
       size = size;
     }
+
+take-front : (front others : List ℕ) (count : ℕ) → take (length front + count) (front ++ others) ≡ front ++ take count others
+take-front [] others count = let e : 0 + count ≡ count = omega arith in rw e refl
+take-front (x ∷ front) others count = let e : length (x ∷ front) + count ≡ suc (length front + count) = omega arith in rw e (ap (λ vs. x ∷ vs) (take-front front others count))
+
+take-within : (into others : List ℕ) (count : ℕ) → count ≤ length into → take count (into ++ others) ≡ take count into
+take-within into others zero le = refl
+take-within [] others (suc count) le = absurd (omega (arith, le))
+take-within (x ∷ into) others (suc count) le = ap (λ vs. x ∷ vs) (take-within into others count (omega (arith, le)))
+
+-- Bytes that had room made behind them begin as before.
+room-behind : (had room : List ℕ) (n : ℕ) → length had ≤ n → take (length had) (take n had ++ room) ≡ had
+room-behind had room n le =
+    let e : length had + 0 ≡ length had = omega arith in
+    rw (take_all n had le) (subst (λ k. take k (had ++ room) ≡ had) e (take-front had room 0 ∙ append_nil had))
+
+-- A read into the room behind the bytes, of which the part that was not filled is taken away.
+pub read-placed : (had now room into back beyond : List ℕ) (filled n count total : ℕ)
+    → filled ≡ length had → filled < n → now ≡ take n had ++ room → count ≤ length into → filled + count ≤ total
+    → take (filled + count) (take total ((take filled now ++ (into ++ back)) ++ beyond)) ≡ had ++ take count into
+read-placed had now room into back beyond filled n count total is lt made fits within =
+    let front : take filled now ≡ had = rw (is, made) (room-behind had room n (omega (arith, lt, is))) in
+    rw (take-take (filled + count) total ((take filled now ++ (into ++ back)) ++ beyond) within, front, append_assoc had (into ++ back) beyond, append_assoc into back beyond, is)
+    (take-front had (into ++ (back ++ beyond)) count ∙ ap (λ vs. had ++ vs) (take-within into (back ++ beyond) count fits))

@@ -39,7 +39,7 @@ pub record Texts {A : Type 0} (f : A → List ℕ) (done : List A) (old new : Op
   pub later : before ≤ now
   pub gained : Appends old new (flat_map f done)
 
--- Before anything was written memory was wanting.
+-- Memory ran out before anything was written.
 pub nothing_sent : {T : Type 0} (sink : Option (List ℕ)) (faults : ℕ) (text : List ℕ) → Sends {T = T} sink sink faults faults text (Err Memory)
 nothing_sent sink faults text = record {
   later = omega arith;

@@ -1,149 +1,94 @@
--- The answer to the words about a policy's bytes, and how a run may meet it.
-use Rattle.std.specs.Prelude.{◌≡◌, ◌≤◌, ◌+◌, [], ◌∷◌, ℕ, List, length, flat_map, min, Bool, true, false, is_some, option_map, unwrap_or, ⊤, Option, Some, None, Result, Ok, Err, IsOk, nat_lt, if◌then◌else◌}
-use Rattle.std.specs.Io.KnownBytes.{Appends}
+-- The answer of the program to the words about the contents of the files, and how a run meets it.
+use Rattle.std.specs.Prelude.{◌≡◌, ◌≤◌, ◌+◌, ℕ, List, length, true, ⊤, Option, Some, None, Result, Ok, Err, IsOk, IsSome, MatchOption, nat_lt, if◌then◌else◌}
 use Rattle.pol_cursor.specs.declared.Fault.{Fault}
-use Rattle.pol_read.specs.Acceptance.{accept}
-use Rattle.pol_read.specs.declared.Parts.{Parts}
-use Rattle.info_lines.specs.Titles.{title_of}
-use Rattle.info_query.specs.Listings.{lines_of}
-use Rattle.info_summary.specs.Summary.{summary_lines}
+use Rattle.pol_file.specs.Acceptance.{accept}
+use Rattle.pol_file.specs.declared.Parts.{Parts}
 use Rattle.se_outside.specs.Outside.{Rose, SlotState, World, told, IsAsked}
 use Rattle.se_outside.specs.declared.Slot.{Slot}
 use Rattle.se_outside.specs.declared.Slot.TheVariants.{Policy, Map}
-use Rattle.se_tools.specs.Listing.{line_text, listing_text}
-use Rattle.se_words.specs.Options.{Named}
-use Rattle.se_words.specs.Request.{Asks, Info, InfoAsks, Wanted}
-use Rattle.se_tools.specs.Writing.{GainsPart}
+use Rattle.se_words.specs.Request.{Asks, Info, policy_of}
+use Rattle.se_tools.specs.InfoAnswer.{info_answer}
+use Rattle.se_tools.specs.Meeting.{Answer, Meets, WritesNothing, refusal}
 use Rattle.se_tools.specs.declared.status.Status.{Status}
-use Rattle.se_tools.specs.declared.status.Status.TheVariants.{Done, Usage, ReadFault, TooLarge, BadPolicy, UnknownName, WriteFault, Memory}
+use Rattle.se_tools.specs.declared.status.Status.TheVariants.{Usage, ReadFault, TooLarge, BadPolicy, WriteFault, Memory}
 
--- a status, and the bytes that are written with it
-pub record Answer : Type 0 where
-  pub status : Status
-  pub text : List ℕ
+-- the bytes of the file of each slot
+abbrev pub Contents : Type 0
+Contents = Slot → List ℕ
 
--- a status with which nothing is written
-abbrev pub refusal : Status → Answer
-refusal status = record { status = status; text = [] }
+-- the most bytes of a slot's file: 64 MiB of a policy, 4 MiB of a permission map
+abbrev pub file_limit : Slot → ℕ
+file_limit Policy = 67108864
+file_limit Map = 4194304
 
--- the most bytes of a policy: 64 MiB
-abbrev pub file_limit : ℕ
-file_limit = 67108864
-
--- the lines that are wanted, unless their name is unknown
-abbrev pub wanted_lines : Parts → Bool → Wanted → Option (List (List ℕ))
-wanted_lines policy expand wanted = lines_of policy expand wanted.listing (option_map (λ name. name.text) wanted.name)
-
--- the text of a listing that is wanted
-abbrev pub wanted_text : Parts → Bool → Bool → Wanted → List ℕ
-wanted_text policy expand flat wanted = listing_text flat (title_of wanted.listing) (unwrap_or (wanted_lines policy expand wanted) [])
-
--- the text of what is asked: that of the listings that are wanted, or where there are none, the lines of the summary
-abbrev pub info_text : Parts → InfoAsks → List Wanted → List ℕ
-info_text policy asks [] = flat_map (line_text []) (summary_lines policy)
-info_text policy asks (wanted ∷ others) = flat_map (wanted_text policy asks.expand asks.flat) (wanted ∷ others)
-
--- the number of the word with the name, where that is unknown
-abbrev pub unknown_unless : Bool → Option Named → Option ℕ
-unknown_unless true name = None
-unknown_unless false name = option_map (λ name. name.word) name
-
-unfoldable pub unknown_in : Parts → Bool → Wanted → Option ℕ
-unknown_in policy expand wanted = unknown_unless (is_some (wanted_lines policy expand wanted)) wanted.name
-
--- the least of two numbers that may be there
-abbrev pub least : Option ℕ → Option ℕ → Option ℕ
-least None second = second
-least (Some first) None = Some first
-least (Some first) (Some second) = Some (min first second)
-
--- the least of a number and those of the words with names that are unknown
-unfoldable pub unknown_from : Parts → Bool → Option ℕ → List Wanted → Option ℕ
-unknown_from policy expand found [] = found
-unknown_from policy expand found (wanted ∷ others) = unknown_from policy expand (least found (unknown_in policy expand wanted)) others
-
--- a text, unless the name of this word is unknown
-abbrev pub text_unless : Option ℕ → List ℕ → Answer
-text_unless None text = record { status = Done; text = text }
-text_unless (Some word) text = refusal (UnknownName word)
+-- the answer about a policy that was accepted, tool by tool
+abbrev pub answer_about : Asks → Parts → Answer
+answer_about (Info asks) policy = info_answer asks policy
 
 -- the answer about a policy, if it was accepted
-abbrev pub policy_answer : InfoAsks → Result Parts Fault → Answer
-policy_answer asks (Ok policy) = text_unless (unknown_from policy asks.expand None asks.listings) (info_text policy asks asks.listings)
+abbrev pub policy_answer : Asks → Result Parts Fault → Answer
+policy_answer asks (Ok policy) = answer_about asks policy
 policy_answer asks (Err fault) = refusal (BadPolicy fault)
 
--- the answer of seinfo about the bytes of a policy
-abbrev pub info_answer : InfoAsks → List ℕ → Answer
-info_answer asks bytes = if nat_lt file_limit (length bytes) then refusal (TooLarge Policy) else policy_answer asks (accept bytes)
+-- the answer about the bytes of a policy
+unfoldable pub bytes_answer : Asks → List ℕ → Answer
+bytes_answer asks bytes = if nat_lt (file_limit Policy) (length bytes) then refusal (TooLarge Policy) else policy_answer asks (accept bytes)
 
--- the answer to what the words ask, about the bytes of the policy
-abbrev pub answer_of : Result Asks ℕ → List ℕ → Answer
-answer_of (Err word) bytes = refusal (Usage word)
-answer_of (Ok (Info asks)) bytes = info_answer asks bytes
+-- the answer to what the words ask, about the contents of the files
+abbrev pub answer_of : Result Asks ℕ → Contents → Answer
+answer_of (Err word) contents = refusal (Usage word)
+answer_of (Ok asks) contents = bytes_answer asks (contents Policy)
 
--- The status is that of the answer and the sink gained its text, but where reading, writing or memory failed.
-abbrev pub Meets : Answer → Option (List ℕ) → Option (List ℕ) → Status → Type 0
-Meets answer old new (ReadFault slot) = Appends old new []
-Meets answer old new WriteFault = (answer.status ≡ Done) × GainsPart old new answer.text
-Meets answer old new Memory = GainsPart old new answer.text
-Meets answer old new status = (status ≡ answer.status) × Appends old new answer.text
+-- the name under which a request asks for the file of a slot, if it does
+abbrev pub name_in : Asks → Slot → Option (List ℕ)
+name_in asks Policy = Some (policy_of asks).text
+name_in asks Map = None
 
--- Nothing was written but with an answer that is done, or was begun.
-abbrev pub WritesNothing : Option (List ℕ) → Option (List ℕ) → Status → Type 0
-WritesNothing old new Done = ⊤
-WritesNothing old new WriteFault = ⊤
-WritesNothing old new Memory = ⊤
-WritesNothing old new status = Appends old new []
+-- the same of words, which ask for none where they do not fit
+abbrev pub asked_name : Result Asks ℕ → Slot → Option (List ℕ)
+asked_name (Err word) slot = None
+asked_name (Ok asks) slot = name_in asks slot
 
--- The status speaks of the words' own misfit, or of the policy that they ask about.
+-- Each file that is asked for is told to hold these bytes.
+abbrev pub Tells : World → Result Asks ℕ → Contents → Type 0
+Tells world request contents = (slot : Slot) → MatchOption (asked_name request slot) ⊤ (λ name. told world slot name ≡ Some (Some (contents slot)))
+
+-- The policy that is asked about is told not to be there.
+abbrev pub IsNotThere : World → Result Asks ℕ → Type 0
+IsNotThere world (Err word) = ⊥
+IsNotThere world (Ok asks) = told world Policy (policy_of asks).text ≡ Some None
+
+-- The policy was not read.
+abbrev pub IsUnread : Status → Type 0
+IsUnread (ReadFault slot) = slot ≡ Policy
+IsUnread Memory = ⊤
+IsUnread status = ⊥
+
+-- The status speaks of the words' own misfit, or of what they ask for.
 abbrev pub IsAbout : Result Asks ℕ → Status → Type 0
 IsAbout request (Usage word) = request ≡ Err word
-IsAbout request (ReadFault slot) = (slot ≡ Policy) × IsOk request
-IsAbout request (TooLarge slot) = (slot ≡ Policy) × IsOk request
+IsAbout request (ReadFault slot) = IsSome (asked_name request slot)
+IsAbout request (TooLarge slot) = IsSome (asked_name request slot)
 IsAbout request Memory = ⊤
 IsAbout request status = IsOk request
 
--- The file that is asked about is told to hold these bytes.
-abbrev pub Tells : World → Result Asks ℕ → List ℕ → Type 0
-Tells world (Err word) bytes = ⊤
-Tells world (Ok (Info asks)) bytes = told world Policy asks.policy.text ≡ Some (Some bytes)
+-- The slot was asked under the name. A run that is out of memory may not have come to that.
+abbrev pub IsAskedUnder : World → Slot → List ℕ → Status → SlotState → Type 0
+IsAskedUnder world slot name Memory state = state.asked ≡ true → IsAsked (told world slot name) state.name name
+IsAskedUnder world slot name status state = (state.asked ≡ true) × IsAsked (told world slot name) state.name name
 
--- With a misfit no slot is touched. Else that of the policy is asked under its name alone, if at all, and that of the map is
--- not touched.
-abbrev pub AsksOnly : World → Result Asks ℕ → (Slot → SlotState) → (Slot → SlotState) → Type 0
-AsksOnly world (Err word) old new = (slot : Slot) → new slot ≡ old slot
-AsksOnly world (Ok (Info asks)) old new =
-    ((new Policy).asked ≡ true → IsAsked (told world Policy asks.policy.text) (new Policy).name asks.policy.text) × (new Map ≡ old Map)
-
--- The policy is asked for, unless the words do not fit or memory was wanting.
-abbrev pub IsAskedFor : Result Asks ℕ → Status → SlotState → Type 0
-IsAskedFor (Err word) status slot = ⊤
-IsAskedFor (Ok asks) Memory slot = ⊤
-IsAskedFor (Ok asks) status slot = slot.asked ≡ true
+-- Each slot whose file is asked for was asked under its name, and no other slot was touched.
+abbrev pub AsksOnly : World → Result Asks ℕ → Status → (Slot → SlotState) → (Slot → SlotState) → Type 0
+AsksOnly world request status old new = (slot : Slot) → MatchOption (asked_name request slot) (new slot ≡ old slot) (λ name. IsAskedUnder world slot name status (new slot))
 
 -- How a run ends but for its message: what it does to the files and to the sink, and with which status.
 pub record Answers (request : Result Asks ℕ) (world : World) (files_old files_new : Slot → SlotState) (old new : Option (List ℕ)) (before now : ℕ) (status : Status) : Type 0 where
-  pub meets : (bytes : List ℕ) → Tells world request bytes → Meets (answer_of request bytes) old new status
+  pub meets : (contents : Contents) → Tells world request contents → Meets (answer_of request contents) old new status
+  pub absent : IsNotThere world request → IsUnread status
   pub about : IsAbout request status
   pub silent : WritesNothing old new status
-  pub asked : AsksOnly world request files_old files_new
-  pub opened : IsAskedFor request status (files_new Policy)
-  pub turns : (files_new Policy).turns ≤ (files_old Policy).turns + file_limit + 2
+  pub asked : AsksOnly world request status files_old files_new
+  pub turns : (slot : Slot) → (files_new slot).turns ≤ (files_old slot).turns + file_limit slot + 2
   pub read : (slot : Slot) → status ≡ ReadFault slot → Rose (files_old slot).faults (files_new slot).faults
-  pub wrote : status ≡ WriteFault → Rose before now
-  pub later : before ≤ now
-
--- What a policy that was read can end with.
-abbrev pub IsOfPolicy : Status → Type 0
-IsOfPolicy (Usage word) = ⊥
-IsOfPolicy (ReadFault slot) = ⊥
-IsOfPolicy (TooLarge slot) = ⊥
-IsOfPolicy status = ⊤
-
--- The answer about a policy that was read.
-pub record Concludes (answer : Answer) (old new : Option (List ℕ)) (before now : ℕ) (status : Status) : Type 0 where
-  pub meets : Meets answer old new status
-  pub about : IsOfPolicy status
-  pub silent : WritesNothing old new status
   pub wrote : status ≡ WriteFault → Rose before now
   pub later : before ≤ now

@@ -35,6 +35,13 @@ pub record Emits {T : Type 0} (old new : Option (List ℕ)) (before now : ℕ) (
   pub part : OnErr result (GainsPart old new (had ++ text))
   pub failed : IsErrOf result Fault → Rose before now
 
+-- The same of a text whose making takes no memory. The count rose where a write failed.
+pub record Puts {T E : Type 0} (old new : Option (List ℕ)) (before now : ℕ) (had has text : List ℕ) (result : Result T E) : Type 0 where
+  pub later : before ≤ now
+  pub whole : OnOk result (Moves old new had has text)
+  pub part : OnErr result (GainsPart old new (had ++ text))
+  pub failed : OnErr result (Rose before now)
+
 -- A text was said: a front of it stands there, and all of it where the count of faults did not rise.
 pub record Said (old new : Option (List ℕ)) (before now : ℕ) (text : List ℕ) : Type 0 where
   pub later : before ≤ now

@@ -3,16 +3,11 @@
 #![tactic(auto)]
 
 mod answer;
-#[cfg(test)]
-mod edited_tests;
+mod info;
 mod listing;
-#[cfg(test)]
-mod name_tests;
 mod reading;
 mod report;
 mod status;
-#[cfg(test)]
-mod tests;
 mod unknown;
 mod writing;
 

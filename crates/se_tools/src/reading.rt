@@ -1,11 +1,11 @@
 // A file read whole, in bounded turns.
-ghost use Rattle.std.specs.Prelude.{◌≡◌, ◌<◌, ◌^◌, false};
-ghost use Rattle.se_tools.specs.Reading.{ReadsWhole};
+ghost use Rattle.std.specs.Prelude.{◌≡◌, ◌<◌, ◌^◌, false, true, length};
+ghost use Rattle.se_tools.specs.Reading.{ReadsOn, ReadsWhole};
 
 use se_outside::{Files, Slot};
 use std::alloc::Global;
 
-// How much one turn asks for.
+// The most that one turn asks for.
 const TURN: usize = 65_536;
 
 /// Why a file was not read whole.
@@ -15,12 +15,12 @@ pub enum ReadEnd {
     Fault,
     /// The file has more bytes than the limit.
     TooLarge,
-    /// Memory was wanting.
+    /// Out of memory.
     Memory,
 }
 
 /// Reads what a slot holds under a name, if that is at most `limit` bytes. Room is made at once for as many bytes as the
-/// files say are there, up to the limit.
+/// files say are there, up to the limit, and each is read to its place.
 pub fn read_whole<F: Files>(
     alloc: Global,
     files: &mut F,
@@ -36,25 +36,57 @@ pub fn read_whole<F: Files>(
     let Ok(()) = files.open(slot, name) else {
         return Err(ReadEnd::Fault);
     };
-    let room = files.size_hint(slot).min(limit as u64) as usize;
+    // With a byte more, so that the end is found without further room.
+    let room = files.size_hint(slot).min(limit as u64) as usize + 1;
     let Ok(mut bytes) = Vec::with_capacity(alloc, room) else {
         return Err(ReadEnd::Memory);
     };
-    let mut piece = [0; TURN];
     // Each turn but the last reads a byte at least, so one more than the limit and one for the end are enough.
     'turns: for _turn in 0..limit + 2 {
-        let Ok(count) = files.read(slot, &mut piece) else {
-            return Err(ReadEnd::Fault);
+        let count = match read_on(files, slot, room, &mut bytes) {
+            Ok(count) => count,
+            Err(end) => return Err(end),
         };
         if count == 0 {
             return Ok(bytes);
         }
-        let Ok(()) = bytes.extend_from_slice(&piece[..count]) else {
-            return Err(ReadEnd::Memory);
-        };
         if bytes.len() > limit {
             return Err(ReadEnd::TooLarge);
         }
     }
     Err(ReadEnd::TooLarge)
+}
+
+// Reads once, straight to the end of the bytes, and answers how many came.
+fn read_on<F: Files>(
+    files: &mut F,
+    slot: Slot,
+    room: usize,
+    bytes: &mut Vec<u8>,
+) -> Result<usize, ReadEnd>
+    requires opened { (F.state files.old slot).is_open ≡ true }
+    requires small { length bytes.old.items < 2 ^ 63 }
+    ensures { ReadsOn (F.state files.old) (F.state files.new) slot bytes.old.items bytes.new.items result }
+{
+    let filled = bytes.len();
+    let Ok(()) = bytes.resize(turn_end(filled, room), 0) else {
+        return Err(ReadEnd::Memory);
+    };
+    let Ok(count) = files.read(slot, &mut bytes[filled..]) else {
+        return Err(ReadEnd::Fault);
+    };
+    bytes.truncate(filled + count);
+    Ok(count)
+}
+
+// How far the bytes may grow in a turn: up to the room, and beyond it where that is full.
+fn turn_end(filled: usize, room: usize) -> usize
+    requires { filled < 2 ^ 63 }
+    ensures { filled < result }
+{
+    if filled < room {
+        room.min(filled + TURN)
+    } else {
+        filled + TURN
+    }
 }

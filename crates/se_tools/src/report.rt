@@ -1,12 +1,17 @@
 // The message of a status. It takes no memory.
 ghost use Rattle.std.specs.Prelude.{◌≡◌, ◌++◌, codes, flat_map};
-ghost use Rattle.se_tools.specs.Writing.{Wrote};
+ghost use Rattle.se_tools.specs.Writing.{Puts, Wrote};
 ghost use Rattle.se_tools.specs.Message.{message_of, part_text, slot_word};
 
 use crate::Status;
-use crate::writing::{write_all, write_number};
+use crate::writing::write_all;
+use arrayvec::ArrayString;
+use itoa::Buffer;
 use pol_cursor::{Cause, Fault};
 use se_outside::{Failed, Sink, Slot};
+
+// A line on the stack. It has room for the longest message, so each is one write.
+type Line = ArrayString<256>;
 
 /// A part of a message.
 #[derive(Clone, Copy, Debug)]
@@ -105,27 +110,43 @@ fn say<E: Sink>(parts: &[Part], err: &mut E) -> Result<(), Failed>
     ensures { Wrote (E.written err.old) (E.written err.new) (E.faults err.old) (E.faults err.new)
         (codes "setools: " ++ (flat_map part_text parts.now ++ codes "\n")) result }
 {
-    write_all(err, b"setools: ")?;
-    write_parts(parts, err)?;
-    write_all(err, b"\n")
+    let mut line = Line::new();
+    put("setools: ", &mut line, err)?;
+    put_parts(parts, &mut line, err)?;
+    put("\n", &mut line, err)?;
+    write_all(err, line.as_str().as_bytes())
 }
 
-fn write_parts<E: Sink>(parts: &[Part], err: &mut E) -> Result<(), Failed>
-    ensures { Wrote (E.written err.old) (E.written err.new) (E.faults err.old) (E.faults err.new)
-        (flat_map part_text parts.now) result }
+// Puts the parts into a line.
+fn put_parts<E: Sink>(parts: &[Part], line: &mut Line, err: &mut E) -> Result<(), Failed>
+    ensures { Puts (E.written err.old) (E.written err.new) (E.faults err.old) (E.faults err.new)
+        line.old.bytes line.new.bytes (flat_map part_text parts.now) result }
 {
     for part in parts {
-        write_part(part, err)?;
+        put_part(part, line, err)?;
     }
     Ok(())
 }
 
-fn write_part<E: Sink>(part: &Part, err: &mut E) -> Result<(), Failed>
-    ensures { Wrote (E.written err.old) (E.written err.new) (E.faults err.old) (E.faults err.new)
-        (part_text part.now) result }
+fn put_part<E: Sink>(part: &Part, line: &mut Line, err: &mut E) -> Result<(), Failed>
+    ensures { Puts (E.written err.old) (E.written err.new) (E.faults err.old) (E.faults err.new)
+        line.old.bytes line.new.bytes (part_text part.now) result }
 {
     match part {
-        Part::Text(text) => write_all(err, text.as_bytes()),
-        Part::Number(number) => write_number(err, *number),
+        Part::Text(text) => put(text, line, err),
+        Part::Number(number) => put(Buffer::new().format(*number), line, err),
     }
+}
+
+// Puts a text into a line, which is written first where the text does not fit beside what it has.
+fn put<E: Sink>(text: &str, line: &mut Line, err: &mut E) -> Result<(), Failed>
+    ensures { Puts (E.written err.old) (E.written err.new) (E.faults err.old) (E.faults err.new)
+        line.old.bytes line.new.bytes text.now result }
+{
+    let Err(_full) = line.try_push_str(text) else {
+        return Ok(());
+    };
+    write_all(err, line.as_str().as_bytes())?;
+    line.clear();
+    write_all(err, text.as_bytes())
 }

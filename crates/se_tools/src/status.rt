@@ -19,7 +19,7 @@ pub enum Status {
     UnknownName(u64),
     /// The answer was not written, or not whole.
     WriteFault,
-    /// Memory was wanting.
+    /// Out of memory.
     Memory,
 }
 

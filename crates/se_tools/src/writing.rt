@@ -1,8 +1,7 @@
 // Whole texts through a sink that may take less than it is given.
-ghost use Rattle.std.specs.Prelude.{◌≡◌, ◌<◌, [], OnOk, decimal, length};
+ghost use Rattle.std.specs.Prelude.{◌≡◌, ◌<◌, [], OnOk, length};
 ghost use Rattle.se_tools.specs.Writing.{Wrote, Emits};
 
-use itoa::Buffer;
 use se_outside::{Failed, Sink};
 use std::alloc::AllocError;
 
@@ -14,7 +13,7 @@ const PAGE: usize = 65_536;
 pub enum WriteEnd {
     /// A write failed.
     Fault,
-    /// Memory was wanting.
+    /// Out of memory.
     Memory,
 }
 
@@ -51,15 +50,6 @@ pub fn write_all<S: Sink>(sink: &mut S, text: &[u8]) -> Result<(), Failed>
         }
     }
     Ok(())
-}
-
-/// Writes a number's decimal digits.
-pub fn write_number<S: Sink>(sink: &mut S, n: u64) -> Result<(), Failed>
-    ensures { Wrote (S.written sink.old) (S.written sink.new) (S.faults sink.old) (S.faults sink.new)
-        (decimal n) result }
-{
-    let mut digits = Buffer::new();
-    write_all(sink, digits.format(n).as_bytes())
 }
 
 /// Writes what the buffer holds, where that fills a page, and empties it.

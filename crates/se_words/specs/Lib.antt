@@ -1,3 +1,4 @@
 pub mod Word
 pub mod Options
 pub mod Request
+pub mod ProcessWords

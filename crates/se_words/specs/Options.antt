@@ -95,10 +95,11 @@ option_head (row ∷ rows) mode n text next = elim (spelling_of row text) [
   | Joined value ↦ joined_head mode n row.long row.takes value
 ]
 
--- word n is positional
+-- word n is positional, if one more may come. The word `-` alone never is.
 abbrev pub positional_head : Mode → ℕ → List ℕ → Head
 positional_head mode n text =
-    if nat_lt 0 mode.free then Fits (Some (Positional (named text n))) 0 (record { closed = mode.closed; free = mode.free - 1 }) else Misfit n
+    if nat_lt 0 mode.free && not (bytes_eq text (codes "-"))
+    then Fits (Some (Positional (named text n))) 0 (record { closed = mode.closed; free = mode.free - 1 }) else Misfit n
 
 -- what word n and the words after it begin with
 unfoldable pub head_of : List Row → Mode → ℕ → Option (List ℕ) → List (Option (List ℕ)) → Head
@@ -158,7 +159,7 @@ abbrev pub head_view : Result HeadCode ℕ → Head
 head_view (Ok head) = Fits (option_map group_view head.group) head.further head.mode
 head_view (Err n) = Misfit n
 
--- A result of the code is the groups, if memory was not wanting.
+-- A result of the code is the groups, unless it is out of memory.
 abbrev pub Cuts : Result (Vec GroupCode Global) WordsError → Result (List Group) ℕ → Type 0
 Cuts (Ok groups) all = all ≡ Ok (map group_view groups.items)
 Cuts (Err (Usage n)) all = all ≡ Err n

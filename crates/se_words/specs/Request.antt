@@ -73,6 +73,10 @@ pub record InfoAsks : Type 0 where
 pub data Asks : Type 0 where
   Info : InfoAsks → Asks
 
+-- the name of the policy that is asked about
+abbrev pub policy_of : Asks → Named
+policy_of (Info asks) = asks.policy
+
 -- a listing with the name that its option has; where the option is not given, the listing is wanted if all are
 abbrev pub wanted_by : Bool → Listing → Option (Option Named) → List Wanted
 wanted_by all listing (Some name) = record { listing = listing; name = name } ∷ []
@@ -125,7 +129,7 @@ info_view asks = record { policy = named_view asks.policy; listings = map wanted
 abbrev pub request_view : Request → Asks
 request_view (InfoCode asks) = Info (info_view asks)
 
--- A result of the code says what the words ask, if memory was not wanting.
+-- A result of the code says what the words ask, unless it is out of memory.
 abbrev pub Understands : Result Request WordsError → Result Asks ℕ → Type 0
 Understands (Ok request) asks = asks ≡ Ok (request_view request)
 Understands (Err (Usage n)) asks = asks ≡ Err n

@@ -1,5 +1,6 @@
 -- A word of a command line: its text, or that it is none.
-use Rattle.std.specs.Prelude.{ℕ, List, [], ◌∷◌, string_bytes, bytes_eq, ◌==◌, Bool, false, Option, Some, None}
+use Rattle.std.specs.Prelude.{ℕ, List, [], ◌∷◌, string_bytes, bytes_eq, ◌==◌, if◌then◌else◌, Bool, false, Option, Some, None}
+use Rattle.std.specs.Str.{is_utf8}
 use Rattle.se_words.specs.declared.words.Word.{Word}
 use Rattle.se_words.specs.declared.words.Word.TheVariants.{Text, NotText}
 
@@ -7,6 +8,10 @@ use Rattle.se_words.specs.declared.words.Word.TheVariants.{Text, NotText}
 abbrev pub text_of : Word → Option (List ℕ)
 text_of (Text text) = Some (string_bytes text)
 text_of NotText = None
+
+-- the text that some bytes are, if they are UTF-8
+abbrev pub text_in : List ℕ → Option (List ℕ)
+text_in bytes = if is_utf8 bytes then Some bytes else None
 
 -- a word is this text
 abbrev pub is_word : List ℕ → Option (List ℕ) → Bool

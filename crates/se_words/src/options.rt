@@ -168,12 +168,12 @@ fn head_of<'w>(
     option_head(rows, mode, number, text, after)
 }
 
-// The head where the word is positional.
+// The head where the word is positional, which `-` alone never is.
 fn positional_head<'w>(mode: Mode, number: u64, text: &'w str) -> Result<Head<'w>, u64>
     ensures head { head_view result ≡ positional_head mode number text.now }
     ensures alone { IfOk result (λ head. head.further ≡ 0) }
 {
-    if mode.free == 0 {
+    if mode.free == 0 || text == "-" {
         return Err(number);
     }
     Ok(Head {

@@ -75,12 +75,26 @@ pub enum Request<'w> {
     Info(InfoRequest<'w>),
 }
 
+impl<'w> Request<'w> {
+    ghost use Rattle.std.specs.Prelude.{◌≡◌};
+    ghost use Rattle.se_words.specs.Request.{policy_of, request_view};
+
+    /// The policy's name.
+    pub fn policy(&self) -> &'w str
+        ensures { result.now ≡ (policy_of (request_view self.now)).text }
+    {
+        match self {
+            Request::Info(asks) => asks.policy.text,
+        }
+    }
+}
+
 /// Why the words are not understood.
 #[derive(Clone, Copy, Debug, PartialEq, Eq)]
 pub enum WordsError {
     /// The word of that number is the first that does not fit.
     Usage(u64),
-    /// Memory was wanting.
+    /// Out of memory.
     Memory,
 }
 

@@ -1,8 +1,10 @@
 // The words of a command line.
 ghost use Rattle.std.specs.Prelude.{◌≡◌, ◌++◌, ◌∷◌, [], None, Some, OnOk, OnErr};
+ghost use Rattle.se_words.specs.Word.{text_in};
 
 use std::alloc::{AllocError, Global};
 use std::marker::Model;
+use std::str;
 
 /// A word of a command line.
 #[derive(Debug, Drop)]
@@ -43,7 +45,7 @@ impl Words {
         }
     }
 
-    /// Adds a text. Where memory is wanting nothing is added.
+    /// Adds a text. Out of memory, nothing is added.
     pub fn push(&mut self, word: &str) -> Result<(), AllocError>
         ensures ok { OnOk result (self.new ≡ self.old ++ Some word.now ∷ []) }
         ensures err { OnErr result (self.new ≡ self.old) }
@@ -52,12 +54,24 @@ impl Words {
         Ok(self.words.push(Word::Text(text))?)
     }
 
-    /// Adds a word that is no text. Where memory is wanting nothing is added.
+    /// Adds a word that is no text. Out of memory, nothing is added.
     pub fn push_not_text(&mut self) -> Result<(), AllocError>
         ensures ok { OnOk result (self.new ≡ self.old ++ None ∷ []) }
         ensures err { OnErr result (self.new ≡ self.old) }
     {
         Ok(self.words.push(Word::NotText)?)
+    }
+
+    /// Adds the text that the bytes are, and a word that is no text where they are no UTF-8. Out of memory, nothing is
+    /// added.
+    pub fn push_bytes(&mut self, word: &[u8]) -> Result<(), AllocError>
+        ensures ok { OnOk result (self.new ≡ self.old ++ text_in word.now ∷ []) }
+        ensures err { OnErr result (self.new ≡ self.old) }
+    {
+        match str::from_utf8(word) {
+            Ok(text) => self.push(text),
+            Err(_) => self.push_not_text(),
+        }
     }
 
     /// The words in their order.

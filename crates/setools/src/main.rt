@@ -3,31 +3,48 @@
 
 use se_outside::{RealFiles, RealSink};
 use se_tools::run;
-use se_words::Words;
-use std::alloc::AllocError;
-use std::env;
+use se_words::{Words, words_of_bytes};
+use std::alloc::{AllocError, Global};
+use std::env::{self, Args};
+use std::fs;
 use std::io::ErrorKind;
 use std::process::ExitCode;
 
-// The exit code where the words find no memory.
+// The exit code where there is no memory for the words.
 const NO_MEMORY: u8 = 5;
 
-// The words after the program's name. Where some word is no text, the standard library gives none of them: then one word
-// that is no text stands for all.
+// The bytes that Linux tells of the words, where the standard library does not give them as texts.
+const COMMAND_LINE: &str = "/proc/self/cmdline";
+
+// The words after the program's name.
 fn words_of(rt: &HostRuntime) -> Result<Words, AllocError> {
-    let mut words = Words::new(rt.alloc());
-    let args = match env::args(rt) {
-        Ok(args) => args,
-        Err(error) if error.kind() == ErrorKind::OutOfMemory => return Err(AllocError),
-        Err(_) => {
-            words.push_not_text()?;
-            return Ok(words);
-        }
-    };
+    match env::args(rt) {
+        Ok(args) => words_of_texts(rt.alloc(), args),
+        Err(error) if error.kind() == ErrorKind::OutOfMemory => Err(AllocError),
+        Err(_) => words_as_told(rt),
+    }
+}
+
+// The words where all are texts.
+fn words_of_texts(alloc: Global, args: Args) -> Result<Words, AllocError> {
+    let mut words = Words::new(alloc);
     for word in args.skip(1) {
         words.push(word.as_str())?;
     }
     Ok(words)
+}
+
+// The words where some are no texts. Where the system does not tell them, one that is no text stands for all.
+fn words_as_told(rt: &HostRuntime) -> Result<Words, AllocError> {
+    match fs::read(rt, COMMAND_LINE) {
+        Ok(bytes) => words_of_bytes(rt.alloc(), &bytes),
+        Err(error) if error.kind() == ErrorKind::OutOfMemory => Err(AllocError),
+        Err(_) => {
+            let mut words = Words::new(rt.alloc());
+            words.push_not_text()?;
+            Ok(words)
+        }
+    }
 }
 
 fn main(rt: HostRuntime) -> ExitCode {

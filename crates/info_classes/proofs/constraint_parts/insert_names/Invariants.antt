@@ -1,6 +1,6 @@
 use Rattle.std.proofs.Common.{◌≡◌, map}
 use Rattle.std.specs.List.{filter, fold}
-use Rattle.info_lines.specs.NameLists.{with_name}
+use Rattle.pol_texts.specs.NameLists.{with_name}
 use Rattle.info_classes.specs.ConstraintLines.{has_permission}
 use Rattle.info_classes.proofs.constraint_parts.insert_names.Given as goal
 

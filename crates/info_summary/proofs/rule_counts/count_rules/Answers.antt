@@ -1,6 +1,6 @@
 use Rattle.std.proofs.Common.{◌≡◌, ◌+◌, length, ◌∙◌, ap, sym, refl}
 use Rattle.std.proofs.lemmas.List.{length-map}
-use Rattle.pol_read.specs.StoredRules.{rules_of_nodes}
+use Rattle.pol_rules.specs.StoredRules.{rules_of_nodes}
 use Rattle.info_summary.proofs.RuleCounting.{Sizes, sizes_are, roles, allows, ranges, first_fits, after_one, after_two, after_three, all_counted}
 use Rattle.info_summary.proofs.rule_counts.count_rules.Goals as goal
 
@@ -13,7 +13,7 @@ add-requires c =
     let k : c.conditional_count.result ≡ length (rules_of_nodes c.args.policy.now.rules.conditionals) = c.conditional_count.ensures ∙ rw c.conditionals.ensures refl in
     let s : Sizes c.args.policy.now c.rule_count-rules.result (c.len.result + c.conditional_count.result) c.len-roles.result c.len-allows.result c.len-ranges.result =
     sizes_are c.args.policy.now c.rule_count-rules.result c.len.result c.conditional_count.result c.len-roles.result c.len-allows.result c.len-ranges.result
-    c.rule_count-rules.ensures c.rule_count-rules.type_inv t k r a g in
+    c.rule_count-rules.ensures.count c.rule_count-rules.type_inv t k r a g in
     first_fits c.args.policy.now c.rule_count-rules.result (c.len.result + c.conditional_count.result) c.len-roles.result c.len-allows.result c.len-ranges.result c.count_first-counts.result s c.count_first-counts.ensures
 
 pub add-requires-2 : goal.add-requires-2
@@ -25,7 +25,7 @@ add-requires-2 c =
     let k : c.conditional_count.result ≡ length (rules_of_nodes c.args.policy.now.rules.conditionals) = c.conditional_count.ensures ∙ rw c.conditionals.ensures refl in
     let s : Sizes c.args.policy.now c.rule_count-rules.result (c.len.result + c.conditional_count.result) c.len-roles.result c.len-allows.result c.len-ranges.result =
     sizes_are c.args.policy.now c.rule_count-rules.result c.len.result c.conditional_count.result c.len-roles.result c.len-allows.result c.len-ranges.result
-    c.rule_count-rules.ensures c.rule_count-rules.type_inv t k r a g in
+    c.rule_count-rules.ensures.count c.rule_count-rules.type_inv t k r a g in
     let one = after_one c.args.policy.now c.rule_count-rules.result (c.len.result + c.conditional_count.result) c.len-roles.result c.len-allows.result c.len-ranges.result c.count_first-counts.result c.add.new.counts s c.count_first-counts.ensures c.add.ensures in
     one.fits
 
@@ -38,7 +38,7 @@ add-requires-3 c =
     let k : c.conditional_count.result ≡ length (rules_of_nodes c.args.policy.now.rules.conditionals) = c.conditional_count.ensures ∙ rw c.conditionals.ensures refl in
     let s : Sizes c.args.policy.now c.rule_count-rules.result (c.len.result + c.conditional_count.result) c.len-roles.result c.len-allows.result c.len-ranges.result =
     sizes_are c.args.policy.now c.rule_count-rules.result c.len.result c.conditional_count.result c.len-roles.result c.len-allows.result c.len-ranges.result
-    c.rule_count-rules.ensures c.rule_count-rules.type_inv t k r a g in
+    c.rule_count-rules.ensures.count c.rule_count-rules.type_inv t k r a g in
     let one = after_one c.args.policy.now c.rule_count-rules.result (c.len.result + c.conditional_count.result) c.len-roles.result c.len-allows.result c.len-ranges.result c.count_first-counts.result c.add.new.counts s c.count_first-counts.ensures c.add.ensures in
     let two = after_two c.args.policy.now c.rule_count-rules.result (c.len.result + c.conditional_count.result) c.len-roles.result c.len-allows.result c.len-ranges.result c.add.new.counts c.add-2.new.counts s one c.add-2.ensures in
     two.fits
@@ -52,7 +52,7 @@ add-requires-4 c =
     let k : c.conditional_count.result ≡ length (rules_of_nodes c.args.policy.now.rules.conditionals) = c.conditional_count.ensures ∙ rw c.conditionals.ensures refl in
     let s : Sizes c.args.policy.now c.rule_count-rules.result (c.len.result + c.conditional_count.result) c.len-roles.result c.len-allows.result c.len-ranges.result =
     sizes_are c.args.policy.now c.rule_count-rules.result c.len.result c.conditional_count.result c.len-roles.result c.len-allows.result c.len-ranges.result
-    c.rule_count-rules.ensures c.rule_count-rules.type_inv t k r a g in
+    c.rule_count-rules.ensures.count c.rule_count-rules.type_inv t k r a g in
     let one = after_one c.args.policy.now c.rule_count-rules.result (c.len.result + c.conditional_count.result) c.len-roles.result c.len-allows.result c.len-ranges.result c.count_first-counts.result c.add.new.counts s c.count_first-counts.ensures c.add.ensures in
     let two = after_two c.args.policy.now c.rule_count-rules.result (c.len.result + c.conditional_count.result) c.len-roles.result c.len-allows.result c.len-ranges.result c.add.new.counts c.add-2.new.counts s one c.add-2.ensures in
     let three = after_three c.args.policy.now c.rule_count-rules.result (c.len.result + c.conditional_count.result) c.len-roles.result c.len-allows.result c.len-ranges.result c.add-2.new.counts c.add-3.new.counts s two c.add-3.ensures in
@@ -67,7 +67,7 @@ returns c =
     let k : c.conditional_count.result ≡ length (rules_of_nodes c.args.policy.now.rules.conditionals) = c.conditional_count.ensures ∙ rw c.conditionals.ensures refl in
     let s : Sizes c.args.policy.now c.rule_count-rules.result (c.len.result + c.conditional_count.result) c.len-roles.result c.len-allows.result c.len-ranges.result =
     sizes_are c.args.policy.now c.rule_count-rules.result c.len.result c.conditional_count.result c.len-roles.result c.len-allows.result c.len-ranges.result
-    c.rule_count-rules.ensures c.rule_count-rules.type_inv t k r a g in
+    c.rule_count-rules.ensures.count c.rule_count-rules.type_inv t k r a g in
     let one = after_one c.args.policy.now c.rule_count-rules.result (c.len.result + c.conditional_count.result) c.len-roles.result c.len-allows.result c.len-ranges.result c.count_first-counts.result c.add.new.counts s c.count_first-counts.ensures c.add.ensures in
     let two = after_two c.args.policy.now c.rule_count-rules.result (c.len.result + c.conditional_count.result) c.len-roles.result c.len-allows.result c.len-ranges.result c.add.new.counts c.add-2.new.counts s one c.add-2.ensures in
     let three = after_three c.args.policy.now c.rule_count-rules.result (c.len.result + c.conditional_count.result) c.len-roles.result c.len-allows.result c.len-ranges.result c.add-2.new.counts c.add-3.new.counts s two c.add-3.ensures in

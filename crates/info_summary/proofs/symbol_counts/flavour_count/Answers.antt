@@ -2,7 +2,7 @@ use Rattle.std.proofs.Common.{◌≡◌, ◌+◌, take, sym}
 use Rattle.pol_cursor.specs.References.{Placed}
 use Rattle.pol_datums.specs.declared.TypeRec.{TypeRec}
 use Rattle.pol_datums.specs.TypeRecord.{flavour_of}
-use Rattle.info_symbols.specs.Flavours.{is_flavour}
+use Rattle.pol_expand.specs.Flavours.{is_flavour}
 use Rattle.info_summary.specs.Counts.{flavour_count}
 use Rattle.info_summary.proofs.Counting.{one_more}
 use Rattle.info_summary.proofs.symbol_counts.flavour_count.Goals as goal

@@ -3,8 +3,7 @@ use Rattle.std.specs.List.Sorted.{IsPermutation}
 use Rattle.std.specs.Ordering.{nat_cmp, is_lt}
 use Rattle.std.specs.Cmp.Lexicographic.{slice_cmp}
 use Rattle.std.proofs.lemmas.List.Sorted.{IsPermutation-map}
-use Rattle.pol_constraints.proofs.ConstraintTexts.{sorted_map}
-use Rattle.info_lines.proofs.OrderedNames.{in_order_is}
+use Rattle.pol_texts.proofs.OrderedNames.{in_order_is, sorted_map}
 use Rattle.info_symbols.proofs.aliases.sorted_names.Goals as goal
 
 pub returns : goal.returns

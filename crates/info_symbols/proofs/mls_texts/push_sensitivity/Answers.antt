@@ -4,7 +4,7 @@ use Rattle.std.proofs.lemmas.Result.{on_ok_weaker}
 use Rattle.pol_cursor.specs.declared.TableKind.TheVariants.{Levels}
 use Rattle.pol_datums.specs.declared.SensitivityRec.{SensitivityRec}
 use Rattle.pol_symbols.specs.declared.symbols.Symbols.{Symbols}
-use Rattle.info_lines.specs.NameLists.{in_order}
+use Rattle.pol_texts.specs.NameLists.{in_order}
 use Rattle.info_symbols.specs.AliasLists.{AreAliases}
 use Rattle.info_symbols.specs.Aliases.{alias_names, alias_text}
 use Rattle.info_symbols.specs.MlsLines.{level_part, sensitivity_line}

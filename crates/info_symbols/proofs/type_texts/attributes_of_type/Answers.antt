@@ -1,5 +1,5 @@
 use Rattle.std.proofs.Common.{◌≡◌, ℕ, [], false, refl, sym, ◌∙◌}
-use Rattle.pol_read.specs.declared.parts.Parts.{Parts}
+use Rattle.pol_file.specs.declared.parts.Parts.{Parts}
 use Rattle.info_lines.specs.NameSets.{values_of_bits}
 use Rattle.info_symbols.specs.TypeStatements.{attributes_of_type, may_be_type}
 use Rattle.info_symbols.proofs.type_texts.attributes_of_type.Goals as goal

@@ -1,7 +1,7 @@
 use Rattle.std.proofs.Common.{◌≡◌, ◌⊎◌, ◌&&◌, [], inl, inr, refl, bit_and, arith}
 use Rattle.std.proofs.lemmas.Nat.{and_le_l}
 use Rattle.pol_bitmap.proofs.Merging.{Merging-push, Merging-skip, Merging-done, map_and, none_left, common_none}
-use Rattle.pol_bitmap.proofs.SetBits.{common_bits}
+use Rattle.pol_bitmap.proofs.BitSets.{common_bits}
 use Rattle.pol_bitmap.proofs.set_ops.common_of.Goals as goal
 use Rattle.pol_bitmap.proofs.set_ops.common_of.Goals.{then-map-ne0+in_ok-push, else-map-ne0, then-merge-test+else-not-is_empty, else-merge-test}
 

@@ -3,7 +3,7 @@ use Rattle.std.specs.Int.{bit_not, w64}
 use Rattle.std.proofs.lemmas.Nat.{and_le_l}
 use Rattle.pol_bitmap.specs.Nodes.{has_bit}
 use Rattle.pol_bitmap.proofs.Merging.{Merging-skip, Merging-found, contains_end, map_only_right, only_right, not_right, none_left}
-use Rattle.pol_bitmap.proofs.SetBits.{contains_bits_of}
+use Rattle.pol_bitmap.proofs.BitSets.{contains_bits_of}
 use Rattle.pol_bitmap.proofs.set_ops.contains_of.Goals as goal
 use Rattle.pol_bitmap.proofs.set_ops.contains_of.Goals.{then-merge-test+else-not-is_empty, else-merge-test}
 

@@ -1,7 +1,7 @@
 use Rattle.std.proofs.Common.{◌&&◌, [], inl, inr, true, refl, bit_and, arith}
 use Rattle.std.proofs.lemmas.Nat.{and_le_l}
 use Rattle.pol_bitmap.proofs.Merging.{Merging-skip, Merging-found, map_and, none_left}
-use Rattle.pol_bitmap.proofs.SetBits.{meets_bits, meets_end}
+use Rattle.pol_bitmap.proofs.BitSets.{meets_bits, meets_end}
 use Rattle.pol_bitmap.proofs.set_ops.meets_of.Goals as goal
 
 pub returns-then-cut-ne0 : goal.returns-then-cut-ne0

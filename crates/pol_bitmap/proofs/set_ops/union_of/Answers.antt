@@ -1,7 +1,7 @@
 use Rattle.std.proofs.Common.{◌≡◌, ◌⊎◌, ◌||◌, [], inl, inr, refl, bit_or, arith}
 use Rattle.std.proofs.lemmas.Nat.{or_lt}
 use Rattle.pol_bitmap.proofs.Merging.{Merging-push, map_or, union-end, none_left}
-use Rattle.pol_bitmap.proofs.SetBits.{union_bits}
+use Rattle.pol_bitmap.proofs.BitSets.{union_bits}
 use Rattle.pol_bitmap.proofs.set_ops.union_of.Goals as goal
 use Rattle.pol_bitmap.proofs.set_ops.union_of.Goals.{then-merge-test+else-not-is_empty, else-merge-test}
 

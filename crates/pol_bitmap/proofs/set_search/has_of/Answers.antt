@@ -11,7 +11,7 @@ pub returns-then-place-nodes : goal.returns-then-place-nodes
 returns-then-place-nodes c =
     let none : Node = record { start = 0; map = 0 } in
     let place = c.place_of-place.result in
-    has_at_place c.args.bit c.args.nodes.now place (get_or c.args.nodes.now place none) c.requires (slice_get-get_or c.args.nodes.now place none c.if-place-nodes.true) c.place_of-place.ensures.before c.place_of-place.ensures.after c.has_bit_of.result c.has_bit_of.ensures
+    has_at_place c.args.bit c.args.nodes.now place (get_or c.args.nodes.now place none) c.requires.0 (slice_get-get_or c.args.nodes.now place none c.if-place-nodes.true) c.place_of-place.ensures.before c.place_of-place.ensures.after c.has_bit_of.result c.has_bit_of.ensures
 
 pub returns-else-place-nodes : goal.returns-else-place-nodes
 returns-else-place-nodes c =

@@ -4,8 +4,8 @@ use Rattle.std.specs.Ordering.{nat_cmp, is_lt}
 use Rattle.std.specs.Cmp.Lexicographic.{slice_cmp}
 use Rattle.std.proofs.lemmas.List.Sorted.{IsPermutation-map}
 use Rattle.std.proofs.lemmas.Result.{IfOk-weaker}
-use Rattle.pol_constraints.specs.ConstraintMeaning.{set_text}
-use Rattle.pol_constraints.proofs.ConstraintTexts.{sorted_map}
+use Rattle.pol_texts.specs.SetTexts.{set_text}
+use Rattle.pol_texts.proofs.OrderedNames.{sorted_map}
 use Rattle.pol_constraints.proofs.constraint_text.set_text.Goals as goal
 
 pub returns : goal.returns

@@ -7,5 +7,5 @@ turns-init g c = turns-start _ _ _ _ c.in-Ok-with_capacity.ensures.items c.in-Ok
 
 pub turns-preserved : goal.turns-preserved
 turns-preserved g c =
-    let some : 0 < c.in-Ok-read.count = omega arith in
-    turns-more _ _ _ _ _ _ _ _ _ _ c.turns.invariant c.in-Ok-read.ensures.reads some c.in-Ok-extend_from_slice.ensures.items (omega arith)
+    let some : 0 < c.in-Ok-read_on.count = omega arith in
+    turns-more _ _ _ _ _ _ _ _ _ _ c.turns.invariant c.in-Ok-read_on.ensures.1 some c.in-Ok-read_on.ensures.2 (omega arith)

@@ -1,17 +1,17 @@
-use Rattle.std.proofs.Common.{true, false, sym, ◌∙◌, arith}
-use Rattle.pol_bitmap.proofs.NodePlaces.{has_none_more, has_one}
-use Rattle.pol_bitmap.proofs.BitLists.{tells_bit}
+use Rattle.std.proofs.Common.{sym, false}
 use Rattle.std.proofs.lemmas.List.{take_all}
+use Rattle.std.proofs.lemmas.Bool.{le-ltb}
+use Rattle.pol_bitmap.proofs.BitLists.{tells_bit}
+use Rattle.pol_bitmap.proofs.SetPlaces.{has_at_place, not_lower}
 use Rattle.pol_bitmap.proofs.view.BitmapView.has.Goals as goal
 
-pub returns-then-has_bit_of : goal.returns-then-has_bit_of
-returns-then-has_bit_of c =
-    tells_bit true c.args.self.now c.args.bit (sym (has_one c.args.bit c.args.self.now c.loop-i.i c.node-node.result c.node-node.ensures.is (sym c.has_bit_of.ensures ∙ c.if-has_bit_of.true)))
+pub returns-then-place-node_count : goal.returns-then-place-node_count
+returns-then-place-node_count c =
+    let h = c.place_of-place.ensures in
+    has_at_place c.args.bit c.args.self.now c.place_of-place.result c.node.result h.rising c.node.ensures.is h.before h.after c.has_bit_of.result c.has_bit_of.ensures
 
-pub loop-i-preserved : goal.loop-i-preserved
-loop-i-preserved c = has_none_more c.args.bit c.args.self.now c.loop-i.i c.node-node.result c.node-node.ensures.is c.loop-i.invariant (sym c.has_bit_of.ensures ∙ c.if-has_bit_of.false)
-
-pub returns : goal.returns
-returns c =
-    let all = take_all c.loop-i.i c.args.self.now (omega arith) in
-    tells_bit false c.args.self.now c.args.bit (sym (rw all at c.loop-i.invariant))
+pub returns-else-place-node_count : goal.returns-else-place-node_count
+returns-else-place-node_count c =
+    let place = c.place_of-place.result in
+    let all = take_all place c.args.self.now (rw c.node_count.ensures.all at c.if-place-node_count.false) in
+    rw (le-ltb place _ c.if-place-node_count.false) (tells_bit false c.args.self.now c.args.bit (sym (not_lower c.args.bit c.args.self.now (rw all at c.place_of-place.ensures.before))))

@@ -3,7 +3,7 @@ use Rattle.pol_cursor.specs.References.{Placed, dangling_of}
 use Rattle.pol_context.specs.declared.context_rec.ContextRec.{ContextRec}
 use Rattle.pol_context.specs.ContextRecord.{context_references}
 use Rattle.pol_contexts.specs.NamedRecord.{context_place, second_place}
-use Rattle.pol_context.proofs.Places.{dangling_some}
+use Rattle.pol_cursor.proofs.DanglingLists.{undeclared_first}
 use Rattle.pol_contexts.proofs.named_view.NamedView.dangling.Goals as goal
 
 pub returns-in-Some : goal.returns-in-Some
@@ -11,4 +11,4 @@ returns-in-Some g c =
     let entry = c.args.self.now in
     let named = g.N.Names.named c.args.names.now in
     let first = subst (λ (context : Placed ContextRec). dangling_of named (context_references context) ≡ Some c.in-Some.fault) c.context.ensures (sym c.in-Some.ensures) in
-    sym (dangling_some named (context_references (record { place = context_place entry; value = entry.value.context })) (context_references (record { place = second_place entry; value = entry.value.second_context })) c.in-Some.fault first)
+    sym (undeclared_first named (context_references (record { place = context_place entry; value = entry.value.context })) (context_references (record { place = second_place entry; value = entry.value.second_context })) c.in-Some.fault first)

@@ -1,15 +1,6 @@
-use Rattle.std.proofs.Common.{◌≡◌, ◌∙◌, Some, List, ℕ, length, map, slice_get, ap, arith}
-use Rattle.pol_read.specs.StoredRules.{StoredRule, rule_sections, range_trans_rule}
-use Rattle.pol_read.proofs.RuleSums.{found_by}
+use Rattle.pol_rules.specs.StoredRules.{stored}
+use Rattle.pol_rules.proofs.RulesDeclared.{rule_is_declared}
 use Rattle.pol_read.proofs.policy.Policy.rule.Goals as goal
 
-pub returns-in_default : goal.returns-in_default
-returns-in_default c =
-    let parts = c.self.inside.parts in
-    let sections = c.self.inside.index.sections in
-    let are = c.self.invariant.1.sections in
-    let last : c.find-section.result.0 ≡ 5 = omega (arith, ap (λ (ns : List ℕ). length ns) are, c.find-section.ensures.list) in
-    let there : slice_get (rule_sections parts) c.find-section.result.0 ≡ Some (map range_trans_rule parts.labels.range_trans) = ap (slice_get (rule_sections parts)) last in
-    rw (← c.self.view_is)
-    (found_by (λ (rules : List StoredRule). rules) (rule_sections parts) sections c.find-section.result.0 c.find-section.result.1 c.args.n (map range_trans_rule parts.labels.range_trans) are there c.find-section.ensures.item c.find-section.ensures.place
-    ∙ c.range_trans_rule.ensures)
+pub returns-clause-declared : goal.returns-clause-declared
+returns-clause-declared c = rw (← c.self.view_is) (rule_is_declared c.self.inside.bytes.now c.self.inside.parts c.args.n (stored c.rule_at.result) c.self.invariant.0 c.rule_at.ensures)

@@ -1,2 +1,0 @@
-pub mod PolicyMap
-pub mod AttributeLines

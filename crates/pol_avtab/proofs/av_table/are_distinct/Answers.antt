@@ -1,0 +1,7 @@
+use Rattle.std.proofs.Common.{rules, refl, nat_lt}
+use Rattle.std.proofs.lemmas.Fn.{always_returns_same}
+use Rattle.pol_avtab.proofs.KeyWords.{distinct_of_rising}
+use Rattle.pol_avtab.proofs.av_table.are_distinct.Goals as goal
+
+pub returns : goal.returns
+returns c = λ yes. rw c.in_ok-words.ensures at (distinct_of_rising c.in_ok-words.words.items c.sort_unstable.new.self.items c.sort_unstable.ensures.permutation (rw (yes, c.deref.ensures.value) at (c.is_sorted_by.ensures.cases nat_lt (always_returns_same _ _ _ (λ a r f' called. (search (rules, called), refl))))))

@@ -1,0 +1,4 @@
+pub mod ReadValues
+pub mod PolicyTypes
+pub mod Acceptances
+pub mod Sequences

@@ -1,0 +1,4 @@
+pub mod Rising
+pub mod Products
+pub mod Stepping
+pub mod Ruling

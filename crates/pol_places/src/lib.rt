@@ -1,0 +1,23 @@
+//! Rules over single types, one after the other, without a list of them.
+//!
+//! An entry names a rule and two sets of a pool ([`Entry`]). It stands for each source of the one set with each target of the
+//! other ([`Single`]). [`Places`] goes through all of these in order, from any of them on. It takes no memory for that.
+//!
+//! ```text
+//! let places = Places::new(&entries, &pool);
+//! let mut at = places.skip(1_000_000);
+//! while let Some((single, after)) = places.next(at) {
+//!     print(single);
+//!     at = after;
+//! }
+//! ```
+#![tactic(auto)]
+
+mod entry;
+mod found;
+mod place_laws;
+mod places;
+
+pub use entry::{Entry, Place, Single};
+pub use place_laws::{members_are_single_rules, steps_give_all_members};
+pub use places::Places;

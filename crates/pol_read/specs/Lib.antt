@@ -1,9 +1,0 @@
-pub mod TypeMapRows
-pub mod PolicyParts
-pub mod TypeValues
-pub mod PolicyReferences
-pub mod Acceptance
-pub mod RunningSums
-pub mod StoredRules
-pub mod RuleNumbers
-pub mod RuleOrder

@@ -1,0 +1,5 @@
+pub mod RunningSums
+pub mod StoredRules
+pub mod RuleNumbers
+pub mod RuleOrder
+pub mod DeclaredRules

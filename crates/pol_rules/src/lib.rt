@@ -1,0 +1,17 @@
+//! The stored rules of a policy by their numbers, and the order in which they are listed.
+#![tactic(auto)]
+
+mod declared_law;
+mod key_law;
+mod rule;
+mod rule_index;
+mod rule_order;
+mod rules;
+mod sums;
+
+pub use declared_law::declared_types_have_law;
+pub use key_law::rule_keys_have_law;
+pub use rule::{Condition, Rule, RuleKind, RulePart};
+pub use rule_index::{RuleIndex, index_rules};
+pub use rule_order::{RuleKey, rule_key};
+pub use rules::rule_at;

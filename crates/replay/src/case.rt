@@ -1,0 +1,72 @@
+// A case: a run of the tools, and the answer that it has to give.
+ghost use Rattle.std.specs.Prelude.{◌<◌};
+
+use crate::answer::Answer;
+use crate::edit::Edit;
+use se_words::Words;
+use std::alloc::{AllocError, Global};
+
+/// A file of the folder, with edits that are made one after the other.
+#[derive(Debug, Drop)]
+pub struct Source {
+    pub file: String,
+    pub edits: Vec<Edit>,
+}
+
+/// What files or a sink in memory are told.
+#[derive(Clone, Copy, Debug, PartialEq, Eq)]
+pub struct Orders {
+    /// The call that fails, counted from 1, or 0 where none does.
+    pub fail: u64,
+    /// The most bytes that one call moves.
+    pub most: usize,
+    /// The most bytes that a sink holds.
+    pub room: usize,
+    ghost takes: { 0 < most },
+}
+
+/// A run of the tools, and the answer that it has to give.
+#[derive(Drop)]
+pub struct Case {
+    /// The line of its words in the table, counted from 1.
+    pub line: usize,
+    pub words: Words,
+    /// The name of the policy among the files.
+    pub name: String,
+    /// The policy, where the files have one.
+    pub policy: Option<Source>,
+    /// The permission map, where the files have one. Its name is `map`.
+    pub map: Option<Source>,
+    pub files: Orders,
+    pub out: Orders,
+    pub err: Orders,
+    pub wanted: Answer,
+}
+
+impl Orders {
+    /// No call fails, and a sink holds a mebibyte.
+    pub fn new() -> Orders {
+        Orders {
+            fail: 0,
+            most: usize::MAX,
+            room: 1_048_576,
+        }
+    }
+}
+
+impl Case {
+    /// A run of no words over no files, which ends with 0 and gives nothing.
+    pub fn new(alloc: Global) -> Result<Case, AllocError> {
+        Ok(Case {
+            line: 0,
+            words: Words::new(alloc),
+            name: String::from_str(alloc, "pol")?,
+            policy: None,
+            map: None,
+            files: Orders::new(),
+            out: Orders::new(),
+            err: Orders::new(),
+            wanted: Answer::new(alloc),
+        })
+    }
+}

@@ -1,0 +1,93 @@
+//! Runs the cases of tables through the tools, over files and sinks in memory, and says which of them differ.
+//!
+//! The words of the command line name the tables. Each case that differs is printed, with what differs in it, and at last
+//! the number of those that do.
+#![tactic(auto)]
+
+mod answer;
+mod case;
+mod cause;
+mod edit;
+mod play;
+mod table;
+mod text;
+mod value;
+
+use answer::{Answer, differences};
+use anyhow::{Context, Result};
+use case::{Case, Source};
+use std::alloc::Global;
+use std::rt::{Env, Files};
+use std::{env, fs};
+
+/// How many cases there were, and how many of them differ.
+#[derive(Clone, Copy)]
+struct Counts {
+    cases: usize,
+    differing: usize,
+}
+
+impl Counts {
+    // With one case more.
+    fn and(self, differs: bool) -> Counts {
+        Counts {
+            cases: self.cases.saturating_add(1),
+            differing: self.differing.saturating_add(usize::from(differs)),
+        }
+    }
+}
+
+// The bytes of a file of the folder, with its edits.
+fn bytes_of(rt: &(impl Files + AllocGlobal), source: &Source) -> Result<Vec<u8>> {
+    let name = source.file.as_str();
+    let bytes = fs::read(rt, name).context(format_args!("reading {name}"))?;
+    edit::edited(bytes, &source.edits).context(format_args!("editing {name}"))
+}
+
+// The bytes of a file that may not be there.
+fn bytes_if(rt: &(impl Files + AllocGlobal), source: &Option<Source>) -> Result<Option<Vec<u8>>> {
+    match source {
+        Some(source) => Ok(Some(bytes_of(rt, source)?)),
+        None => Ok(None),
+    }
+}
+
+// What the run of a case gives.
+fn answer_of(rt: &(impl Files + AllocGlobal), case: &Case) -> Result<Answer> {
+    let policy = bytes_if(rt, &case.policy)?;
+    let map = bytes_if(rt, &case.map)?;
+    Ok(play::play(rt.alloc(), case, policy.as_deref(), map.as_deref())?)
+}
+
+// Runs a case, prints what differs, and answers whether anything does.
+fn differs(rt: &(impl Files + Print + AllocGlobal), table: &str, case: &Case) -> Result<bool> {
+    let got = answer_of(rt, case).context(format_args!("{table}, line {}", case.line))?;
+    let lines = differences(rt.alloc(), &case.wanted, &got)?;
+    for line in &lines {
+        println!(rt; "{table}, line {}: {line}", case.line)?;
+    }
+    Ok(!lines.is_empty())
+}
+
+// Runs the cases of a table.
+fn replay(rt: &(impl Files + Print + AllocGlobal), table: &str, counts: Counts) -> Result<Counts> {
+    let text = fs::read_to_string(rt, table).context(format_args!("reading {table}"))?;
+    let cases = table::cases_of(rt.alloc(), text.as_str()).context(format_args!("in {table}"))?;
+    let mut counts = counts;
+    for case in &cases {
+        counts = counts.and(differs(rt, table, case)?);
+    }
+    Ok(counts)
+}
+
+fn main(rt: HostRuntime) -> Result<()> {
+    let mut counts = Counts {
+        cases: 0,
+        differing: 0,
+    };
+    for table in env::args(&rt)?.skip(1) {
+        counts = replay(&rt, table.as_str(), counts)?;
+    }
+    println!(rt; "{} of {} cases differ", counts.differing, counts.cases)?;
+    Ok(())
+}

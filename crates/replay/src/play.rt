@@ -1,0 +1,50 @@
+// A case is played: its words through the tools, over files and sinks in memory.
+ghost use Rattle.se_outside.specs.Outside.{NoneAsked};
+ghost use Rattle.se_outside.specs.MemFiles.{mem_state};
+
+use crate::answer::Answer;
+use crate::case::{Case, Orders};
+use se_outside::{MemFiles, MemSink};
+use se_tools::run;
+use std::alloc::{AllocError, Global};
+
+/// What the run of a case gives, where its policy and its map hold these bytes.
+pub fn play(
+    alloc: Global,
+    case: &Case,
+    policy: Option<&[u8]>,
+    map: Option<&[u8]>,
+) -> Result<Answer, AllocError> {
+    let mut files = MemFiles::new(alloc);
+    add_if(&mut files, case.name.as_str(), policy)?;
+    add_if(&mut files, "map", map)?;
+    files.fail(case.files.fail)?;
+    files.most(case.files.most);
+    let mut out = sink_of(alloc, &case.out)?;
+    let mut err = sink_of(alloc, &case.err)?;
+    let status = run(alloc, &case.words, &mut files, &mut out, &mut err);
+    Ok(Answer {
+        code: status.code(),
+        out: Vec::from_slice(alloc, out.bytes())?,
+        err: Vec::from_slice(alloc, err.bytes())?,
+    })
+}
+
+// Adds a file that may not be there.
+fn add_if(files: &mut MemFiles, name: &str, bytes: Option<&[u8]>) -> Result<(), AllocError>
+    requires { NoneAsked (mem_state files.old) }
+    ensures { NoneAsked (mem_state files.new) }
+{
+    match bytes {
+        Some(bytes) => files.add(name, bytes),
+        None => Ok(()),
+    }
+}
+
+// A sink that is told these orders.
+fn sink_of(alloc: Global, orders: &Orders) -> Result<MemSink, AllocError> {
+    let mut sink = MemSink::new(alloc, orders.room)?;
+    sink.fail(orders.fail)?;
+    sink.most(orders.most);
+    Ok(sink)
+}

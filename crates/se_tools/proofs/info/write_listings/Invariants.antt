@@ -1,0 +1,10 @@
+use Rattle.std.proofs.Common.{take}
+use Rattle.se_tools.specs.InfoAnswer.{wanted_text}
+use Rattle.se_words.specs.Request.{wanted_view}
+use Rattle.se_tools.proofs.Wrotes.{Texts}
+use Rattle.se_tools.proofs.info.write_listings.Given as goal
+
+abbrev pub invariant-loop-wanted : goal.invariant-loop-wanted
+invariant-loop-wanted g l =
+    Texts (λ wanted. wanted_text l.policy l.expand l.flat (wanted_view wanted)) (take l.wanted-index l.listings) (g.S.Sink.written l.initial.out) (g.S.Sink.written l.out)
+    (g.S.Sink.faults l.initial.out) (g.S.Sink.faults l.out)

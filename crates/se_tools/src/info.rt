@@ -1,0 +1,106 @@
+// The answer of seinfo about a policy.
+ghost use Rattle.std.specs.Prelude.{◌≡◌, [], flat_map, map};
+ghost use Rattle.info_summary.specs.Summary.{summary_lines};
+ghost use Rattle.se_words.specs.Request.{info_view, wanted_view};
+ghost use Rattle.se_tools.specs.InfoAnswer.{info_answer, info_text, wanted_text};
+ghost use Rattle.se_tools.specs.Listing.{listing_text, line_text};
+ghost use Rattle.se_tools.specs.Meeting.{Concludes};
+ghost use Rattle.se_tools.specs.Writing.{Sends};
+
+use crate::Status;
+use crate::listing::write_listing;
+use crate::unknown::first_unknown;
+use crate::writing::WriteEnd;
+use info_query::lines_of;
+use info_summary::summary;
+use pol_read::Policy;
+use se_outside::Sink;
+use se_words::{InfoRequest, Wanted};
+use std::alloc::Global;
+
+/// Answers what seinfo is asked of a policy.
+#[tactic(auto, unfolding(crate::specs::InfoAnswer::info_answer))]
+pub fn answer_info<S: Sink>(
+    alloc: Global,
+    policy: &Policy<'_>,
+    asks: &InfoRequest<'_>,
+    out: &mut S,
+) -> Status
+    ensures { Concludes (info_answer (info_view asks.now) policy.now)
+        (S.written out.old) (S.written out.new) (S.faults out.old) (S.faults out.new) result }
+{
+    match first_unknown(policy, &asks.listings) {
+        Some(word) => Status::UnknownName(word),
+        None => match write_answer(alloc, policy, asks, out) {
+            Ok(()) => Status::Done,
+            Err(WriteEnd::Fault) => Status::WriteFault,
+            Err(WriteEnd::Memory) => Status::Memory,
+        },
+    }
+}
+
+// Writes the listings that are wanted of a policy, or its summary.
+fn write_answer<S: Sink>(
+    alloc: Global,
+    policy: &Policy<'_>,
+    asks: &InfoRequest<'_>,
+    out: &mut S,
+) -> Result<(), WriteEnd>
+    ensures { Sends (S.written out.old) (S.written out.new) (S.faults out.old) (S.faults out.new)
+        (info_text policy.now (info_view asks.now) (info_view asks.now).listings) result }
+{
+    if asks.listings.is_empty() {
+        write_summary(alloc, policy, out)
+    } else {
+        write_listings(alloc, policy, &asks.listings, asks.expand, asks.flat, out)
+    }
+}
+
+// Writes the summary of a policy.
+#[tactic(auto, using(crate::proofs::Wrotes::nothing_sent))]
+fn write_summary<S: Sink>(alloc: Global, policy: &Policy<'_>, out: &mut S) -> Result<(), WriteEnd>
+    ensures { Sends (S.written out.old) (S.written out.new) (S.faults out.old) (S.faults out.new)
+        (flat_map (line_text []) (summary_lines policy.now)) result }
+{
+    let Ok(mut lines) = summary(alloc, policy) else {
+        return Err(WriteEnd::Memory);
+    };
+    write_listing(alloc, b"", &mut lines, true, out)
+}
+
+// Writes listings of a policy.
+fn write_listings<S: Sink>(
+    alloc: Global,
+    policy: &Policy<'_>,
+    listings: &[Wanted],
+    expand: bool,
+    flat: bool,
+    out: &mut S,
+) -> Result<(), WriteEnd>
+    ensures { Sends (S.written out.old) (S.written out.new) (S.faults out.old) (S.faults out.new)
+        (flat_map (wanted_text policy.now expand flat) (map wanted_view listings.now)) result }
+{
+    for wanted in listings {
+        write_wanted(alloc, policy, wanted, expand, flat, out)?;
+    }
+    Ok(())
+}
+
+// Writes a listing of a policy.
+#[tactic(auto, using(crate::proofs::Wrotes::nothing_sent))]
+fn write_wanted<S: Sink>(
+    alloc: Global,
+    policy: &Policy<'_>,
+    wanted: &Wanted,
+    expand: bool,
+    flat: bool,
+    out: &mut S,
+) -> Result<(), WriteEnd>
+    ensures { Sends (S.written out.old) (S.written out.new) (S.faults out.old) (S.faults out.new)
+        (wanted_text policy.now expand flat (wanted_view wanted.now)) result }
+{
+    let Ok(mut lines) = lines_of(alloc, policy, expand, wanted.listing, wanted.text()) else {
+        return Err(WriteEnd::Memory);
+    };
+    write_listing(alloc, wanted.listing.title(), &mut lines, flat, out)
+}

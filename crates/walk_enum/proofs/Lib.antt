@@ -1,0 +1,10 @@
+pub mod Elements
+pub mod Ascending
+pub mod Along
+pub mod Rows
+pub mod Listing
+pub mod Turning
+pub mod Spreading
+pub mod Exploring
+pub mod Cuts
+pub mod Finding

@@ -1,0 +1,4 @@
+pub mod Walks
+pub mod Moving
+pub mod Exploring
+pub mod Cutting
