@@ -1,0 +1,7 @@
+pub mod MapFaults
+pub mod MapLines
+pub mod MapFields
+pub mod PermissionMap
+pub mod MapReading
+pub mod RowViews
+pub mod KeyedWeights

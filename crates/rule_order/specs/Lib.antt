@@ -1,0 +1,2 @@
+pub mod ListedOrder
+pub mod Keys

@@ -1,0 +1,9 @@
+//! Numbers of stored rules in the order in which the rules are listed.
+#![tactic(auto)]
+
+mod ends;
+mod keys;
+mod sorting;
+
+pub use ends::{table_of_source, table_of_target};
+pub use sorting::sort_by_rule_order;
