@@ -58,13 +58,19 @@ cutting-next rows start mode words number rest after word groups more head cutti
     let texts = map text_of after in
     let going : map group_view groups ++ cut rows mode 0 number (text_of word ∷ texts) ≡ cut rows start 0 2 words = rw is at cutting.going in
     let passed : cut rows head.mode head.further (number + 1) texts ≡ cut rows head.mode 0 (number + 1 + head.further) (drop head.further texts) =
-        cut-taken rows head.mode head.further (number + 1) texts (omega (arith, within, map_length text_of after)) in
+    cut-taken rows head.mode head.further (number + 1) texts (omega (arith, within, map_length text_of after)) in
     let e : number + 1 + head.further ≡ number + (1 + head.further) = omega arith in
     record {
       counted = omega (arith, cutting.counted, within, length-drop head.further after, ap length is);
-      going = rw (added, views-more head.group groups, map_drop text_of head.further after, ← e, ← passed,
+      going = rw (
+        added,
+        views-more head.group groups,
+        map_drop text_of head.further after,
+        ← e,
+        ← passed,
         append_assoc (map group_view groups) (option_to_list (option_map group_view head.group)) (cut rows head.mode head.further (number + 1) texts),
-        ← cut-first rows mode number (text_of word) texts (head_view head) (sym first)) going;
+        ← cut-first rows mode number (text_of word) texts (head_view head) (sym first),
+      ) going;
     }
 
 pub cutting-end : (rows : List Row) (start mode : WordMode) (words : List (Option (List ℕ))) (number : ℕ) (rest : List Word) (groups : List GroupCode)

@@ -47,5 +47,12 @@ pub positionals-more : (groups : List GroupCode) (i : ℕ) (d : GroupCode) (foun
     → option_map named_view found ≡ positional_in (group_view (get_or groups i d)) → more ≡ names ++ option_to_list found → map named_view names ≡ positionals (map group_view (take i groups))
     → map named_view more ≡ positionals (map group_view (take (i + 1) groups))
 positionals-more groups i d found names more lt here added so_far =
-    rw (added, views-more names found, so_far, one (group_view (get_or groups i d)) (option_map named_view found) here, take_more groups i d lt, map-append group_view (take i groups) (get_or groups i d ∷ []),
-      filter_map-append positional_in (map group_view (take i groups)) (group_view (get_or groups i d) ∷ [])) refl
+    rw (
+      added,
+      views-more names found,
+      so_far,
+      one (group_view (get_or groups i d)) (option_map named_view found) here,
+      take_more groups i d lt,
+      map-append group_view (take i groups) (get_or groups i d ∷ []),
+      filter_map-append positional_in (map group_view (take i groups)) (group_view (get_or groups i d) ∷ []),
+    ) refl

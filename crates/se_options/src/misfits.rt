@@ -27,7 +27,10 @@ fn misfit_in(groups: &[Group<'_>], group: &Group<'_>) -> Option<u64>
     match group {
         Group::Positional(_) => None,
         Group::Given { value: None, .. } => None,
-        Group::Given { row, value: Some(value) } => value_misfit(groups, row.takes, *value),
+        Group::Given {
+            row,
+            value: Some(value),
+        } => value_misfit(groups, row.takes, *value),
         Group::Misfit(number) => Some(*number),
     }
 }

@@ -53,5 +53,7 @@ fn are_digits(bytes: &[u8]) -> bool
 pub fn is_comma_list(text: &str) -> bool
     ensures { result ≡ is_comma_list text.now }
 {
-    text.as_bytes().split(|byte| *byte == b',').all(|element| !element.is_empty())
+    text.as_bytes()
+        .split(|byte| *byte == b',')
+        .all(|element| !element.is_empty())
 }

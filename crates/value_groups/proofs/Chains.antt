@@ -36,10 +36,10 @@ chain_start values most heads nexts h n = rw (h, n) (record {
 first_here : (values : List ℕ) (place : ℕ) → place < length values → IsFirstPlace values (slice_index values place) place (place + 1)
 first_here values place lt =
     let here : place_in (length values) (place + 1) ≡ place + 1 - 1 = cond-false (place + 1 == 0) (length values) (place + 1 - 1) (ne_eqb (place + 1) 0 (λ e. omega (arith, e))) in record {
-  within = omega (arith, lt);
-  there = λ some. (omega arith, let e : place + 1 - 1 ≡ place = omega arith in rw e refl);
-  before = λ other le below is. omega (arith, le, below, here);
-}
+      within = omega (arith, lt);
+      there = λ some. (omega arith, let e : place + 1 - 1 ≡ place = omega arith in rw e refl);
+      before = λ other le below is. omega (arith, le, below, here);
+    }
 
 -- and where it does not
 first_later : (values : List ℕ) (value place number : ℕ) → (slice_index values place ≡ value → ⊥) → IsFirstPlace values value (place + 1) number → IsFirstPlace values value place number
@@ -62,15 +62,15 @@ chain_next values most place heads nexts within lt chain =
       nexts_long = length-set nexts place (slice_index heads v) ∙ chain.nexts_long;
       heads_first = λ value le. elim (cases_eq value v) [
         | inl e ↦ subst (λ (w : ℕ). IsFirstPlace values w place (slice_index (slice_set heads v (place + 1)) w)) (sym e)
-        (subst (λ (n : ℕ). IsFirstPlace values v place n) (sym (get_or-set_same heads v (place + 1) 0 (omega (arith, small, chain.heads_long)))) (first_here values place lt))
+            (subst (λ (n : ℕ). IsFirstPlace values v place n) (sym (get_or-set_same heads v (place + 1) 0 (omega (arith, small, chain.heads_long)))) (first_here values place lt))
         | inr n ↦ subst (λ (number : ℕ). IsFirstPlace values value place number) (sym (get_or-set_other heads v value (place + 1) 0 n))
-        (first_later values value place _ (λ e. n (sym e)) (chain.heads_first value le))
+            (first_later values value place _ (λ e. n (sym e)) (chain.heads_first value le))
       ];
       nexts_first = λ other le below. elim (cases_eq other place) [
         | inl e ↦ subst (λ (p : ℕ). IsFirstPlace values (slice_index values p) (p + 1) (slice_index (slice_set nexts place (slice_index heads v)) p)) (sym e)
-        (subst (λ (n : ℕ). IsFirstPlace values v (place + 1) n) (sym (get_or-set_same nexts place (slice_index heads v) 0 (omega (arith, lt, chain.nexts_long)))) (chain.heads_first v small))
+            (subst (λ (n : ℕ). IsFirstPlace values v (place + 1) n) (sym (get_or-set_same nexts place (slice_index heads v) 0 (omega (arith, lt, chain.nexts_long)))) (chain.heads_first v small))
         | inr n ↦ subst (λ (number : ℕ). IsFirstPlace values (slice_index values other) (other + 1) number) (sym (get_or-set_other nexts place other (slice_index heads v) 0 n))
-        (chain.nexts_first other (omega (arith, le, n)) below)
+            (chain.nexts_first other (omega (arith, le, n)) below)
       ];
     }
 

@@ -58,9 +58,9 @@ marks_more marks values value are lt unmarked = record {
   few = omega (arith, are.few, length-set marks value true);
   each = λ other. elim (cases_eq other value) [
     | inl e ↦ subst (λ (v : ℕ). slice_index_or (slice_set marks value true) v false ≡ is_among (values ++ value ∷ []) v) (sym e)
-    (get_or-set_same marks value true false lt ∙ sym (among_push values value value ∙ ap (λ (b : Bool). is_among values value || b) (eq-eqb value value refl) ∙ or_true (is_among values value)))
+        (get_or-set_same marks value true false lt ∙ sym (among_push values value value ∙ ap (λ (b : Bool). is_among values value || b) (eq-eqb value value refl) ∙ or_true (is_among values value)))
     | inr n ↦ get_or-set_other marks value other true false n ∙ are.each other
-    ∙ sym (among_push values value other ∙ ap (λ (b : Bool). is_among values other || b) (ne_eqb value other (λ e. n (sym e))) ∙ or_false (is_among values other))
+        ∙ sym (among_push values value other ∙ ap (λ (b : Bool). is_among values other || b) (ne_eqb value other (λ e. n (sym e))) ∙ or_false (is_among values other))
   ];
   apart = apart_push values value are.apart (sym (are.each value) ∙ unmarked);
 }
