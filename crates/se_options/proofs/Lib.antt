@@ -1,4 +1,0 @@
-pub mod Cuts
-pub mod Lasts
-pub mod Numbers
-pub mod Texts
