@@ -3,7 +3,9 @@
 
 mod ends;
 mod keys;
+mod laws;
 mod sorting;
 
 pub use ends::{table_of_source, table_of_target};
+pub use laws::rules_have_one_order;
 pub use sorting::sort_by_rule_order;

@@ -17,7 +17,8 @@ pub fn sort_by_rule_order(
     numbers: &[u32],
 ) -> Result<Vec<u32>, AllocError>
     requires { AreRules policy.now numbers.now }
-    ensures { IfOk result (λ sorted. sorted.items ≡ in_rule_order policy.now numbers.now) }
+    ensures sorted { IfOk result (λ sorted. sorted.items ≡ in_rule_order policy.now numbers.now) }
+    ensures rules { IfOk result (λ sorted. AreRules policy.now sorted.items) }
 {
     // what the rules of an accepted policy name is declared
     let _ = policy.bytes();

@@ -1,3 +1,4 @@
 pub mod Found
 pub mod SlotLemmas
 pub mod Slots
+pub mod Refusals

@@ -5,3 +5,6 @@ pub mod MemFiles
 pub mod MemSink
 pub mod Real
 pub mod Sure
+pub mod Patterns
+pub mod RegexPatterns
+pub mod MemPatterns

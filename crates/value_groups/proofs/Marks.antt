@@ -1,8 +1,9 @@
 -- Marks tell which values were added.
-use Rattle.std.proofs.Common.{◌≡◌, ℕ, ◌<◌, ◌≤◌, Bool, true, false, List, [], ◌∷◌, ◌++◌, length, replicate, refl, sym, ap, subst, ◌∙◌, inl, inr, arith}
+use Rattle.std.proofs.Common.{◌≡◌, ℕ, zero, suc, ◌<◌, ◌≤◌, Bool, true, false, List, [], ◌∷◌, ◌++◌, length, get_or, replicate, refl, sym, ap, subst, ◌∙◌, inl, inr, arith}
 use Rattle.std.specs.Prelude.{◌||◌, ◌==◌, slice_index_or, slice_set}
-use Rattle.std.specs.List.{list_any}
-use Rattle.std.proofs.lemmas.Bool.{cases_eq, cases_lt, cases_Bool, cond-true, cond-false, eq-eqb, ne_eqb, eqb-false, or_parts, or_from, or_left}
+use Rattle.std.specs.List.{All, list_any}
+use Rattle.std.proofs.lemmas.List.Elements.{All-from_get_or}
+use Rattle.std.proofs.lemmas.Bool.{cases_eq, cases_lt, cases_Bool, cond-true, cond-false, eq-eqb, ne_eqb, eqb-false, or_parts, or_from, or_left, or_right, false≢true}
 use Rattle.std.proofs.lemmas.List.{length-set, get_or-set_same, get_or-set_other, get_or-replicate, get_or_past, length-replicate}
 use Rattle.std.proofs.lemmas.List.Folds.{list_any-append}
 use Rattle.value_groups.specs.Marking.{is_among, with_value, AreApart, AreMarked}
@@ -64,3 +65,18 @@ marks_more marks values value are lt unmarked = record {
   ];
   apart = apart_push values value are.apart (sym (are.each value) ∙ unmarked);
 }
+
+list_any_at : (p : ℕ → Bool) (xs : List ℕ) (k d : ℕ) → k < length xs → p (get_or xs k d) ≡ true → list_any p xs ≡ true
+list_any_at p [] k d lt e = absurd (omega (arith, lt))
+list_any_at p (x ∷ xs) zero d lt e = or_left (p x) (list_any p xs) e
+list_any_at p (x ∷ xs) (suc k) d lt e = or_right (p x) (list_any p xs) (list_any_at p xs k d (omega (arith, lt)) e)
+
+-- marked values are below the number of marks
+pub marked_within : (marks : List Bool) (values : List ℕ) → AreMarked marks values → All (λ value. value < length marks) values
+marked_within marks values are = All-from_get_or (λ value. value < length marks) values 0 λ k lt.
+    let value = get_or values k 0 in
+    let there : is_among values value ≡ true = list_any_at (λ x. x == value) values k 0 lt (eq-eqb value value refl) in
+    elim (cases_lt value (length marks)) [
+      | inl below ↦ below
+      | inr past ↦ absurd (false≢true (sym (get_or_past marks value false past) ∙ are.each value ∙ there))
+    ]

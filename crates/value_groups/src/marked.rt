@@ -1,5 +1,5 @@
 ghost use Rattle.std.specs.Prelude.{◌≡◌, ◌<◌, ◌≤◌, ◌-◌, ◌^◌, false, [], replicate, IfOk, OnOk, OnErr};
-ghost use Rattle.std.specs.List.{filter, range_with_len};
+ghost use Rattle.std.specs.List.{All, filter, range_with_len};
 ghost use Rattle.pol_bitmap.specs.Nodes.{bits_of};
 ghost use Rattle.value_groups.specs.Marking.{is_among, with_value, AreApart};
 
@@ -65,6 +65,7 @@ impl Marked {
     pub fn values(&self) -> &[u32]
         ensures values { result.now ≡ self.now.values }
         ensures apart { AreApart self.now.values }
+        ensures within { All (λ value. value < self.now.count) self.now.values }
     {
         &self.values
     }

@@ -1,0 +1,4 @@
+pub mod Tests
+pub mod Records
+pub mod LookedUp
+pub mod Patterns

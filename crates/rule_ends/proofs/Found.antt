@@ -1,0 +1,333 @@
+-- What is found by places is what the rules say.
+use Rattle.std.proofs.Common.{◌≡◌, ℕ, suc, ◌+◌, ◌-◌, ◌<◌, ◌≤◌, Bool, true, false, cond, List, [], ◌∷◌, ◌++◌, Option, Some, None, length, map, get_or, slice_get, refl, sym, ap, subst, ◌∙◌, inl, inr, append-nil, arith}
+use Rattle.std.specs.Prelude.{◌==◌, ◌&&◌, ◌||◌, not, slice_index}
+use Rattle.std.specs.List.{All, Contains, filter, flat_map, list_any, range_with_len}
+use Rattle.std.specs.List.Sorted.{IsPermutation}
+use Rattle.std.proofs.lemmas.Bool.{false≢true, cases_lt, eq-eqb, eqb-true, and_parts, and_from}
+use Rattle.std.proofs.lemmas.List.{get_or_default, get_or_past, map-append}
+use Rattle.std.proofs.lemmas.List.Elements.{All-nil, All-head, All-tail, All-same, All-filter, All-get_or, All-weaker, All-from_get_or, All-contains, Contains-get_or}
+use Rattle.std.proofs.lemmas.List.Sorted.{All-permutation, IsPermutation-refl, IsPermutation-sym, IsPermutation-trans, IsPermutation-map, IsPermutation-append, IsPermutation-filter_both}
+use Rattle.std.proofs.lemmas.List.FromFn.{fill_by_all}
+use Rattle.pol_bitmap.proofs.Elements.{range_holds, kept, keeps, contains_range}
+use Rattle.pol_file.specs.declared.Parts.{Parts}
+use Rattle.pol_rules.specs.StoredRules.{StoredRule, stored_rules}
+use Rattle.pol_expand.proofs.Values.{same_tests}
+use Rattle.rule_order.specs.ListedOrder.{AreRules, in_rule_order}
+use Rattle.value_groups.specs.Marking.{is_among, AreApart}
+use Rattle.value_groups.specs.Grouping.{is_value_at, places_of, group_of, AreGroupsOf}
+use Rattle.rule_ends.specs.ChosenRules.{passes, rule_passes, holds_type, joins, is_rule_from_to, any_joins, rules_between, targets_from, sources_to}
+use Rattle.rule_ends.specs.EndTables.{IsEnd, AreEndsOf, IsTableOf, has_ends, places_to, rules_at, rules_found, any_found, is_other_end}
+use Rattle.rule_ends.proofs.Anys.{any_gives, any_from, among_contains, contains_among, any_agree, filter_agree}
+use Rattle.rule_ends.proofs.Ends.{passes_within}
+
+-- ---- a rule by its place
+
+-- its ends are those of its place
+joins_at : (policy : Parts) (rules sources targets : List ℕ) (source target place : ℕ) → AreEndsOf policy rules sources targets → place < length rules
+    → joins policy source target (slice_index rules place) ≡ (holds_type policy (slice_index sources place) source && holds_type policy (slice_index targets place) target)
+unfolding joins
+joins_at policy rules sources targets source target place are lt = go (slice_get (stored_rules policy) (slice_index rules place)) (are.each place lt)
+  where
+    go : (o : Option StoredRule) → passes (has_ends (slice_index sources place) (slice_index targets place)) o ≡ true
+        → passes (is_rule_from_to policy source target) o ≡ (holds_type policy (slice_index sources place) source && holds_type policy (slice_index targets place) target)
+    go None e = absurd (false≢true e)
+    go (Some rule) e =
+        let both = and_parts (rule.source == slice_index sources place) (rule.target == slice_index targets place) e in
+        let s = eqb-true rule.source (slice_index sources place) both.0 in
+        let t = eqb-true rule.target (slice_index targets place) both.1 in
+        ap (λ (x : ℕ). holds_type policy x source && holds_type policy rule.target target) s ∙ ap (λ (x : ℕ). holds_type policy (slice_index sources place) source && holds_type policy x target) t
+
+-- the rules are those of all places
+by_places : (rules : List ℕ) → rules ≡ map (slice_index rules) (range_with_len 0 (length rules))
+by_places rules = fill_by_all (slice_index rules) rules (length rules) 0 refl (λ k lt. refl)
+
+filter_map_is : (f : ℕ → ℕ) (p : ℕ → Bool) (xs : List ℕ) → filter p (map f xs) ≡ map f (filter (λ x. p (f x)) xs)
+filter_map_is f p [] = refl
+filter_map_is f p (x ∷ xs) = go (p (f x)) (filter_map_is f p xs)
+  where
+    go : (b : Bool) → filter p (map f xs) ≡ map f (filter (λ y. p (f y)) xs) → cond b (f x ∷ filter p (map f xs)) (filter p (map f xs)) ≡ map f (cond b (x ∷ filter (λ y. p (f y)) xs) (filter (λ y. p (f y)) xs))
+    go true later = ap (λ (ys : List ℕ). f x ∷ ys) later
+    go false later = later
+
+any_map_is : (f : ℕ → ℕ) (p : ℕ → Bool) (xs : List ℕ) → list_any p (map f xs) ≡ list_any (λ x. p (f x)) xs
+any_map_is f p [] = refl
+any_map_is f p (x ∷ xs) = ap (λ (b : Bool). p (f x) || b) (any_map_is f p xs)
+
+-- ---- groups of some values
+
+abbrev either : (ℕ → Bool) → (ℕ → Bool) → List ℕ → List ℕ
+either p q xs = filter (λ x. p x || q x) xs
+
+either_first : (p q : ℕ → Bool) (xs : List ℕ) → filter p (either p q xs) ≡ filter p xs
+either_first p q [] = refl
+either_first p q (x ∷ xs) = go (p x) refl (q x) (either_first p q xs)
+  where
+    go : (a : Bool) → p x ≡ a → (b : Bool) → filter p (either p q xs) ≡ filter p xs → filter p (cond (a || b) (x ∷ either p q xs) (either p q xs)) ≡ cond a (x ∷ filter p xs) (filter p xs)
+    go true e b later = ap (λ (c : Bool). cond c (x ∷ filter p (either p q xs)) (filter p (either p q xs))) e ∙ ap (λ (ys : List ℕ). x ∷ ys) later
+    go false e true later = ap (λ (c : Bool). cond c (x ∷ filter p (either p q xs)) (filter p (either p q xs))) e ∙ later
+    go false e false later = later
+
+either_second : (p q : ℕ → Bool) (xs : List ℕ) → ((x : ℕ) → p x ≡ true → q x ≡ true → ⊥) → filter (λ x. not (p x)) (either p q xs) ≡ filter q xs
+either_second p q [] apart = refl
+either_second p q (x ∷ xs) apart = go (p x) refl (q x) refl (either_second p q xs apart)
+  where
+    go : (a : Bool) → p x ≡ a → (b : Bool) → q x ≡ b → filter (λ y. not (p y)) (either p q xs) ≡ filter q xs → filter (λ y. not (p y)) (cond (a || b) (x ∷ either p q xs) (either p q xs)) ≡ cond b (x ∷ filter q xs) (filter q xs)
+    go true e true f later = absurd (apart x e f)
+    go true e false f later = ap (λ (c : Bool). cond (not c) (x ∷ filter (λ y. not (p y)) (either p q xs)) (filter (λ y. not (p y)) (either p q xs))) e ∙ later
+    go false e true f later = ap (λ (c : Bool). cond (not c) (x ∷ filter (λ y. not (p y)) (either p q xs)) (filter (λ y. not (p y)) (either p q xs))) e ∙ ap (λ (ys : List ℕ). x ∷ ys) later
+    go false e false f later = later
+
+-- what passes two tests that exclude each other
+filter_either : (p q : ℕ → Bool) (xs : List ℕ) → ((x : ℕ) → p x ≡ true → q x ≡ true → ⊥) → IsPermutation (either p q xs) (filter p xs ++ filter q xs)
+filter_either p q xs apart =
+    let same : filter p (either p q xs) ++ filter (λ x. not (p x)) (either p q xs) ≡ filter p xs ++ filter q xs =
+    ap (λ (ys : List ℕ). ys ++ filter (λ x. not (p x)) (either p q xs)) (either_first p q xs) ∙ ap (λ (ys : List ℕ). filter p xs ++ ys) (either_second p q xs apart) in
+    subst (λ (ys : List ℕ). IsPermutation (either p q xs) ys) same (IsPermutation-filter_both p (λ x. not (p x)) (λ x. refl) (either p q xs))
+
+filter_twice : (p q : ℕ → Bool) (xs : List ℕ) → filter q (filter p xs) ≡ filter (λ x. p x && q x) xs
+filter_twice p q [] = refl
+filter_twice p q (x ∷ xs) = go (p x) (filter_twice p q xs)
+  where
+    go : (a : Bool) → filter q (filter p xs) ≡ filter (λ y. p y && q y) xs → filter q (cond a (x ∷ filter p xs) (filter p xs)) ≡ cond (a && q x) (x ∷ filter (λ y. p y && q y) xs) (filter (λ y. p y && q y) xs)
+    go true later = ap (λ (ys : List ℕ). cond (q x) (x ∷ ys) ys) later
+    go false later = later
+
+filter_never : (xs : List ℕ) → filter (λ x. false) xs ≡ []
+filter_never [] = refl
+filter_never (x ∷ xs) = filter_never xs
+
+eqb_sym : (a b : ℕ) → (a == b) ≡ (b == a)
+eqb_sym a b = same_tests (a == b) (b == a) (λ e. eq-eqb b a (sym (eqb-true a b e))) (λ e. eq-eqb a b (sym (eqb-true b a e)))
+
+and_over : (a b q : Bool) → ((a && q) || (b && q)) ≡ ((a || b) && q)
+and_over true b true = refl
+and_over true true false = refl
+and_over true false false = refl
+and_over false true q = refl
+and_over false false q = refl
+
+clash_at : (keys : List ℕ) (q : ℕ → Bool) (e : ℕ) (es : List ℕ) (x : ℕ) → is_among es e ≡ false → (is_value_at keys e x && q x) ≡ true → (is_among es (slice_index keys x) && q x) ≡ true → ⊥
+clash_at keys q e es x new t u =
+    let is = eqb-true (slice_index keys x) e (and_parts (is_value_at keys e x) (q x) t).0 in
+    let among = (and_parts (is_among es (slice_index keys x)) (q x) u).0 in
+    false≢true (sym new ∙ ap (is_among es) (sym is) ∙ among)
+
+-- the places of the values among some, group by group and all at once
+grouped : (keys : List ℕ) (q : ℕ → Bool) (ends : List ℕ) → AreApart ends
+    → IsPermutation (flat_map (λ end. filter q (places_of keys end)) ends) (filter (λ place. is_among ends (slice_index keys place) && q place) (range_with_len 0 (length keys)))
+unfolding places_of
+grouped keys q [] apart = subst (λ (ys : List ℕ). IsPermutation [] ys) (sym (filter_never (range_with_len 0 (length keys)))) (IsPermutation-refl [])
+grouped keys q (e ∷ es) apart =
+    let range = range_with_len 0 (length keys) in
+    let clash = λ (x : ℕ) (t : (is_value_at keys e x && q x) ≡ true) (u : (is_among es (slice_index keys x) && q x) ≡ true). clash_at keys q e es x apart.0 t u in
+    let own = λ (place : ℕ). is_value_at keys e place && q place in
+    let rest = λ (place : ℕ). is_among es (slice_index keys place) && q place in
+    let first : filter q (filter (is_value_at keys e) range) ≡ filter own range = filter_twice (is_value_at keys e) q range in
+    let both = IsPermutation-append (filter q (filter (is_value_at keys e) range)) (filter own range) (flat_map (λ end. filter q (places_of keys end)) es) (filter rest range)
+    (subst (λ (ys : List ℕ). IsPermutation (filter q (filter (is_value_at keys e) range)) ys) first (IsPermutation-refl (filter q (filter (is_value_at keys e) range)))) (grouped keys q es apart.1) in
+    let either = filter_either own rest range (λ x t u. clash x t u) in
+    let same : filter (λ x. own x || rest x) range ≡ filter (λ place. is_among (e ∷ es) (slice_index keys place) && q place) range =
+    filter_agree (λ x. own x || rest x) (λ place. is_among (e ∷ es) (slice_index keys place) && q place) range
+    (λ k d lt. let x = get_or range k d in and_over (is_value_at keys e x) (is_among es (slice_index keys x)) (q x) ∙ ap (λ (b : Bool). (b || is_among es (slice_index keys x)) && q x) (eqb_sym (slice_index keys x) e)) in
+    subst (λ (ys : List ℕ). IsPermutation (flat_map (λ end. filter q (places_of keys end)) (e ∷ es)) ys) same
+    (IsPermutation-trans (flat_map (λ end. filter q (places_of keys end)) (e ∷ es)) (filter own range ++ filter rest range) (filter (λ x. own x || rest x) range) both
+    (IsPermutation-sym (filter (λ x. own x || rest x) range) (filter own range ++ filter rest range) either))
+
+-- ---- by one end of the rules
+
+-- Of some rules, the values of one end, grouped, and those of the other end: a test of a rule says that both ends expand to a type.
+pub record AreJoined (policy : Parts) (rules keys others : List ℕ) (groups : List (List ℕ)) (joined : ℕ → Bool) (x y : ℕ) : Type 0 where
+  pub keys_long : length keys ≡ length rules
+  pub others_long : length others ≡ length rules
+  pub keys_are : All (IsEnd policy) keys
+  pub others_are : All (IsEnd policy) others
+  pub groups_are : AreGroupsOf policy.symbols.types.nprim keys groups
+  pub law : (place : ℕ) → place < length rules → joined (slice_index rules place) ≡ (holds_type policy (slice_index keys place) x && holds_type policy (slice_index others place) y)
+
+pub by_sources : (policy : Parts) (rules sources targets : List ℕ) (by_source by_target : List (List ℕ)) (source target : ℕ) → IsTableOf policy rules sources targets by_source by_target
+    → AreJoined policy rules sources targets by_source (joins policy source target) source target
+by_sources policy rules sources targets by_source by_target source target table = record {
+  keys_long = table.ends.sources_long;
+  others_long = table.ends.targets_long;
+  keys_are = table.ends.sources_are;
+  others_are = table.ends.targets_are;
+  groups_are = table.sources_grouped;
+  law = λ place lt. joins_at policy rules sources targets source target place table.ends lt;
+}
+
+and_comm : (a b : Bool) → (a && b) ≡ (b && a)
+and_comm true true = refl
+and_comm true false = refl
+and_comm false true = refl
+and_comm false false = refl
+
+pub by_targets : (policy : Parts) (rules sources targets : List ℕ) (by_source by_target : List (List ℕ)) (source target : ℕ) → IsTableOf policy rules sources targets by_source by_target
+    → AreJoined policy rules targets sources by_target (joins policy source target) target source
+by_targets policy rules sources targets by_source by_target source target table = record {
+  keys_long = table.ends.targets_long;
+  others_long = table.ends.sources_long;
+  keys_are = table.ends.targets_are;
+  others_are = table.ends.sources_are;
+  groups_are = table.targets_grouped;
+  law = λ place lt. joins_at policy rules sources targets source target place table.ends lt ∙ and_comm (holds_type policy (slice_index sources place) source) (holds_type policy (slice_index targets place) target);
+}
+
+-- Some ends are those that expand to a type.
+pub record AreHolders (policy : Parts) (x : ℕ) (ends : List ℕ) : Type 0 where
+  pub each : (value : ℕ) → IsEnd policy value → is_among ends value ≡ holds_type policy value x
+  pub within : All (λ value. value ≤ policy.symbols.types.nprim) ends
+
+module _ (policy : Parts) (rules keys others : List ℕ) (groups : List (List ℕ)) (joined : ℕ → Bool) (x y : ℕ) (are : AreJoined policy rules keys others groups joined x y) (from : List ℕ) (holders : AreHolders policy x from) where
+  places_in : (end place : ℕ) → end ≤ policy.symbols.types.nprim → Contains (group_of groups end) place → (place < length rules) × (slice_index keys place ≡ end)
+  unfolding places_of
+  places_in end place le there =
+      let h = kept (is_value_at keys end) (range_with_len 0 (length keys)) place (subst (λ (ps : List ℕ). Contains ps place) (are.groups_are.each end le) there) in
+      let w = All-contains (λ b. (0 ≤ b) × (b < 0 + length keys)) (range_with_len 0 (length keys)) place (range_holds 0 (length keys)) h.0 in
+      (omega (arith, w.1, are.keys_long), eqb-true (slice_index keys place) end h.1)
+
+  -- a place of a group is that of a rule, whose one end expands to the type
+  rule_at : (end place : ℕ) → Contains from end → Contains (group_of groups end) place → holds_type policy (slice_index others place) y ≡ true → list_any joined rules ≡ true
+  rule_at end place there in_group holds =
+      let p = places_in end place (All-contains (λ value. value ≤ policy.symbols.types.nprim) from end holders.within there) in_group in
+      let is = All-get_or (IsEnd policy) keys place 0 (omega (arith, p.0, are.keys_long)) are.keys_are in
+      let one : holds_type policy (slice_index keys place) x ≡ true = sym (holders.each (slice_index keys place) is) ∙ contains_among from (slice_index keys place) (subst (λ (e : ℕ). Contains from e) (sym p.1) there) in
+      any_from joined rules (slice_index rules place) (Contains-get_or rules place 0 p.0) (are.law place p.0 ∙ and_from (holds_type policy (slice_index keys place) x) (holds_type policy (slice_index others place) y) one holds)
+
+  -- a rule has such a place
+  place_of_rule : list_any joined rules ≡ true → (place : ℕ) × (place < length rules) × Contains from (slice_index keys place) × Contains (group_of groups (slice_index keys place)) place × (holds_type policy (slice_index others place) y ≡ true)
+  unfolding places_of
+  place_of_rule e =
+      let f = any_gives joined rules e in
+      let place = f.1.0 in
+      let lt = f.1.1 in
+      let both = and_parts (holds_type policy (slice_index keys place) x) (holds_type policy (slice_index others place) y) (sym (are.law place lt) ∙ ap joined (get_or_default rules place 0 f.0 lt ∙ f.1.2) ∙ f.2) in
+      let key_lt : place < length keys = omega (arith, lt, are.keys_long) in
+      let is = All-get_or (IsEnd policy) keys place 0 key_lt are.keys_are in
+      let among = among_contains from (slice_index keys place) (holders.each (slice_index keys place) is ∙ both.0) in
+      let group = keeps (is_value_at keys (slice_index keys place)) (range_with_len 0 (length keys)) place (contains_range 0 (length keys) place (omega arith) (omega (arith, key_lt))) (eq-eqb (slice_index keys place) (slice_index keys place) refl) in
+      (place, lt, among, subst (λ (ps : List ℕ). Contains ps place) (sym (are.groups_are.each (slice_index keys place) is.within.1)) group, both.1)
+
+  -- whether there is a rule
+  pub any_is : (to : List ℕ) → AreHolders policy y to → any_found others (group_of groups) from to ≡ list_any joined rules
+  any_is to ends = same_tests (any_found others (group_of groups) from to) (list_any joined rules)
+      (λ e.
+      let f = any_gives (λ end. list_any (λ place. is_among to (slice_index others place)) (group_of groups end)) from e in
+      let g = any_gives (λ place. is_among to (slice_index others place)) (group_of groups f.0) f.2 in
+      let p = places_in f.0 g.0 (All-contains (λ value. value ≤ policy.symbols.types.nprim) from f.0 holders.within f.1) g.1 in
+      let is = All-get_or (IsEnd policy) others g.0 0 (omega (arith, p.0, are.others_long)) are.others_are in
+      rule_at f.0 g.0 f.1 g.1 (sym (ends.each (slice_index others g.0) is) ∙ g.2))
+      (λ e.
+      let r = place_of_rule e in
+      let is = All-get_or (IsEnd policy) others r.0 0 (omega (arith, r.1, are.others_long)) are.others_are in
+      any_from (λ end. list_any (λ place. is_among to (slice_index others place)) (group_of groups end)) from (slice_index keys r.0) r.2
+      (any_from (λ place. is_among to (slice_index others place)) (group_of groups (slice_index keys r.0)) r.0 r.3 (ends.each (slice_index others r.0) is ∙ r.4)))
+
+  -- the types of the other ends
+  pub others_hold : (ends : List ℕ) → ((value : ℕ) → is_among ends value ≡ is_other_end others (group_of groups) from value) → list_any (λ end. holds_type policy end y) ends ≡ list_any joined rules
+  others_hold ends say = same_tests (list_any (λ end. holds_type policy end y) ends) (list_any joined rules)
+      (λ e.
+      let o = any_gives (λ end. holds_type policy end y) ends e in
+      let f = any_gives (λ end. list_any (λ place. slice_index others place == o.0) (group_of groups end)) from (sym (say o.0) ∙ contains_among ends o.0 o.1) in
+      let g = any_gives (λ place. slice_index others place == o.0) (group_of groups f.0) f.2 in
+      rule_at f.0 g.0 f.1 g.1 (ap (λ (v : ℕ). holds_type policy v y) (eqb-true (slice_index others g.0) o.0 g.2) ∙ o.2))
+      (λ e.
+      let r = place_of_rule e in
+      let o = slice_index others r.0 in
+      any_from (λ end. holds_type policy end y) ends o
+      (among_contains ends o (say o ∙ any_from (λ end. list_any (λ place. slice_index others place == o) (group_of groups end)) from (slice_index keys r.0) r.2
+      (any_from (λ place. slice_index others place == o) (group_of groups (slice_index keys r.0)) r.0 r.3 (eq-eqb o o refl)))) r.4)
+
+  flat_map_agree : (f g : ℕ → List ℕ) (xs : List ℕ) → All (λ e. f e ≡ g e) xs → flat_map f xs ≡ flat_map g xs
+  flat_map_agree f g [] h = refl
+  flat_map_agree f g (e ∷ es) h = rw (All-head (λ (e : ℕ). f e ≡ g e) e es h, flat_map_agree f g es (All-tail (λ (e : ℕ). f e ≡ g e) e es h)) refl
+
+  flat_map_of_maps : (r : ℕ → ℕ) (f : ℕ → List ℕ) (xs : List ℕ) → flat_map (λ e. map r (f e)) xs ≡ map r (flat_map f xs)
+  flat_map_of_maps r f [] = refl
+  flat_map_of_maps r f (e ∷ es) = ap (λ (ys : List ℕ). map r (f e) ++ ys) (flat_map_of_maps r f es) ∙ sym (map-append r (f e) (flat_map f es))
+
+  -- the rules that are found
+  pub found_is : (to : List ℕ) → AreApart from → AreHolders policy y to → IsPermutation (rules_found rules others (group_of groups) from to) (filter joined rules)
+  found_is to apart ends =
+      let r = slice_index rules in
+      let q = λ (place : ℕ). is_among to (slice_index others place) in
+      let range = range_with_len 0 (length keys) in
+      let one : rules_found rules others (group_of groups) from to ≡ map r (flat_map (λ end. filter q (places_of keys end)) from) =
+      flat_map_agree (λ end. rules_at rules (places_to others to (group_of groups end))) (λ end. map r (filter q (places_of keys end))) from
+      (All-weaker (λ value. value ≤ policy.symbols.types.nprim) (λ end. rules_at rules (places_to others to (group_of groups end)) ≡ map r (filter q (places_of keys end))) (λ end le. ap (λ (ps : List ℕ). map r (filter q ps)) (are.groups_are.each end le)) from holders.within)
+      ∙ flat_map_of_maps r (λ end. filter q (places_of keys end)) from in
+      let agree : filter (λ place. is_among from (slice_index keys place) && q place) range ≡ filter (λ place. joined (r place)) range =
+      filter_agree (λ place. is_among from (slice_index keys place) && q place) (λ place. joined (r place)) range
+      (All-weaker (λ b. (0 ≤ b) × (b < 0 + length keys)) (λ place. (is_among from (slice_index keys place) && q place) ≡ joined (r place))
+      (λ place w.
+      let lt : place < length rules = omega (arith, w.1, are.keys_long) in
+      let a = All-get_or (IsEnd policy) keys place 0 (omega (arith, lt, are.keys_long)) are.keys_are in
+      let b = All-get_or (IsEnd policy) others place 0 (omega (arith, lt, are.others_long)) are.others_are in
+      ap (λ (c : Bool). c && q place) (holders.each (slice_index keys place) a) ∙ ap (λ (c : Bool). holds_type policy (slice_index keys place) x && c) (ends.each (slice_index others place) b) ∙ sym (are.law place lt))
+      range (range_holds 0 (length keys))) in
+      let all : map r (filter (λ place. joined (r place)) range) ≡ filter joined rules =
+      sym (filter_map_is r joined range) ∙ ap (filter joined) (ap (λ (n : ℕ). map r (range_with_len 0 n)) are.keys_long ∙ sym (by_places rules)) in
+      subst (λ (ys : List ℕ). IsPermutation ys (filter joined rules)) (sym one)
+      (subst (λ (ys : List ℕ). IsPermutation (map r (flat_map (λ end. filter q (places_of keys end)) from)) ys) (ap (map r) agree ∙ all)
+      (IsPermutation-map r (flat_map (λ end. filter q (places_of keys end)) from) (filter (λ place. is_among from (slice_index keys place) && q place) range) (grouped keys q from apart)))
+
+-- ---- rules in order
+
+-- rules of a list are stored rules
+pub are_rules : (policy : Parts) (rules sources targets : List ℕ) → AreEndsOf policy rules sources targets → AreRules policy rules
+are_rules policy rules sources targets are = All-from_get_or (λ n. n < length (stored_rules policy)) rules 0 (λ place lt. passes_within policy (has_ends (slice_index sources place) (slice_index targets place)) (slice_index rules place) (are.each place lt))
+
+-- places of any group are within the list
+pub groups_within : (most : ℕ) (keys : List ℕ) (groups : List (List ℕ)) (n : ℕ) → AreGroupsOf most keys groups → length keys ≡ n → (end : ℕ) → All (λ place. place < n) (group_of groups end)
+unfolding places_of
+groups_within most keys groups n are long end = elim (cases_lt end (most + 1)) [
+  | inl lt ↦
+      All-same (λ place. place < n) (group_of groups end) (places_of keys end) (are.each end (omega (arith, lt)))
+      (All-filter (is_value_at keys end) (λ place. place < n) (range_with_len 0 (length keys)) (All-weaker (λ b. (0 ≤ b) × (b < 0 + length keys)) (λ place. place < n) (λ b w. omega (arith, w.1, long)) (range_with_len 0 (length keys)) (range_holds 0 (length keys))))
+  | inr past ↦ All-same (λ place. place < n) (group_of groups end) [] (get_or_past groups end [] (omega (arith, past, are.count))) (All-nil (λ place. place < n))
+]
+
+-- other ends are ends
+pub others_are_ends : (policy : Parts) (others : List ℕ) (groups : List (List ℕ)) (n : ℕ) (from ends : List ℕ) → All (IsEnd policy) others → ((end : ℕ) → All (λ place. place < length others) (group_of groups end))
+    → ((value : ℕ) → is_among ends value ≡ is_other_end others (group_of groups) from value) → All (IsEnd policy) ends
+others_are_ends policy others groups n from ends are within say = All-from_get_or (IsEnd policy) ends 0 λ k lt.
+    let v = get_or ends k 0 in
+    let f = any_gives (λ end. list_any (λ place. slice_index others place == v) (group_of groups end)) from (sym (say v) ∙ contains_among ends v (Contains-get_or ends k 0 lt)) in
+    let g = any_gives (λ place. slice_index others place == v) (group_of groups f.0) f.2 in
+    let below = All-contains (λ place. place < length others) (group_of groups f.0) g.0 (within f.0) g.1 in
+    subst (IsEnd policy) (eqb-true (slice_index others g.0) v g.2) (All-get_or (IsEnd policy) others g.0 0 below are)
+
+-- the rules that are found are stored rules, and in order they are those between the types
+pub found_are_rules : (policy : Parts) (rules found kept : List ℕ) → AreRules policy rules → (joined : ℕ → Bool) → kept ≡ filter joined rules → IsPermutation found kept → AreRules policy found
+found_are_rules policy rules found kept are joined is moved =
+    let P = λ (n : ℕ). n < length (stored_rules policy) in
+    All-permutation P kept found (IsPermutation-sym found kept moved) (All-same P kept (filter joined rules) is (All-filter joined P rules are))
+
+pub between_is : (policy : Parts) (rules sources targets : List ℕ) (by_source by_target : List (List ℕ)) (source target : ℕ) (from to found : List ℕ) → ((xs ys : List ℕ) → AreRules policy xs → IsPermutation xs ys → in_rule_order policy xs ≡ in_rule_order policy ys) → IsTableOf policy rules sources targets by_source by_target → AreApart from
+    → AreHolders policy source from → AreHolders policy target to → found ≡ rules_found rules targets (group_of by_source) from to → AreRules policy found × (in_rule_order policy found ≡ rules_between policy rules source target)
+between_is policy rules sources targets by_source by_target source target from to found settled table apart holders ends is =
+    let joined = joins policy source target in
+    let moved : IsPermutation found (filter joined rules) =
+    subst (λ (xs : List ℕ). IsPermutation xs (filter joined rules)) (sym is)
+    (found_is policy rules sources targets by_source joined source target (by_sources policy rules sources targets by_source by_target source target table) from holders to apart ends) in
+    let own = are_rules policy rules sources targets table.ends in
+    let found_are = found_are_rules policy rules found (filter joined rules) own joined refl moved in
+    (found_are, settled found (filter joined rules) found_are moved)
+
+-- the types of the other ends, where the sources are given, and where the targets are
+pub targets_are : (policy : Parts) (rules sources targets : List ℕ) (by_source by_target : List (List ℕ)) (source : ℕ) (from ends : List ℕ) → IsTableOf policy rules sources targets by_source by_target → AreHolders policy source from
+    → ((value : ℕ) → is_among ends value ≡ is_other_end targets (group_of by_source) from value)
+    → filter (λ type. list_any (λ end. holds_type policy end type) ends) (range_with_len 1 policy.symbols.types.nprim) ≡ targets_from policy rules source
+unfolding targets_from
+targets_are policy rules sources targets by_source by_target source from ends table holders say =
+    filter_agree (λ type. list_any (λ end. holds_type policy end type) ends) (any_joins policy rules source) (range_with_len 1 policy.symbols.types.nprim)
+    (λ k d lt. let type = get_or (range_with_len 1 policy.symbols.types.nprim) k d in
+    others_hold policy rules sources targets by_source (joins policy source type) source type (by_sources policy rules sources targets by_source by_target source type table) from holders ends say)
+
+pub sources_are : (policy : Parts) (rules sources targets : List ℕ) (by_source by_target : List (List ℕ)) (target : ℕ) (from ends : List ℕ) → IsTableOf policy rules sources targets by_source by_target → AreHolders policy target from
+    → ((value : ℕ) → is_among ends value ≡ is_other_end sources (group_of by_target) from value)
+    → filter (λ type. list_any (λ end. holds_type policy end type) ends) (range_with_len 1 policy.symbols.types.nprim) ≡ sources_to policy rules target
+unfolding sources_to
+sources_are policy rules sources targets by_source by_target target from ends table holders say =
+    filter_agree (λ type. list_any (λ end. holds_type policy end type) ends) (λ source. any_joins policy rules source target) (range_with_len 1 policy.symbols.types.nprim)
+    (λ k d lt. let type = get_or (range_with_len 1 policy.symbols.types.nprim) k d in
+    others_hold policy rules targets sources by_target (joins policy type target) target type (by_targets policy rules sources targets by_source by_target type target table) from holders ends say)

@@ -1,0 +1,157 @@
+-- The types and attributes that expand to a type are the type itself and the attributes of its row.
+use Rattle.std.proofs.Common.{◌≡◌, ℕ, ◌+◌, ◌-◌, ◌<◌, ◌≤◌, Bool, true, false, cond, List, [], ◌∷◌, ◌++◌, Option, Some, None, length, refl, sym, ap, subst, ◌∙◌, inl, inr, arith}
+use Rattle.std.specs.Prelude.{◌==◌, ◌&&◌, ◌||◌, nat_le, nat_lt, is_some}
+use Rattle.std.specs.List.{All, Contains, filter, list_any, range_with_len}
+use Rattle.std.proofs.lemmas.Bool.{false≢true, cases_Bool, cases_eq, eq-eqb, ne_eqb, eqb-true, and_parts, and_from, or_cases, or_left, or_right, le-leb, leb-true, lt-ltb, ltb-true, cond-true, cond-false}
+use Rattle.pol_bitmap.specs.declared.Node.{Node}
+use Rattle.pol_bitmap.specs.Nodes.{bits_of, has_bit}
+use Rattle.pol_bitmap.proofs.BitLists.{has_bit-from_bits, bits-from_has_bit}
+use Rattle.pol_bitmap.proofs.Elements.{kept, keeps, range_holds, contains_range, contains_first, contains_one}
+use Rattle.std.proofs.lemmas.List.Elements.{All-contains, All-same, All-filter, All-weaker, All-cons, All-nil}
+use Rattle.pol_symtab.proofs.Searches.{not_true}
+use Rattle.pol_datums.specs.declared.Flavour.{Flavour}
+use Rattle.pol_datums.specs.declared.Flavour.TheVariants.{Plain, Attribute}
+use Rattle.pol_symbols.specs.PolicySymbols.{flavour_in}
+use Rattle.pol_file.specs.declared.Parts.{Parts}
+use Rattle.pol_expand.specs.Expansion.{Expansions, IsDeclared, expansion}
+use Rattle.pol_expand.specs.Flavours.{is_flavour}
+use Rattle.pol_expand.specs.PolicyMap.{IsPolicyMap, has_flavour, row_in, expand}
+use Rattle.pol_expand.proofs.PolicyMaps.{declared_in}
+use Rattle.pol_expand.proofs.Values.{same_tests}
+use Rattle.value_groups.specs.Marking.{is_among, with_value}
+use Rattle.rule_ends.specs.ChosenRules.{holds_type}
+use Rattle.rule_ends.specs.EndTables.{IsEnd, is_type_value, is_attribute_bit}
+use Rattle.rule_ends.proofs.Anys.{any_gives, any_from, among_contains, contains_among, or_false}
+
+-- what a value is, where it is not an attribute
+plain_end : (declared : Option Flavour) → is_some declared ≡ true → is_flavour Attribute declared ≡ false → is_flavour Plain declared ≡ true
+plain_end None s a = absurd (false≢true s)
+plain_end (Some Plain) s a = refl
+plain_end (Some Attribute) s a = absurd (false≢true (sym a))
+
+plain_is_no_attribute : (declared : Option Flavour) → is_flavour Plain declared ≡ true → is_flavour Attribute declared ≡ true → ⊥
+plain_is_no_attribute None p a = false≢true p
+plain_is_no_attribute (Some Plain) p a = false≢true a
+plain_is_no_attribute (Some Attribute) p a = false≢true p
+
+-- the end that a type is, or that its row has
+abbrev pub is_holder : Parts → ℕ → ℕ → Bool
+is_holder policy node value = is_type_value policy node && ((node == value) || list_any (is_attribute_bit policy value) (bits_of (row_in policy node)))
+
+within_range : (n x : ℕ) → Contains (range_with_len 1 n) x → (1 ≤ x) × (x ≤ n)
+within_range n x h = let w = All-contains (λ b. (1 ≤ b) × (b < 1 + n)) (range_with_len 1 n) x (range_holds 1 n) h in (w.0, omega (arith, w.1))
+
+of_attribute : (policy : Parts) (value : ℕ) → has_flavour policy.symbols Attribute value ≡ true → expand policy value ≡ filter (λ type. has_flavour policy.symbols Plain type && has_bit (row_in policy type) (value - 1)) (range_with_len 1 policy.symbols.types.nprim)
+unfolding expand expansion
+of_attribute policy value e = cond-true (has_flavour policy.symbols Attribute value) _ (value ∷ []) e
+
+of_type : (policy : Parts) (value : ℕ) → has_flavour policy.symbols Attribute value ≡ false → expand policy value ≡ value ∷ []
+unfolding expand expansion
+of_type policy value e = cond-false (has_flavour policy.symbols Attribute value) _ (value ∷ []) e
+
+is_type_of : (policy : Parts) (node : ℕ) → 1 ≤ node → node ≤ policy.symbols.types.nprim → has_flavour policy.symbols Plain node ≡ true → is_type_value policy node ≡ true
+is_type_of policy node least most plain =
+    and_from (nat_le 1 node && nat_le node policy.symbols.types.nprim) (has_flavour policy.symbols Plain node) (and_from (nat_le 1 node) (nat_le node policy.symbols.types.nprim) (le-leb 1 node least) (le-leb node policy.symbols.types.nprim most)) plain
+
+type_parts : (policy : Parts) (node : ℕ) → is_type_value policy node ≡ true → (1 ≤ node) × (node ≤ policy.symbols.types.nprim) × (has_flavour policy.symbols Plain node ≡ true)
+type_parts policy node e =
+    let outer = and_parts (nat_le 1 node && nat_le node policy.symbols.types.nprim) (has_flavour policy.symbols Plain node) e in
+    let inner = and_parts (nat_le 1 node) (nat_le node policy.symbols.types.nprim) outer.0 in
+    (leb-true 1 node inner.0, leb-true node policy.symbols.types.nprim inner.1, outer.1)
+
+-- a bit of an attribute's value
+bit_parts : (policy : Parts) (value bit : ℕ) → is_attribute_bit policy value bit ≡ true → (has_flavour policy.symbols Attribute value ≡ true) × (bit ≡ value - 1)
+bit_parts policy value bit e =
+    let outer = and_parts (nat_lt bit policy.symbols.types.nprim && has_flavour policy.symbols Attribute (bit + 1)) (bit + 1 == value) e in
+    let inner = and_parts (nat_lt bit policy.symbols.types.nprim) (has_flavour policy.symbols Attribute (bit + 1)) outer.0 in
+    let same : bit + 1 ≡ value = eqb-true (bit + 1) value outer.1 in
+    (subst (λ (v : ℕ). has_flavour policy.symbols Attribute v ≡ true) same inner.1, omega (arith, same))
+
+bit_is : (policy : Parts) (value : ℕ) → 1 ≤ value → value ≤ policy.symbols.types.nprim → has_flavour policy.symbols Attribute value ≡ true → is_attribute_bit policy value (value - 1) ≡ true
+bit_is policy value least most e =
+    let same : value - 1 + 1 ≡ value = omega (arith, least) in
+    and_from (nat_lt (value - 1) policy.symbols.types.nprim && has_flavour policy.symbols Attribute (value - 1 + 1)) (value - 1 + 1 == value)
+    (and_from (nat_lt (value - 1) policy.symbols.types.nprim) (has_flavour policy.symbols Attribute (value - 1 + 1)) (lt-ltb (value - 1) policy.symbols.types.nprim (omega (arith, least, most)))
+    (subst (λ (v : ℕ). has_flavour policy.symbols Attribute v ≡ true) (sym same) e))
+    (eq-eqb (value - 1 + 1) value same)
+
+-- a type or an attribute expands to a type exactly where it is such an end
+pub holder_is : (policy : Parts) (node value : ℕ) → IsEnd policy value → is_holder policy node value ≡ holds_type policy value node
+unfolding holds_type
+holder_is policy node value is = same_tests (is_holder policy node value) (is_among (expand policy value) node) there back
+  where
+    there : is_holder policy node value ≡ true → is_among (expand policy value) node ≡ true
+    there e =
+        let outer = and_parts (is_type_value policy node) ((node == value) || list_any (is_attribute_bit policy value) (bits_of (row_in policy node))) e in
+        let type = type_parts policy node outer.0 in
+        elim (or_cases (node == value) (list_any (is_attribute_bit policy value) (bits_of (row_in policy node))) outer.1) [
+          | inl same ↦
+              let s : node ≡ value = eqb-true node value same in
+              let plain : has_flavour policy.symbols Plain value ≡ true = subst (λ (v : ℕ). has_flavour policy.symbols Plain v ≡ true) s type.2 in
+              let none : has_flavour policy.symbols Attribute value ≡ false = not_true (has_flavour policy.symbols Attribute value) (plain_is_no_attribute (flavour_in policy.symbols value) plain) in
+              ap (λ (xs : List ℕ). is_among xs node) (of_type policy value none) ∙ contains_among (value ∷ []) node (subst (λ (v : ℕ). Contains (v ∷ []) node) s (contains_first node []))
+          | inr bit ↦
+              let f = any_gives (is_attribute_bit policy value) (bits_of (row_in policy node)) bit in
+              let parts = bit_parts policy value f.0 f.2 in
+              let has : has_bit (row_in policy node) (value - 1) ≡ true = ap (has_bit (row_in policy node)) (sym parts.1) ∙ has_bit-from_bits (row_in policy node) f.0 f.1 in
+              ap (λ (xs : List ℕ). is_among xs node) (of_attribute policy value parts.0)
+              ∙ contains_among _ node (keeps (λ type. has_flavour policy.symbols Plain type && has_bit (row_in policy type) (value - 1)) (range_with_len 1 policy.symbols.types.nprim) node
+              (contains_range 1 policy.symbols.types.nprim node type.0 (omega (arith, type.1))) (and_from (has_flavour policy.symbols Plain node) (has_bit (row_in policy node) (value - 1)) type.2 has))
+        ]
+
+    back : is_among (expand policy value) node ≡ true → is_holder policy node value ≡ true
+    back e = elim (cases_Bool (has_flavour policy.symbols Attribute value)) [
+      | inl a ↦
+          let h = kept (λ type. has_flavour policy.symbols Plain type && has_bit (row_in policy type) (value - 1)) (range_with_len 1 policy.symbols.types.nprim) node
+          (among_contains _ node (ap (λ (xs : List ℕ). is_among xs node) (sym (of_attribute policy value a)) ∙ e)) in
+          let range = within_range policy.symbols.types.nprim node h.0 in
+          let parts = and_parts (has_flavour policy.symbols Plain node) (has_bit (row_in policy node) (value - 1)) h.1 in
+          let bit = any_from (is_attribute_bit policy value) (bits_of (row_in policy node)) (value - 1) (bits-from_has_bit (row_in policy node) (value - 1) parts.1) (bit_is policy value is.within.0 is.within.1 a) in
+          and_from (is_type_value policy node) ((node == value) || list_any (is_attribute_bit policy value) (bits_of (row_in policy node))) (is_type_of policy node range.0 range.1 parts.0)
+          (or_right (node == value) (list_any (is_attribute_bit policy value) (bits_of (row_in policy node))) bit)
+      | inr none ↦
+          let one = among_contains (value ∷ []) node (ap (λ (xs : List ℕ). is_among xs node) (sym (of_type policy value none)) ∙ e) in
+          let s : value ≡ node = contains_one node value one in
+          let plain : has_flavour policy.symbols Plain node ≡ true = subst (λ (v : ℕ). has_flavour policy.symbols Plain v ≡ true) s (plain_end (flavour_in policy.symbols value) is.declared none) in
+          and_from (is_type_value policy node) ((node == value) || list_any (is_attribute_bit policy value) (bits_of (row_in policy node)))
+          (is_type_of policy node (omega (arith, s, is.within.0)) (omega (arith, s, is.within.1)) plain)
+          (or_left (node == value) (list_any (is_attribute_bit policy value) (bits_of (row_in policy node))) (eq-eqb node value (sym s)))
+    ]
+
+-- no type is held where a value is none
+pub held_by_none : (policy : Parts) (node value : ℕ) → IsEnd policy value → is_type_value policy node ≡ false → false ≡ holds_type policy value node
+held_by_none policy node value is none = sym (ap (λ (b : Bool). b && ((node == value) || list_any (is_attribute_bit policy value) (bits_of (row_in policy node)))) none) ∙ holder_is policy node value is
+
+-- the ends of a type: itself, and what its row adds
+pub held_by_ends : (policy : Parts) (node value : ℕ) (first values : List ℕ) → IsEnd policy value → is_type_value policy node ≡ true → first ≡ with_value [] node
+    → is_among values value ≡ (is_among first value || list_any (is_attribute_bit policy value) (bits_of (row_in policy node))) → is_among values value ≡ holds_type policy value node
+held_by_ends policy node value first values is type one grown =
+    grown
+    ∙ ap (λ (xs : List ℕ). is_among xs value || list_any (is_attribute_bit policy value) (bits_of (row_in policy node))) one
+    ∙ ap (λ (b : Bool). b || list_any (is_attribute_bit policy value) (bits_of (row_in policy node))) (or_false (node == value))
+    ∙ sym (ap (λ (b : Bool). b && ((node == value) || list_any (is_attribute_bit policy value) (bits_of (row_in policy node)))) type)
+    ∙ holder_is policy node value is
+
+-- ---- what an end expands to
+
+flavour_some : (o : Option Flavour) → is_some o ≡ true → (f : Flavour) × (o ≡ Some f)
+flavour_some None e = absurd (false≢true e)
+flavour_some (Some f) e = (f, refl)
+
+pub end_declared : (policy : Parts) (m : Expansions) (value : ℕ) → IsPolicyMap policy m → IsEnd policy value → IsDeclared m.attributes m.types value
+end_declared policy m value map is = let f = flavour_some (flavour_in policy.symbols value) is.declared in declared_in policy m value f.0 map is.within f.1
+
+pub expands_within : (policy : Parts) (value : ℕ) → IsEnd policy value → All (λ type. type < policy.symbols.types.nprim + 1) (expand policy value)
+expands_within policy value is =
+    let P = λ (type : ℕ). type < policy.symbols.types.nprim + 1 in
+    elim (cases_Bool (has_flavour policy.symbols Attribute value)) [
+      | inl a ↦
+          let p = λ (type : ℕ). has_flavour policy.symbols Plain type && has_bit (row_in policy type) (value - 1) in
+          let range = range_with_len 1 policy.symbols.types.nprim in
+          All-same P (expand policy value) (filter p range) (of_attribute policy value a) (All-filter p P range (All-weaker (λ b. (1 ≤ b) × (b < 1 + policy.symbols.types.nprim)) P (λ b w. omega (arith, w.1)) range (range_holds 1 policy.symbols.types.nprim)))
+      | inr none ↦ All-same P (expand policy value) (value ∷ []) (of_type policy value none) (All-cons P value [] (omega (arith, is.within.1)) (All-nil P))
+    ]
+
+pub held_among : (policy : Parts) (value type : ℕ) (bits : List ℕ) → bits ≡ expand policy value → is_among bits type ≡ holds_type policy value type
+unfolding holds_type
+held_among policy value type bits e = ap (λ (xs : List ℕ). is_among xs type) e

@@ -1,0 +1,7 @@
+use Rattle.std.proofs.Common.{◌≡◌, take}
+use Rattle.value_groups.specs.Grouping.{group_of}
+use Rattle.rule_ends.specs.EndTables.{rules_found}
+use Rattle.rule_ends.proofs.walking.found_rules.Given as goal
+
+abbrev pub invariant-loop-end : goal.invariant-loop-end
+invariant-loop-end l = l.found.items ≡ rules_found l.rules l.others (group_of l.groups) (take l.end-index l.from) l.to.values

@@ -1,0 +1,66 @@
+-- The ends of chosen rules, by the places of the rules in their list. It serves the code alone.
+use Rattle.std.specs.Prelude.{◌≡◌, ℕ, ◌+◌, ◌<◌, ◌≤◌, ◌==◌, nat_le, nat_lt, ◌&&◌, Bool, true, List, length, map, is_some, slice_index}
+use Rattle.std.specs.List.{All, filter, flat_map, list_any}
+use Rattle.pol_datums.specs.declared.Flavour.TheVariants.{Plain, Attribute}
+use Rattle.pol_symbols.specs.PolicySymbols.{flavour_in}
+use Rattle.pol_file.specs.declared.Parts.{Parts}
+use Rattle.pol_file.specs.TypeValues.{IsTypeValue}
+use Rattle.pol_rules.specs.StoredRules.{StoredRule}
+use Rattle.pol_expand.specs.PolicyMap.{has_flavour}
+use Rattle.value_groups.specs.Marking.{is_among}
+use Rattle.value_groups.specs.Grouping.{AreGroupsOf}
+use Rattle.rule_ends.specs.ChosenRules.{rule_passes}
+
+-- a value is that of a type or of an attribute
+pub record IsEnd (policy : Parts) (value : ℕ) : Type 0 where
+  pub within : IsTypeValue policy.symbols value
+  pub declared : is_some (flavour_in policy.symbols value) ≡ true
+
+-- a rule has these ends
+abbrev pub has_ends : ℕ → ℕ → StoredRule → Bool
+has_ends source target rule = (rule.source == source) && (rule.target == target)
+
+-- the rule of each place has the source and the target of that place, and these are types or attributes
+pub record AreEndsOf (policy : Parts) (rules sources targets : List ℕ) : Type 0 where
+  pub sources_long : length sources ≡ length rules
+  pub targets_long : length targets ≡ length rules
+  pub each : (place : ℕ) → place < length rules → rule_passes policy (has_ends (slice_index sources place) (slice_index targets place)) (slice_index rules place) ≡ true
+  pub sources_are : All (IsEnd policy) sources
+  pub targets_are : All (IsEnd policy) targets
+
+-- those of some places whose other end is among some values
+abbrev pub places_to : List ℕ → List ℕ → List ℕ → List ℕ
+places_to others ends places = filter (λ place. is_among ends (slice_index others place)) places
+
+-- the rules of these places
+abbrev pub rules_at : List ℕ → List ℕ → List ℕ
+rules_at rules places = map (slice_index rules) places
+
+-- the rules that have one end among some values and the other among others, group by group
+abbrev pub rules_found : List ℕ → List ℕ → (ℕ → List ℕ) → List ℕ → List ℕ → List ℕ
+rules_found rules others groups from to = flat_map (λ end. rules_at rules (places_to others to (groups end))) from
+
+-- whether there is one
+abbrev pub any_found : List ℕ → (ℕ → List ℕ) → List ℕ → List ℕ → Bool
+any_found others groups from to = list_any (λ end. list_any (λ place. is_among to (slice_index others place)) (groups end)) from
+
+-- whether a value is the other end of a rule that has one end among some values
+abbrev pub is_other_end : List ℕ → (ℕ → List ℕ) → List ℕ → ℕ → Bool
+is_other_end others groups from value = list_any (λ end. list_any (λ place. slice_index others place == value) (groups end)) from
+
+-- ---- the ends that hold a type
+
+-- a value is that of a type, and of no attribute
+abbrev pub is_type_value : Parts → ℕ → Bool
+is_type_value policy value = nat_le 1 value && nat_le value policy.symbols.types.nprim && has_flavour policy.symbols Plain value
+
+-- a bit of a row stands for a value, which is that of an attribute
+abbrev pub is_attribute_bit : Parts → ℕ → ℕ → Bool
+is_attribute_bit policy value bit = nat_lt bit policy.symbols.types.nprim && has_flavour policy.symbols Attribute (bit + 1) && (bit + 1 == value)
+
+-- ---- the whole table
+
+pub record IsTableOf (policy : Parts) (rules sources targets : List ℕ) (by_source by_target : List (List ℕ)) : Type 0 where
+  pub ends : AreEndsOf policy rules sources targets
+  pub sources_grouped : AreGroupsOf policy.symbols.types.nprim sources by_source
+  pub targets_grouped : AreGroupsOf policy.symbols.types.nprim targets by_target

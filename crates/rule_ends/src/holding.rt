@@ -1,0 +1,101 @@
+// The stored ends that hold a type, by its row in the map of types, and the types that stored ends expand to.
+ghost use Rattle.std.specs.Prelude.{◌≡◌, ◌+◌, ◌<◌, ◌≤◌, ◌||◌, ◌&&◌, ℕ, true, IfOk, OnOk, OnErr};
+ghost use Rattle.std.specs.List.{All, filter, list_any, range_with_len};
+ghost use Rattle.pol_bitmap.specs.Nodes.{bits_of};
+ghost use Rattle.pol_datums.specs.declared.Flavour.TheVariants.{Plain, Attribute};
+ghost use Rattle.pol_expand.specs.PolicyMap.{has_flavour, row_in, expand, IsPolicyMap};
+ghost use Rattle.value_groups.specs.Marking.{is_among};
+ghost use Rattle.rule_ends.specs.ChosenRules.{holds_type};
+ghost use Rattle.rule_ends.specs.EndTables.{IsEnd, is_type_value, is_attribute_bit};
+
+use pol_bitmap::Set;
+use pol_datums::Flavour;
+use pol_expand::{TypeMap, is_flavour};
+use pol_read::Policy;
+use std::alloc::{AllocError, Global};
+use value_groups::Marked;
+
+/// The types and attributes that expand to a type among others: the type itself, and the attributes of its row.
+pub fn ends_holding(alloc: Global, policy: &Policy<'_>, node: u32) -> Result<Marked, AllocError>
+    ensures count { IfOk result (λ ends. ends.count ≡ policy.now.symbols.types.nprim + 1) }
+    ensures each { IfOk result (λ ends. (value : ℕ) → IsEnd policy.now value → is_among ends.values value ≡ holds_type policy.now value node) }
+    ensures within { IfOk result (λ ends. All (λ value. value ≤ policy.now.symbols.types.nprim) ends.values) }
+{
+    let mut ends = Marked::new(alloc, policy.type_count() as usize + 1)?;
+    if !is_type(policy, node) {
+        return Ok(ends);
+    }
+    ends.add(node)?;
+    add_attributes(policy, node, &mut ends)?;
+    // the clause of the values says that they are below the count
+    let _ = ends.values();
+    Ok(ends)
+}
+
+// Whether a value is that of a type, and of no attribute.
+fn is_type(policy: &Policy<'_>, value: u32) -> bool
+    ensures { result ≡ is_type_value policy.now value }
+{
+    1 <= value
+        && value <= policy.type_count()
+        && is_flavour(Flavour::Plain, policy.symbols().flavour(value))
+}
+
+// Adds the attributes of the row of a type.
+fn add_attributes(policy: &Policy<'_>, node: u32, ends: &mut Marked) -> Result<(), AllocError>
+    requires least { 1 ≤ node }
+    requires most { node ≤ policy.now.symbols.types.nprim }
+    requires count { ends.old.count ≡ policy.now.symbols.types.nprim + 1 }
+    ensures count { ends.new.count ≡ ends.old.count }
+    ensures each { OnOk result ((value : ℕ) → is_among ends.new.values value ≡ (is_among ends.old.values value || list_any (is_attribute_bit policy.now value) (bits_of (row_in policy.now node)))) }
+{
+    for bit in policy.row(node).bits() {
+        add_attribute(policy, bit, ends)?;
+    }
+    Ok(())
+}
+
+// Adds the attribute that a bit stands for, if it stands for one.
+fn add_attribute(policy: &Policy<'_>, bit: u32, ends: &mut Marked) -> Result<(), AllocError>
+    requires count { ends.old.count ≡ policy.now.symbols.types.nprim + 1 }
+    ensures count { ends.new.count ≡ ends.old.count }
+    ensures each { OnOk result ((value : ℕ) → is_among ends.new.values value ≡ (is_among ends.old.values value || is_attribute_bit policy.now value bit)) }
+{
+    if bit < policy.type_count()
+        && is_flavour(Flavour::Attribute, policy.symbols().flavour(bit + 1))
+    {
+        ends.add(bit + 1)?;
+    }
+    Ok(())
+}
+
+/// The types that ends expand to.
+pub fn types_of(
+    alloc: Global,
+    policy: &Policy<'_>,
+    types: &TypeMap,
+    ends: &[u32],
+) -> Result<Set, AllocError>
+    requires map { IsPolicyMap policy.now types.now }
+    requires ends { All (IsEnd policy.now) ends.now }
+    ensures { IfOk result (λ set. bits_of set ≡ filter (λ type. list_any (λ end. holds_type policy.now end type) ends.now) (range_with_len 1 policy.now.symbols.types.nprim)) }
+{
+    let mut found = Marked::new(alloc, policy.type_count() as usize + 1)?;
+    for end in ends {
+        let members = types.expansion(alloc, *end)?;
+        add_types(&members, &mut found)?;
+    }
+    found.to_set(alloc)
+}
+
+// Adds the types of a set.
+fn add_types(types: &Set, found: &mut Marked) -> Result<(), AllocError>
+    requires { All (λ type. type < found.old.count) (bits_of types.now) }
+    ensures count { found.new.count ≡ found.old.count }
+    ensures each { OnOk result ((type : ℕ) → is_among found.new.values type ≡ (is_among found.old.values type || is_among (bits_of types.now) type)) }
+{
+    for value in types.bits() {
+        found.add(value)?;
+    }
+    Ok(())
+}

@@ -1,0 +1,128 @@
+ghost use Rattle.std.specs.Prelude.{◌≡◌, ◌<◌, ◌^◌, true, IfOk, length};
+ghost use Rattle.std.specs.List.{All};
+ghost use Rattle.pol_bitmap.specs.Nodes.{bits_of};
+ghost use Rattle.pol_expand.specs.PolicyMap.{IsPolicyMap};
+ghost use Rattle.rule_order.specs.ListedOrder.{AreRules};
+ghost use Rattle.rule_ends.specs.ChosenRules.{is_between_types, any_joins, rules_between, targets_from, sources_to};
+
+use crate::end_table::EndTable;
+use crate::holding::{ends_holding, types_of};
+use crate::walking::{found_rules, has_rule, other_ends};
+use pol_bitmap::Set;
+use pol_expand::TypeMap;
+use pol_read::Policy;
+use rule_order::{rules_have_one_order, sort_by_rule_order};
+use std::alloc::{AllocError, Global};
+use std::marker::Model;
+
+/// Rules of a policy that were chosen, found by the types that their ends expand to. Contracts see the policy and the numbers of
+/// the rules.
+///
+/// The rules stand by their stored sources and by their stored targets. The stored ends that hold a type are the type itself and
+/// the attributes of its row in the policy's map of types, so that the rules of a type are found without looking at others.
+#[derive(Drop)]
+pub struct RuleEnds<'p> {
+    policy: &'p Policy<'p>,
+    types: &'p TypeMap,
+    table: EndTable,
+}
+
+impl<'p> Model for RuleEnds<'p> {
+    ghost use Rattle.rule_ends.specs.ChosenRules.{ChosenRules};
+    ghost use Rattle.rule_ends.specs.EndTables.{IsTableOf};
+    ghost use Rattle.pol_expand.specs.PolicyMap.{IsPolicyMap};
+
+    ghost Value = { ChosenRules };
+
+    ghost view = { λ r. record { policy = r.policy.now; rules = r.table.rules.items } };
+
+    ghost invariant = { λ r. IsPolicyMap r.policy.now r.types.now × IsTableOf r.policy.now r.table.rules.items r.table.sources.items r.table.targets.items r.table.by_source r.table.by_target };
+}
+
+impl<'p> RuleEnds<'p> {
+    /// The rules of these numbers, with the map of the policy's types. The ends of each rule are types and attributes.
+    pub fn build(
+        alloc: Global,
+        policy: &'p Policy<'p>,
+        types: &'p TypeMap,
+        numbers: Vec<u32>,
+    ) -> Result<RuleEnds<'p>, AllocError>
+        requires map { IsPolicyMap policy.now types.now }
+        requires rules { All (λ number. is_between_types policy.now number ≡ true) numbers.items }
+        requires few { length numbers.items < 2 ^ 32 }
+        ensures { IfOk result (λ ends. ends ≡ record { policy = policy.now; rules = numbers.items }) }
+    {
+        let table = EndTable::of_rules(alloc, policy, numbers)?;
+        Ok(RuleEnds {
+            policy,
+            types,
+            table,
+        })
+    }
+
+    /// The policy.
+    pub fn policy(&self) -> &'p Policy<'p>
+        ensures { result.now ≡ self.now.policy }
+    {
+        self.policy
+    }
+
+    /// Those of the rules whose source expands to the one type, and whose target to the other, in the order in which rules are
+    /// listed.
+    pub fn between(&self, alloc: Global, source: u32, target: u32) -> Result<Vec<u32>, AllocError>
+        ensures found { IfOk result (λ found. found.items ≡ rules_between self.now.policy self.now.rules source target) }
+        ensures rules { IfOk result (λ found. AreRules self.now.policy found.items) }
+    {
+        rules_have_one_order(self.policy);
+        let from = ends_holding(alloc, self.policy, source)?;
+        let to = ends_holding(alloc, self.policy, target)?;
+        let table = &self.table;
+        let found = found_rules(
+            alloc,
+            &table.rules,
+            &table.targets,
+            &table.by_source,
+            from.values(),
+            &to,
+        )?;
+        sort_by_rule_order(alloc, self.policy, &found)
+    }
+
+    /// Whether there is such a rule.
+    pub fn has_between(&self, alloc: Global, source: u32, target: u32) -> Result<bool, AllocError>
+        ensures { IfOk result (λ found. found ≡ any_joins self.now.policy self.now.rules source target) }
+    {
+        let from = ends_holding(alloc, self.policy, source)?;
+        let to = ends_holding(alloc, self.policy, target)?;
+        let table = &self.table;
+        Ok(has_rule(&table.targets, &table.by_source, from.values(), &to))
+    }
+
+    /// The types that the targets of the rules expand to whose source expands to a type.
+    pub fn targets_of(&self, alloc: Global, source: u32) -> Result<Set, AllocError>
+        ensures { IfOk result (λ set. bits_of set ≡ targets_from self.now.policy self.now.rules source) }
+    {
+        let from = ends_holding(alloc, self.policy, source)?;
+        let table = &self.table;
+        let count = self.policy.type_count() as usize + 1;
+        let ends = other_ends(
+            alloc,
+            &table.targets,
+            &table.by_source,
+            from.values(),
+            count,
+        )?;
+        types_of(alloc, self.policy, self.types, ends.values())
+    }
+
+    /// The types that the sources of the rules expand to whose target expands to a type.
+    pub fn sources_of(&self, alloc: Global, target: u32) -> Result<Set, AllocError>
+        ensures { IfOk result (λ set. bits_of set ≡ sources_to self.now.policy self.now.rules target) }
+    {
+        let to = ends_holding(alloc, self.policy, target)?;
+        let table = &self.table;
+        let count = self.policy.type_count() as usize + 1;
+        let ends = other_ends(alloc, &table.sources, &table.by_target, to.values(), count)?;
+        types_of(alloc, self.policy, self.types, ends.values())
+    }
+}

@@ -1,0 +1,7 @@
+pub mod SetTexts
+pub mod RunTexts
+pub mod ByName
+pub mod PermissionLists
+pub mod ClassLists
+pub mod ConditionTrees
+pub mod Frames

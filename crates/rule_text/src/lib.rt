@@ -1,0 +1,18 @@
+//! The text of a stored rule: a line of a search, and what transitions and flows print of a rule.
+#![tactic(auto)]
+
+mod class_permissions;
+mod condition_texts;
+mod ioctl_run;
+mod ioctl_texts;
+mod permission_table;
+mod rule_frame;
+mod rule_parts;
+mod rule_texts;
+mod shown_names;
+mod single_rules;
+mod whole_rule;
+
+pub use rule_frame::RuleFrame;
+pub use rule_texts::RuleTexts;
+pub use single_rules::{push_rule, push_single};

@@ -1,0 +1,69 @@
+//! The text of a whole rule.
+
+ghost use Rattle.std.specs.Prelude.{◌≡◌, ◌++◌, OnOk, codes};
+ghost use Rattle.pol_symbols.specs.PolicySymbols.{permissions_in_class};
+ghost use Rattle.pol_rules.specs.StoredRules.{stored};
+ghost use Rattle.pol_rules.specs.DeclaredRules.{StandsUnder};
+ghost use Rattle.rule_text.specs.ClassPermissions.{ShowsPart};
+ghost use Rattle.rule_text.specs.RuleTexts.{between, ends_text, keyword, rest_text, rule_text};
+
+use crate::condition_texts::push_condition;
+use crate::rule_parts::{keyword, push_class, push_ends, push_file_name, push_part};
+use pol_commons::PermissionView;
+use pol_read::{Policy, Rule, RuleKind};
+use pol_symbols::Symbols;
+use std::alloc::AllocError;
+
+/// Adds the text of a rule with these values as its ends. The permissions of its class are handed in by name, where it gives
+/// permissions.
+#[tactic(auto, unfolding(crate::specs::RuleTexts::rule_text, crate::specs::RuleTexts::rest_text))]
+pub(crate) fn push_between(
+    buffer: &mut Vec<u8>,
+    policy: &Policy<'_>,
+    rule: &Rule<'_>,
+    source: u32,
+    target: u32,
+    permissions: &[PermissionView<'_>],
+) -> Result<(), AllocError>
+    requires shown { ShowsPart (permissions_in_class policy.now.symbols rule.now.class) rule.now.part permissions.now }
+    requires under { StandsUnder policy.now.rules.conditionals rule.now.condition }
+    ensures { OnOk result (buffer.new.items ≡ buffer.old.items ++ rule_text policy.now (between source target (stored rule.now))) }
+{
+    push_head(buffer, policy.symbols(), rule.kind, source, target)?;
+    push_rest(buffer, policy, rule, permissions)
+}
+
+/// Adds the first word of the rules of a kind, and two ends.
+pub(crate) fn push_head(
+    buffer: &mut Vec<u8>,
+    symbols: &Symbols<'_>,
+    kind: RuleKind,
+    source: u32,
+    target: u32,
+) -> Result<(), AllocError>
+    ensures { OnOk result (buffer.new.items ≡ buffer.old.items ++ keyword kind ++ codes " " ++ ends_text symbols.now kind source target) }
+{
+    buffer.extend_from_slice(keyword(kind))?;
+    buffer.push(b' ')?;
+    push_ends(buffer, symbols, kind, source, target)
+}
+
+/// Adds what stands behind the ends of a rule.
+#[tactic(auto, unfolding(crate::specs::RuleTexts::rest_text))]
+pub(crate) fn push_rest(
+    buffer: &mut Vec<u8>,
+    policy: &Policy<'_>,
+    rule: &Rule<'_>,
+    permissions: &[PermissionView<'_>],
+) -> Result<(), AllocError>
+    requires shown { ShowsPart (permissions_in_class policy.now.symbols rule.now.class) rule.now.part permissions.now }
+    requires under { StandsUnder policy.now.rules.conditionals rule.now.condition }
+    ensures { OnOk result (buffer.new.items ≡ buffer.old.items ++ rest_text policy.now (stored rule.now)) }
+{
+    let symbols = policy.symbols();
+    push_class(buffer, symbols, rule.kind, rule.class)?;
+    push_part(buffer, symbols, rule, permissions)?;
+    push_file_name(buffer, rule.name)?;
+    buffer.push(b';')?;
+    push_condition(buffer, policy, rule.condition)
+}
