@@ -1,5 +1,5 @@
 -- A pattern that was built from a text is found where the pattern of the text is.
-use Rattle.std.proofs.Common.{◌≡◌, ℕ, ◌<◌, ◌≤◌, Bool, true, false, Option, Some, None, IsSomeAnd, Result, Ok, Err, IfOk, List, [], ◌∷◌, All, length, refl, sym, ap, subst, ◌∙◌, arith}
+use Rattle.std.proofs.Common.{◌≡◌, ℕ, ◌<◌, ◌≤◌, Bool, true, false, Option, Some, None, IsSomeAnd, Result, Ok, Err, IfOk, List, [], ◌∷◌, All, length, refl, ap, ◌∙◌, arith}
 use Rattle.std.specs.Prelude.{◌&&◌, is_some, option_map, chars, nat_lt, nat_eq, string_bytes}
 use Rattle.std.specs.List.{list_all, list_any, filter}
 use Rattle.std.specs.Char.{is_ascii}
@@ -8,7 +8,7 @@ use Rattle.std.proofs.lemmas.Bool.{ltb-true}
 use Rattle.std.proofs.lemmas.List.Elements.{All-cons, All-nil}
 use Rattle.std.proofs.lemmas.Str.{IsUtf8-from_ascii}
 use Rattle.std.proofs.lemmas.Str.Ascii.{IsAscii-from_all}
-use Rattle.regex.specs.Patterns.{Re, find_str, default_config, Reads, SameCaptures, Config}
+use Rattle.regex.specs.Patterns.{Re, find_str, default_config, Reads, SameCaptures}
 use Rattle.regex.specs.Names.{names_of}
 use Rattle.regex.specs.Sources.{IsRead}
 use Rattle.regex.specs.Strings.{regex_pattern}

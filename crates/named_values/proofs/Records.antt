@@ -1,11 +1,11 @@
 -- The values of the records of a table: a value with a name is one of them.
-use Rattle.std.proofs.Common.{◌≡◌, inl, inr, ℕ, ◌+◌, ◌<◌, ◌≤◌, Bool, true, false, Option, Some, None, List, [], ◌∷◌, ◌++◌, map, zero, suc, length, take, slice_get, refl, sym, ap, ◌∙◌, cond, add-one, arith}
-use Rattle.std.specs.Prelude.{◌||◌, ◌&&◌, nat_eq, is_some, option_map, if◌then◌else◌}
+use Rattle.std.proofs.Common.{◌≡◌, inl, inr, ℕ, ◌+◌, ◌≤◌, Bool, true, false, Option, Some, None, List, [], ◌∷◌, ◌++◌, map, zero, suc, length, take, slice_get, refl, sym, ap, ◌∙◌, cond, add-one, arith}
+use Rattle.std.specs.Prelude.{◌||◌, ◌&&◌, nat_eq, is_some, option_map}
 use Rattle.std.specs.List.{find, filter, list_any}
 use Rattle.std.proofs.lemmas.Bool.{eqb-true, eq-eqb}
 use Rattle.std.proofs.lemmas.List.{take_all}
 use Rattle.std.proofs.lemmas.List.Elements.{filter-append}
-use Rattle.std.proofs.lemmas.Option.{slice_get-map, slice_get_within, get_or_from_slice_get}
+use Rattle.std.proofs.lemmas.Option.{slice_get-map}
 use Rattle.pol_cursor.specs.References.{Placed}
 use Rattle.pol_cursor.specs.declared.TableKind.{TableKind}
 use Rattle.pol_cursor.specs.declared.TableKind.TheVariants.{Commons, Classes, Roles, Types, Users, Booleans, Levels, Categories}

@@ -1,7 +1,7 @@
 -- Tests of the elements of lists.
-use Rattle.std.proofs.Common.{◌≡◌, ◌⊎◌, inl, inr, ℕ, Bool, true, false, List, [], ◌∷◌, refl, sym, ap, subst, ◌∙◌, cond}
-use Rattle.std.specs.Prelude.{◌↔◌, ◌||◌, nat_eq, Contains}
-use Rattle.std.specs.List.{filter, list_any}
+use Rattle.std.proofs.Common.{◌≡◌, ◌⊎◌, inl, inr, ℕ, Bool, true, false, List, [], ◌∷◌, refl, sym, subst}
+use Rattle.std.specs.Prelude.{◌||◌, nat_eq, Contains}
+use Rattle.std.specs.List.{list_any}
 use Rattle.std.proofs.lemmas.Bool.{eqb-true, eq-eqb}
 use Rattle.std.proofs.lemmas.List.Elements.{Contains-append_right, Contains-append_cases}
 use Rattle.pol_bitmap.proofs.Elements.{contains_nothing, contains_one, contains_first}

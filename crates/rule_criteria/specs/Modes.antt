@@ -1,7 +1,7 @@
 -- What a mode says of a criterion's text.
 use Rattle.std.specs.Prelude.{Bool, true, false}
 use Rattle.rule_criteria.specs.declared.criteria.Mode.{Mode}
-use Rattle.rule_criteria.specs.declared.criteria.Mode.TheVariants.{Plain, Direct, Pattern, PatternDirect, Equal, Subset}
+use Rattle.rule_criteria.specs.declared.criteria.Mode.TheVariants.{Direct, Pattern, PatternDirect}
 
 -- it is a pattern
 abbrev pub is_pattern : Mode → Bool

@@ -34,7 +34,7 @@ not_true : (b : Bool) → b ≡ false → not b ≡ true
 not_true b e = ap not e
 
 -- what stands in rows after a write
-row_cases : (rows : List (List ℕ)) (i : ℕ) (row : List ℕ) (b : ℕ) → i < length rows → ((i ≡ b) × (row_of (set rows i row) b ≡ row)) ⊎ (row_of (set rows i row) b ≡ row_of rows b)
+pub row_cases : (rows : List (List ℕ)) (i : ℕ) (row : List ℕ) (b : ℕ) → i < length rows → ((i ≡ b) × (row_of (set rows i row) b ≡ row)) ⊎ (row_of (set rows i row) b ≡ row_of rows b)
 row_cases rows i row b lt = elim (cases_order i b) [
   | inl e ↦ inl (e, subst (λ (n : ℕ). row_of (set rows i row) n ≡ row) e (get_or-set_same rows i row [] lt))
   | inr (inl less) ↦ inr (let ne : b ≢ i = omega arith in get_or-set_other rows i b row [] ne)

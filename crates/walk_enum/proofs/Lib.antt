@@ -7,4 +7,5 @@ pub mod Turning
 pub mod Spreading
 pub mod Exploring
 pub mod Cuts
+pub mod Gathering
 pub mod Finding

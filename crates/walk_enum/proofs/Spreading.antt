@@ -1,11 +1,13 @@
 -- The successors of a node get a depth.
 use Rattle.std.proofs.Common.{◌≡◌, ◌⊎◌, inl, inr, ℕ, zero, suc, ◌+◌, ◌<◌, ◌≤◌, List, [], ◌∷◌, ◌++◌, length, set, replicate, refl, sym, ap, subst, ◌∙◌, arith, append_assoc, append-nil, get_or-set_same, length-append}
 use Rattle.std.specs.Prelude.{slice_index}
-use Rattle.std.specs.List.{Contains}
-use Rattle.std.proofs.lemmas.List.Elements.{Contains-push, Contains-push_cases, Contains-append_left}
+use Rattle.std.specs.List.{All, Contains}
+use Rattle.std.proofs.lemmas.Bool.{cases_lt}
+use Rattle.std.proofs.lemmas.List.Elements.{All-contains, All-contains_itself, All-weaker, Contains-push, Contains-push_cases, Contains-append_left, Contains-append_right}
 use Rattle.std.proofs.Math.ListN.{length-set}
-use Rattle.walk_enum.specs.Exploring.{some_count, Spreads}
-use Rattle.walk_enum.proofs.Elements.{not_in_nothing}
+use Rattle.pol_bitmap.specs.Sets.{IsUnion, IsDifference}
+use Rattle.walk_enum.specs.Exploring.{some_count, Spreads, AreFound}
+use Rattle.walk_enum.proofs.Elements.{not_in_nothing, in_first}
 
 -- what stands in a list after a write
 pub set_cases : (xs : List ℕ) (i v b : ℕ) → i < length xs → ((i ≡ b) × (slice_index (set xs i v) b ≡ v)) ⊎ (slice_index (set xs i v) b ≡ slice_index xs b)
@@ -40,6 +42,12 @@ pub none_there : (n b : ℕ) → slice_index (replicate n 0) b ≡ 0
 none_there zero b = refl
 none_there (suc n) zero = refl
 none_there (suc n) (suc b) = none_there n b
+
+-- Those of the nodes that are not left were found.
+pub record SpreadsUpTo (old now queue_old queue all left : List ℕ) (depth : ℕ) : Type 0 where
+  pub done : List ℕ
+  pub parts : all ≡ done ++ left
+  pub spreads : Spreads old now queue_old queue done depth
 
 pub spreads_none : (depths queue : List ℕ) (depth : ℕ) → Spreads depths depths queue queue [] depth
 spreads_none depths queue depth = record {
@@ -94,4 +102,58 @@ spreads_old old now queue_old queue found depth x s some = record {
   kept = s.kept;
   cases = s.cases;
   all = λ b has. elim (Contains-push_cases found x b has) [ inl before ↦ s.all b before | inr same ↦ subst (λ (n : ℕ). 1 ≤ slice_index now n) same some ];
+}
+
+-- ---- one node after another
+
+pub up_to_none : (depths queue all left : List ℕ) (depth : ℕ) → left ≡ all → SpreadsUpTo depths depths queue queue all left depth
+up_to_none depths queue all left depth is = record { done = []; parts = sym is; spreads = spreads_none depths queue depth }
+
+module _ (old now queue_old queue all left rest : List ℕ) (depth x : ℕ) (u : SpreadsUpTo old now queue_old queue all left depth) (is : left ≡ x ∷ rest) where
+  parts_next : all ≡ (u.done ++ x ∷ []) ++ rest
+  parts_next = u.parts ∙ ap (λ (l : List ℕ). u.done ++ l) is ∙ sym (append_assoc u.done (x ∷ []) rest)
+
+  pub here : Contains all x
+  here = subst (λ (l : List ℕ). Contains l x) (sym (u.parts ∙ ap (λ (l : List ℕ). u.done ++ l) is)) (Contains-append_right u.done (x ∷ rest) x (in_first x rest))
+
+  pub here_within : All (λ b. b < length old) all → x < length now
+  here_within range = omega (arith, All-contains (λ (b : ℕ). b < length old) all x range here, u.spreads.same_length)
+
+  pub up_to_new : 1 ≤ depth → x < length now → slice_index now x ≡ 0 → SpreadsUpTo old (set now x depth) queue_old (queue ++ x ∷ []) all rest depth
+  up_to_new some lt none = record { done = u.done ++ x ∷ []; parts = parts_next; spreads = spreads_new old now queue_old queue u.done depth x some u.spreads lt none }
+
+  pub up_to_old : 1 ≤ slice_index now x → SpreadsUpTo old now queue_old queue all rest depth
+  up_to_old some = record { done = u.done ++ x ∷ []; parts = parts_next; spreads = spreads_old old now queue_old queue u.done depth x u.spreads some }
+
+pub up_to_all : (old now queue_old queue all : List ℕ) (depth : ℕ) → SpreadsUpTo old now queue_old queue all [] depth → Spreads old now queue_old queue all depth
+up_to_all old now queue_old queue all depth u = subst (λ (l : List ℕ). Spreads old now queue_old queue l depth) (sym (u.parts ∙ append-nil u.done)) u.spreads
+
+-- ---- many nodes, without those that are known to have a depth
+
+pub fits_difference : (found known others : List ℕ) (n : ℕ) → IsDifference found known others → All (λ b. b < n) found → All (λ b. b < n) others
+fits_difference found known others n differ fits =
+    All-weaker (Contains others) (λ (b : ℕ). b < n) (λ b has. All-contains (λ (c : ℕ). c < n) found b fits ((differ.each b).0 has).0) others (All-contains_itself others)
+
+pub spreads_known : (old now queue_old queue found known others : List ℕ) (depth : ℕ) → AreFound old known → IsDifference found known others → Spreads old now queue_old queue others depth → Spreads old now queue_old queue found depth
+spreads_known old now queue_old queue found known others depth had differ s = record {
+  same_length = s.same_length;
+  more = s.more;
+  grown = s.grown;
+  fresh = λ b has. ((differ.each b).0 (s.fresh b has)).0;
+  deep = s.deep;
+  count = s.count;
+  kept = s.kept;
+  cases = s.cases;
+  all = λ b has. elim (cases_lt 0 (slice_index old b)) [
+    | inl some ↦ omega (arith, s.kept b some, some)
+    | inr none ↦ s.all b ((differ.each b).1 (has, λ in_known. omega (arith, none, had.each b in_known)))
+  ];
+}
+
+pub found_still : (old now queue_old queue found known : List ℕ) (depth : ℕ) → AreFound old known → Spreads old now queue_old queue found depth → AreFound now known
+found_still old now queue_old queue found known depth had s = record { each = λ b has. omega (arith, s.kept b (had.each b has), had.each b has) }
+
+pub found_more : (old now queue_old queue found known both : List ℕ) (depth : ℕ) → AreFound old known → IsUnion known found both → Spreads old now queue_old queue found depth → AreFound now both
+found_more old now queue_old queue found known both depth had joins s = record {
+  each = λ b has. elim ((joins.each b).0 has) [ inl before ↦ (found_still old now queue_old queue found known depth had s).each b before | inr fresh ↦ s.all b fresh ];
 }

@@ -1,5 +1,5 @@
 -- Successors cut to those that lead on to the target.
-use Rattle.std.specs.Prelude.{◌≡◌, ◌⊎◌, ◌≤◌, ◌<◌, ◌-◌, ℕ, Bool, true, false, ◌&&◌, ◌||◌, ◌==◌, not, List, [], ◌∷◌, length, slice_index}
+use Rattle.std.specs.Prelude.{◌≡◌, ◌⊎◌, ◌≤◌, ◌<◌, ◌-◌, ℕ, Bool, true, false, ◌&&◌, ◌||◌, ◌==◌, not, List, [], ◌∷◌, length, slice_index, Contains}
 use Rattle.std.specs.List.{filter}
 use Rattle.walk_enum.specs.Walks.{walks_along}
 use Rattle.walk_enum.specs.Moving.{row_of}
@@ -16,6 +16,12 @@ goes_on depths rows to depth c = (slice_index depths c == depth) && ((c == to) |
 -- whether there is a walk of so many steps to the target
 abbrev pub leads_in : (ℕ → List ℕ) → ℕ → ℕ → ℕ → Bool
 leads_in next to k c = not (is_none (walks_along next c to k))
+
+-- The target, and each node that has successors that lead to it, are in a set or among others. Those others lie no deeper than a depth.
+pub record AreLeading (depths : List ℕ) (kept : List (List ℕ)) (to : ℕ) (set others : List ℕ) (deepest : ℕ) : Type 0 where
+  pub target : Contains set to
+  pub each : (c : ℕ) → is_none (row_of kept c) ≡ false → Contains set c ⊎ Contains others c
+  pub deep : (c : ℕ) → Contains others c → slice_index depths c ≤ deepest
 
 -- The nodes that were asked, from a place of the queue on, have the rows of their successors that lead to the target in as many steps as
 -- are left. No other nodes have rows.

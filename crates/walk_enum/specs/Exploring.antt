@@ -40,6 +40,10 @@ pub record Spreads (old new queue_old queue_new found : List ℕ) (depth : ℕ) 
   pub cases : (b : ℕ) → 1 ≤ slice_index new b → (1 ≤ slice_index old b) ⊎ Contains more b
   pub all : (b : ℕ) → Contains found b → 1 ≤ slice_index new b
 
+-- some nodes have a depth
+pub record AreFound (depths nodes : List ℕ) : Type 0 where
+  pub each : (b : ℕ) → Contains nodes b → 1 ≤ slice_index depths b
+
 -- The search goes on: a node of the queue lies less deep than the target, or the target is not found.
 pub record GoesOn (depths queue : List ℕ) (head to : ℕ) : Type 0 where
   pub more : head < length queue

@@ -2,3 +2,4 @@ pub mod Walks
 pub mod Moving
 pub mod Exploring
 pub mod Cutting
+pub mod Leading

@@ -4,9 +4,10 @@ ghost use Rattle.walk_enum.specs.Walks.{ends_of};
 ghost use Rattle.walk_enum.specs.Exploring.{Explores, IsAtEnd};
 
 use crate::graph::Graph;
-use crate::row::{Row, row_from};
 use crate::spread::{goes_on, spread, zeros};
 use crate::steps::Steps;
+use crate::successors::Successors;
+use pol_bitmap::Set;
 use std::alloc::{AllocError, Global};
 use std::sync::ledger::Ledger;
 
@@ -16,7 +17,7 @@ use std::sync::ledger::Ledger;
 pub struct Found {
     pub depths: Vec<usize>,
     pub queue: Vec<u32>,
-    pub rows: Vec<Row>,
+    pub rows: Vec<Successors>,
 }
 
 /// Asks the nodes that lie less deep than the target, each once.
@@ -42,12 +43,13 @@ pub fn explore<G: Graph, L: Ledger>(
     let mut rows = Vec::new(alloc);
     depths[from as usize] = 1;
     queue.push(from)?;
+    let mut known = Set::empty(alloc)?;
     let mut head = 0;
     'asking: while goes_on(&depths, &queue, head, to) {
         let node = queue[head];
-        let row = successors(alloc, graph, node, steps)?;
+        let row = ask(alloc, graph, node, steps)?;
         let depth = depths[node as usize] + 1;
-        spread(&mut depths, &mut queue, row.as_slice(), depth)?;
+        spread(alloc, &mut depths, &mut queue, &mut known, &row, depth)?;
         rows.push(row)?;
         head += 1;
     }
@@ -58,18 +60,19 @@ pub fn explore<G: Graph, L: Ledger>(
     })
 }
 
-// The successors of a node in a row.
-fn successors<G: Graph, L: Ledger>(
+// The successors of a node. They are many where a set of all nodes has fewer words of 64.
+fn ask<G: Graph, L: Ledger>(
     alloc: Global,
     graph: &G,
     node: u32,
     steps: &mut Steps<L>,
-) -> Result<Row, AllocError>
+) -> Result<Successors, AllocError>
     requires low { 1 ≤ node }
     requires high { node ≤ G.nodes graph.now }
     ensures found { IfOk result (λ row. row ≡ ends_of (G.edge graph.now) (G.nodes graph.now) node) }
     ensures step { steps.new ≡ steps.old + 1 }
 {
+    let many = graph.size() as u64 / 64 + 16;
     let set = graph.succ(alloc, node, steps)?;
-    row_from(alloc, &set)
+    Ok(Successors::new(set, many))
 }

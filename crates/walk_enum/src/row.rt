@@ -1,9 +1,7 @@
 // Rows of nodes, and of numbers of nodes, looked up by a node.
 ghost use Rattle.std.specs.Prelude.{◌≡◌, ℕ, [], IfOk, length, slice_index};
-ghost use Rattle.pol_bitmap.specs.Nodes.{bits_of};
 ghost use Rattle.walk_enum.specs.Moving.{row_of};
 
-use pol_bitmap::Set;
 use std::alloc::{AllocError, Global};
 use std::marker::Model;
 
@@ -65,19 +63,4 @@ pub fn number_at(numbers: &[usize], node: u32) -> usize
         Some(number) => *number,
         None => 0,
     }
-}
-
-/// The members of a set as a row, rising.
-pub fn row_from(alloc: Global, set: &Set) -> Result<Row, AllocError>
-    ensures { IfOk result (λ row. row ≡ bits_of set.now) }
-{
-    let nodes = members_of(alloc, set)?;
-    Ok(Row::new(nodes))
-}
-
-// The members of a set, rising.
-fn members_of(alloc: Global, set: &Set) -> Result<Vec<u32>, AllocError>
-    ensures { IfOk result (λ nodes. nodes.items ≡ bits_of set.now) }
-{
-    set.bits().collect(alloc)
 }

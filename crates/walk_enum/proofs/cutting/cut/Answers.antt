@@ -3,8 +3,9 @@ use Rattle.std.specs.Prelude.{slice_index}
 use Rattle.std.specs.List.{filter}
 use Rattle.std.proofs.lemmas.List.{get_or_default}
 use Rattle.std.proofs.Math.ListN.{length-set}
+use Rattle.pol_bitmap.specs.Nodes.{bits_of}
 use Rattle.walk_enum.specs.Moving.{row_of}
-use Rattle.walk_enum.specs.Cutting.{Cuts, goes_on}
+use Rattle.walk_enum.specs.Cutting.{Cuts, AreLeading, goes_on}
 use Rattle.walk_enum.proofs.Cuts.{cuts_more}
 use Rattle.walk_enum.proofs.cutting.cut.Goals as goal
 
@@ -26,22 +27,20 @@ loop-back-preserved c =
     let a = slice_index queue q in
     let node : c.index-node.result.now ≡ a = c.index-node.ensures ∙ ap (λ (i : ℕ). get_or queue i c.index-node.result.now) at ∙ get_or_default queue q c.index-node.result.now 0 (omega (arith, lt, c.requires.queue)) in
     let within : a < length kept = omega (arith, c.requires.fits q 0 (omega (arith, lt, c.requires.queue)), c.loop-back.invariant.long) in
-    let depth : c.number_at-depth.result ≡ slice_index depths a = c.number_at-depth.ensures ∙ ap (λ (d : List ℕ). slice_index d c.index-node.result.now) c.deref.ensures.value ∙ ap (slice_index depths) node in
-    let row : c.as_slice-row.result.now ≡ row_of rows q = c.as_slice-row.ensures ∙ c.index.ensures ∙ ap (λ (i : ℕ). get_or rows i c.index.result.now) at ∙ get_or_default rows q c.index.result.now [] lt in
-    let made : c.in_ok-cut.cut ≡ filter (goes_on depths kept to (slice_index depths a + 1)) (row_of rows q) =
-    c.in_ok-cut.ensures
-    ∙ ap (λ (d : List ℕ). filter (goes_on d c.deref-in-loop-back-2.result.now to (c.number_at-depth.result + 1)) c.as_slice-row.result.now) c.deref-in-loop-back.ensures.value
-    ∙ ap (λ (k : List (List ℕ)). filter (goes_on depths k to (c.number_at-depth.result + 1)) c.as_slice-row.result.now) c.deref-in-loop-back-2.ensures.value
-    ∙ ap (λ (d : ℕ). filter (goes_on depths kept to (d + 1)) c.as_slice-row.result.now) depth
-    ∙ ap (filter (goes_on depths kept to (slice_index depths a + 1))) row in
+    let row : c.index-row.result.now ≡ row_of rows q = c.index-row.ensures ∙ ap (λ (i : ℕ). get_or rows i c.index-row.result.now) at ∙ get_or_default rows q c.index-row.result.now [] lt in
+    let made : c.cut_node.new.kept.items ≡ set kept a (filter (goes_on depths kept to (slice_index depths a + 1)) (row_of rows q)) =
+    c.in_ok-cut_node.ensures.kept
+    ∙ ap (λ (d : List ℕ). set kept c.index-node.result.now (filter (goes_on d kept to (slice_index d c.index-node.result.now + 1)) c.index-row.result.now)) c.deref.ensures.value
+    ∙ ap (λ (b : ℕ). set kept b (filter (goes_on depths kept to (slice_index depths b + 1)) c.index-row.result.now)) node
+    ∙ ap (λ (r : List ℕ). set kept a (filter (goes_on depths kept to (slice_index depths a + 1)) r)) row in
+    let new = c.cut_node.new.leading in
     record {
-      long = length-set kept c.index-node.result.now c.in_ok-cut.cut ∙ c.loop-back.invariant.long;
+      long = ap length made ∙ length-set kept a (filter (goes_on depths kept to (slice_index depths a + 1)) (row_of rows q)) ∙ c.loop-back.invariant.long;
       cut = λ next nodes from e end some.
           let was : Cuts next to depths queue kept n (suc q) = subst (Cuts next to depths queue kept n) later (c.loop-back.invariant.cut next nodes from e end some) in
-          let is : c.in_ok-cut.cut ≡ filter (goes_on depths kept to (slice_index depths a + 1)) (next a) = made ∙ ap (filter (goes_on depths kept to (slice_index depths a + 1))) (e.asked q lt) in
-          subst (λ (r : List ℕ). Cuts next to depths queue (set kept c.index-node.result.now r) n q) (sym is)
-          (subst (λ (b : ℕ). Cuts next to depths queue (set kept b (filter (goes_on depths kept to (slice_index depths a + 1)) (next a))) n q) (sym node)
-          (cuts_more next nodes from to depths queue rows n e end some kept q lt was within));
+          let is : c.cut_node.new.kept.items ≡ set kept a (filter (goes_on depths kept to (slice_index depths a + 1)) (next a)) = made ∙ ap (λ (r : List ℕ). set kept a (filter (goes_on depths kept to (slice_index depths a + 1)) r)) (e.asked q lt) in
+          subst (λ (k : List (List ℕ)). Cuts next to depths queue k n q) (sym is) (cuts_more next nodes from to depths queue rows n e end some kept q lt was within);
+      leading = subst (λ (d : List ℕ). AreLeading d c.cut_node.new.kept.items to (bits_of new.set) new.others.items new.deepest) c.deref.ensures.value c.in_ok-cut_node.ensures.leading;
     }
 
 pub returns : goal.returns

@@ -1,23 +1,38 @@
-use Rattle.std.proofs.Common.{◌≡◌, ◌+◌, ◌++◌, ◌∷◌, [], List, ℕ, Bool, true, false, cond, take, get_or, sym, ap, ◌∙◌, append-nil}
+use Rattle.std.proofs.Common.{◌≡◌, ◌<◌, List, ℕ, true, false, subst, sym, ◌∙◌}
 use Rattle.std.specs.List.{filter}
-use Rattle.std.proofs.lemmas.List.Elements.{filter_more}
+use Rattle.std.proofs.lemmas.Result.{IfOk-weaker}
+use Rattle.pol_bitmap.specs.Nodes.{bits_of}
+use Rattle.pol_bitmap.specs.Sets.{IsCommon, ShareBit}
 use Rattle.walk_enum.specs.Cutting.{goes_on}
+use Rattle.walk_enum.proofs.Ascending.{Ascends}
+use Rattle.walk_enum.proofs.Gathering.{leads_gathered, goes_on_there, filter_near, filter_apart, set_ascends}
 use Rattle.walk_enum.proofs.cutting.cut_row.Goals as goal
-use Rattle.walk_enum.proofs.cutting.cut_row.Goals.{then-leads_on+in_ok-push, else-leads_on}
 
-pub loop-node-preserved : goal.loop-node-preserved
-loop-node-preserved c =
+pub returns-then-not-meets-clause-row : goal.returns-then-not-meets-clause-row
+returns-then-not-meets-clause-row c =
     let p = goes_on c.args.depths.now c.args.kept.now c.args.to c.args.depth in
     let row = c.args.row.now in
-    let i = c.loop-node.node-index in
-    let x = get_or row i 0 in
-    let so_far = filter p (take i row) in
-    let more : filter p (take (i + 1) row) ≡ so_far ++ cond (p x) (x ∷ []) [] = filter_more p row i 0 c.loop-node-test.true in
-    elim c.if-leads_on.branch [
-      | then-leads_on+in_ok-push w ↦
-          let passes : p x ≡ true = sym c.leads_on.ensures ∙ w.if-leads_on.true in
-          rw (w.nodes-is, w.in_ok-push.ensures.items) (ap (λ (xs : List ℕ). xs ++ x ∷ []) c.loop-node.invariant ∙ ap (λ (b : Bool). so_far ++ cond b (x ∷ []) []) (sym passes) ∙ sym more)
-      | else-leads_on w ↦
-          let fails : p x ≡ false = sym c.leads_on.ensures ∙ w.if-leads_on.false in
-          rw (w.nodes-is) (c.loop-node.invariant ∙ sym (append-nil so_far) ∙ ap (λ (b : Bool). so_far ++ cond b (x ∷ []) []) (sym fails) ∙ sym more)
-    ]
+    let good = bits_of c.gather.new.self.set in
+    let apart : ShareBit row good → ⊥ = λ s. let met : false ≡ true = c.if-not-meets.ensures.1 (subst (λ (l : List ℕ). ShareBit l good) (sym c.as_set-2.ensures.bits) s) in absurd cc in
+    c.new-then-not-meets.ensures ∙ c.new.ensures.items
+    ∙ filter_apart p row good apart (λ n goes. goes_on_there c.args.depths.now c.args.kept.now c.args.to c.args.leading.now c.gather.new.self c.args.depth n c.requires c.in_ok-gather.ensures goes)
+
+pub returns-then-not-meets-clause-leading : goal.returns-then-not-meets-clause-leading
+returns-then-not-meets-clause-leading c = leads_gathered c.args.depths.now c.args.kept.now c.args.to c.args.leading.now c.gather.new.self c.args.depth c.requires c.in_ok-gather.ensures
+
+pub returns-clause-row : goal.returns-clause-row
+returns-clause-row c =
+    let p = goes_on c.args.depths.now c.args.kept.now c.args.to c.args.depth in
+    let row = c.args.row.now in
+    let good = bits_of c.gather.new.self.set in
+    let near = c.in_ok-near.near in
+    let common : IsCommon row good (bits_of near) = subst (λ (l : List ℕ). IsCommon l good (bits_of near)) c.as_set-3.ensures.bits c.in_ok-near.ensures.bits in
+    let up : Ascends ◌<◌ row = subst (Ascends ◌<◌) c.as_set-3.ensures.bits (set_ascends c.as_set-3.result.now c.as_set-3.ensures.form) in
+    let same : filter p (bits_of near) ≡ filter p row =
+    filter_near p row good (bits_of near) up (set_ascends near c.in_ok-near.ensures.form) common
+    (λ n goes. goes_on_there c.args.depths.now c.args.kept.now c.args.to c.args.leading.now c.gather.new.self c.args.depth n c.requires c.in_ok-gather.ensures goes) in
+    IfOk-weaker c.cut_set-2.result (λ r. r ≡ filter p (bits_of near)) (λ r. r ≡ filter p row) (λ r is. is ∙ same) c.cut_set-2.ensures
+
+pub returns-clause-leading : goal.returns-clause-leading
+returns-clause-leading c =
+    IfOk-weaker c.cut_set-2.result _ _ (λ r is. leads_gathered c.args.depths.now c.args.kept.now c.args.to c.args.leading.now c.gather.new.self c.args.depth c.requires c.in_ok-gather.ensures) c.cut_set-2.ensures

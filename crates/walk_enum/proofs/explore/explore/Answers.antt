@@ -4,7 +4,8 @@ use Rattle.std.specs.List.{All}
 use Rattle.std.proofs.lemmas.List.{get_or_default}
 use Rattle.std.proofs.lemmas.List.Elements.{Contains-get_or}
 use Rattle.walk_enum.specs.Walks.{ends_of}
-use Rattle.walk_enum.specs.Exploring.{Explores, GoesOn, Spreads}
+use Rattle.walk_enum.specs.Exploring.{AreFound, Explores, GoesOn, Spreads}
+use Rattle.walk_enum.proofs.Elements.{not_in_nothing}
 use Rattle.walk_enum.proofs.Rows.{ends_fit, ends_fit_at}
 use Rattle.walk_enum.proofs.Exploring.{explores_start, explores_more, queue_small}
 use Rattle.walk_enum.proofs.explore.explore.Goals as goal
@@ -20,11 +21,12 @@ asking-init g c =
     record {
       explores = subst (λ (rs : List (List ℕ)). Explores next nodes c.args.from c.args.to depths c.push.new.self.items rs 0) (sym c.new-rows.ensures.items)
           (subst (λ (q : List ℕ). Explores next nodes c.args.from c.args.to depths q [] 0) (sym queue) (explores_start next nodes c.args.from c.args.to depths c.requires.from_low c.requires.from_high made));
+      known = subst (AreFound depths) (sym c.in_ok-known.ensures.bits) (record { each = λ b has. not_in_nothing b has });
       cost = omega arith;
     }
 
-pub successors-requires-clause-low : goal.successors-requires-clause-low
-successors-requires-clause-low g c =
+pub ask-requires-clause-low : goal.ask-requires-clause-low
+ask-requires-clause-low g c =
     let next = ends_of (g.G.Graph.edge c.args.graph.now) (g.G.Graph.nodes c.args.graph.now) in
     let nodes = g.G.Graph.nodes c.args.graph.now in
     let depths = c.asking.depths.items in
@@ -40,8 +42,8 @@ successors-requires-clause-low g c =
     let r = e.range x (Contains-get_or queue head 0 goes.more) in
     omega (arith, is, r.0)
 
-pub successors-requires-clause-high : goal.successors-requires-clause-high
-successors-requires-clause-high g c =
+pub ask-requires-clause-high : goal.ask-requires-clause-high
+ask-requires-clause-high g c =
     let next = ends_of (g.G.Graph.edge c.args.graph.now) (g.G.Graph.nodes c.args.graph.now) in
     let nodes = g.G.Graph.nodes c.args.graph.now in
     let depths = c.asking.depths.items in
@@ -117,7 +119,7 @@ spread-requires-clause-range g c =
     let head = c.asking.head in
     let e : Explores next nodes c.args.from c.args.to depths queue rows head = c.asking.invariant.explores in
     let small : length queue ≤ nodes = queue_small next nodes c.args.from c.args.to depths queue rows head e in
-    let row : c.as_slice.result.now ≡ next c.index-node.result.now = c.as_slice.ensures ∙ c.in_ok-row.ensures.found in
+    let row : c.in_ok-row.row ≡ next c.index-node.result.now = c.in_ok-row.ensures.found in
     subst (All (λ (b : ℕ). b < length depths)) (sym row) (ends_fit (g.G.Graph.edge c.args.graph.now) nodes c.index-node.result.now (length depths) e.size)
 
 pub returns-in_err-spread-clause-cost : goal.returns-in_err-spread-clause-cost
@@ -180,15 +182,16 @@ asking-preserved g c =
     let within : x < length depths = omega (arith, r.1, e.size) in
     let deep : c.index.result.now ≡ slice_index depths x = c.index.ensures ∙ ap (λ (n : ℕ). get_or depths n c.index.result.now) is ∙ get_or_default depths x c.index.result.now 0 within in
     let row : c.in_ok-row.row ≡ next x = c.in_ok-row.ensures.found ∙ ap next is in
-    let found : c.as_slice.result.now ≡ next x = c.as_slice.ensures ∙ row in
+    let found : c.in_ok-row.row ≡ next x = row in
     let now = c.spread.new.depths.items in
     let queue_new = c.spread.new.queue.items in
     let spreads : Spreads depths now queue queue_new (next x) (slice_index depths x + 1) =
     subst (λ (l : List ℕ). Spreads depths now queue queue_new l (slice_index depths x + 1)) found
-    (subst (λ (n : ℕ). Spreads depths now queue queue_new c.as_slice.result.now (n + 1)) deep c.in_ok-spread.ensures) in
+    (subst (λ (n : ℕ). Spreads depths now queue queue_new c.in_ok-row.row (n + 1)) deep c.in_ok-spread.ensures.spreads) in
     record {
       explores = subst (λ (rs : List (List ℕ)). Explores next nodes c.args.from c.args.to now queue_new rs (head + 1)) (sym (c.in_ok-push-2.ensures.items ∙ ap (λ (v : List ℕ). rows ++ v ∷ []) row))
           (explores_more next nodes c.args.from c.args.to (λ a b has. ends_fit_at (g.G.Graph.edge c.args.graph.now) nodes a b has) depths now queue queue_new rows head e goes spreads);
+      known = c.in_ok-spread.ensures.known;
       cost = omega (arith, c.in_ok-row.ensures.step, c.asking.invariant.cost);
     }
 

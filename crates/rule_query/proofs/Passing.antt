@@ -1,0 +1,73 @@
+-- A query of tests, one for each criterion.
+use Rattle.std.proofs.Common.{◌≡◌, ℕ, zero, suc, ◌+◌, ◌-◌, ◌<◌, ◌≤◌, Bool, true, false, cond, Some, None, List, [], ◌∷◌, ◌++◌, refl, sym, ap, subst, ◌∙◌, add-zero, arith}
+use Rattle.std.specs.Prelude.{slice_get}
+use Rattle.std.specs.List.{All, find, filter, list_all, range_with_len}
+use Rattle.std.proofs.lemmas.List.Elements.{All-nil, All-cons, All-append, filter-append}
+use Rattle.std.proofs.lemmas.List.Folds.{list_all-append}
+use Rattle.pol_file.specs.declared.Parts.{Parts}
+use Rattle.pol_rules.specs.DeclaredRules.{IsDeclaredRule}
+use Rattle.pol_rules.specs.StoredRules.{StoredRule, stored_rules}
+use Rattle.rule_criteria.specs.declared.Criteria.{Criteria}
+use Rattle.rule_query.specs.declared.tests.Test.{Test}
+use Rattle.rule_query.specs.declared.query.Query.{Query}
+use Rattle.rule_query.specs.Given.{Given, in_word_order}
+use Rattle.rule_query.specs.Meeting.{meets, meets_found, meets_given, meets_rule}
+use Rattle.rule_query.specs.Tests.{passes, rule_test}
+use Rattle.rule_query.specs.Resolved.{IsQueryOf, Gains}
+
+-- tests pass the declared rules that meet these criteria
+pub record PassAlike (policy : Parts) (done : List Given) (tests : List Test) : Type 0 where
+  pub tells : (rule : StoredRule) → IsDeclaredRule policy rule → list_all (rule_test policy.symbols rule) tests ≡ list_all (meets_given policy rule) done
+
+pub no_tests : (policy : Parts) → PassAlike policy [] []
+no_tests policy = record { tells = λ rule declared. refl }
+
+-- one more
+pub one_test : (policy : Parts) (done : List Given) (given : Given) (old new : List Test) → PassAlike policy done old → Gains policy given old new → PassAlike policy (done ++ given ∷ []) new
+one_test policy done given old new alike gains = record {
+  tells = λ rule declared.
+      let p = rule_test policy.symbols rule in
+      let q = meets_given policy rule in
+      ap (list_all p) gains.added ∙ list_all-append p old (gains.test ∷ [])
+      ∙ rw (alike.tells rule declared, gains.right.tells rule declared) refl
+      ∙ sym (list_all-append q done (given ∷ []));
+}
+
+-- all of them
+pub query_is : (policy : Parts) (criteria : Criteria) (query : Query) → query.kinds ≡ criteria.kinds → PassAlike policy (in_word_order criteria) query.tests.items → IsQueryOf policy criteria query
+unfolding meets_rule
+query_is policy criteria query kinds alike = record { tells = λ rule declared. rw (kinds, alike.tells rule declared) refl }
+
+-- ---- by numbers of rules
+
+pub meets_at : (policy : Parts) (criteria : Criteria) (query : Query) (rule : StoredRule) (n : ℕ) (r : Bool) → IsQueryOf policy criteria query → IsDeclaredRule policy rule → slice_get (stored_rules policy) n ≡ Some rule → r ≡ passes policy.symbols query rule → r ≡ meets policy criteria n
+unfolding meets
+meets_at policy criteria query rule n r is declared at e = e ∙ is.tells rule declared ∙ sym (ap (meets_found policy criteria) at)
+
+-- the first number that passes, from one on
+pub first_here : (p : ℕ → Bool) (n count : ℕ) → n < count → p n ≡ true → find p (range_with_len n (count - n)) ≡ Some n
+first_here p n count lt e = let s : count - n ≡ suc (count - n - 1) = omega arith in rw (s, e) refl
+
+pub first_later : (p : ℕ → Bool) (n count : ℕ) → n < count → p n ≡ false → find p (range_with_len n (count - n)) ≡ find p (range_with_len (n + 1) (count - (n + 1)))
+first_later p n count lt e = let s : count - n ≡ suc (count - (n + 1)) = omega arith in rw (s, e) refl
+
+pub none_left : (p : ℕ → Bool) (n count : ℕ) → count ≤ n → find p (range_with_len n (count - n)) ≡ None
+none_left p n count le = let s : count - n ≡ 0 = omega arith in rw s refl
+
+-- one number more
+range_more : (a n : ℕ) → range_with_len a (n + 1) ≡ range_with_len a n ++ (a + n) ∷ []
+range_more a zero = rw add-zero refl
+range_more a (suc n) = let e : a + 1 + n ≡ a + suc n = omega arith in
+    let s : suc n + 1 ≡ suc (n + 1) = omega arith in
+    rw s (ap (λ (xs : List ℕ). a ∷ xs) (range_more (a + 1) n ∙ ap (λ (x : ℕ). range_with_len (a + 1) n ++ x ∷ []) e))
+
+pub kept_more : (p : ℕ → Bool) (n : ℕ) → filter p (range_with_len 0 (n + 1)) ≡ filter p (range_with_len 0 n) ++ cond (p n) (n ∷ []) []
+kept_more p n = let e : 0 + n ≡ n = omega arith in
+    ap (filter p) (range_more 0 n) ∙ filter-append p (range_with_len 0 n) ((0 + n) ∷ []) ∙ ap (λ (x : ℕ). filter p (range_with_len 0 n) ++ cond (p x) (x ∷ []) []) e
+
+pub kept_next : (p : ℕ → Bool) (n : ℕ) (had has : List ℕ) (b : Bool) → had ≡ filter p (range_with_len 0 n) → has ≡ had ++ cond b (n ∷ []) [] → b ≡ p n → has ≡ filter p (range_with_len 0 (n + 1))
+kept_next p n had has b so_far added is = added ∙ ap (λ (xs : List ℕ). xs ++ cond b (n ∷ []) []) so_far ∙ ap (λ (c : Bool). filter p (range_with_len 0 n) ++ cond c (n ∷ []) []) is ∙ sym (kept_more p n)
+
+pub rules_next : (count n : ℕ) (had has : List ℕ) (b : Bool) → n < count → All (λ m. m < count) had → has ≡ had ++ cond b (n ∷ []) [] → All (λ m. m < count) has
+rules_next count n had has true lt all added = subst (λ (xs : List ℕ). All (λ m. m < count) xs) (sym added) (All-append (λ (m : ℕ). m < count) had (n ∷ []) all (All-cons (λ (m : ℕ). m < count) n [] lt (All-nil (λ (m : ℕ). m < count))))
+rules_next count n had has false lt all added = subst (λ (xs : List ℕ). All (λ m. m < count) xs) (sym added) (All-append (λ (m : ℕ). m < count) had [] all (All-nil (λ (m : ℕ). m < count)))

@@ -1,0 +1,7 @@
+use Rattle.std.proofs.Common.{map, take}
+use Rattle.rule_query.specs.Given.{shown}
+use Rattle.rule_query.proofs.Resolvings.{LookedUp}
+use Rattle.rule_query.proofs.resolving.resolve.Given as goal
+
+abbrev pub invariant-loop-given : goal.invariant-loop-given
+invariant-loop-given g l = LookedUp l.policy l.criteria (g.P.Patterns.asked l.fn.patterns) (g.P.Patterns.asked l.patterns) (g.P.Patterns.refusals l.fn.patterns) (g.P.Patterns.refusals l.patterns) (map shown (take l.given-index l.given-items)) l.tests.items

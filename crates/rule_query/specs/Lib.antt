@@ -1,0 +1,10 @@
+pub mod Given
+pub mod Ends
+pub mod Permissions
+pub mod Numbers
+pub mod Listed
+pub mod Meeting
+pub mod Refusals
+pub mod Tests
+pub mod Resolved
+pub mod Resolving

@@ -1,0 +1,115 @@
+-- Which criteria are refused by their names and numbers: each name has to be there in every table in which it is looked up, and each number
+-- has to be one. Which tables these are depends on the kinds of rules that are asked (this project's own).
+use Rattle.std.specs.Prelude.{ℕ, Bool, true, false, not, ◌&&◌, ◌||◌, Option, Some, None, List, [], ◌∷◌, is_some, map, if◌then◌else◌}
+use Rattle.std.specs.List.{list_any, list_all, filter}
+use Rattle.pol_cursor.specs.declared.TableKind.{TableKind}
+use Rattle.pol_cursor.specs.declared.TableKind.TheVariants.{Classes, Roles, Types, Booleans}
+use Rattle.pol_commons.specs.declared.PermissionRec.{PermissionRec}
+use Rattle.pol_symbols.specs.PolicySymbols.{value_in}
+use Rattle.pol_symbols.specs.declared.Symbols.{Symbols}
+use Rattle.pol_rules.specs.declared.RuleKind.{RuleKind}
+use Rattle.pol_rules.specs.declared.RuleKind.TheVariants.{Allow, Auditallow, Dontaudit, AllowXperm, AuditallowXperm, DontauditXperm, TypeTransition, TypeChange, TypeMember, RoleAllow, RoleTransition, RangeTransition}
+use Rattle.rule_criteria.specs.Elements.{elements_of}
+use Rattle.rule_criteria.specs.Modes.{is_pattern}
+use Rattle.rule_query.specs.declared.given.Aspect.{Aspect}
+use Rattle.rule_query.specs.declared.given.Aspect.TheVariants as aspects
+use Rattle.rule_query.specs.declared.refusing.Refusal.{Refusal}
+use Rattle.rule_query.specs.declared.refusing.Refusal.TheVariants.{NotThere, NoNumber}
+use Rattle.rule_query.specs.Given.{Given}
+use Rattle.rule_query.specs.Meeting.{is_kind_asked}
+use Rattle.rule_query.specs.Permissions.{is_among}
+use Rattle.rule_query.specs.Numbers.{span_of}
+
+-- ---- the kinds that are asked
+
+abbrev pub is_any_asked : List Bool → List RuleKind → Bool
+is_any_asked kinds some = list_any (is_kind_asked kinds) some
+
+-- the kinds whose sources are types, and those whose sources are roles
+abbrev pub type_sources : List RuleKind
+type_sources = Allow ∷ Auditallow ∷ Dontaudit ∷ AllowXperm ∷ AuditallowXperm ∷ DontauditXperm ∷ TypeTransition ∷ TypeChange ∷ TypeMember ∷ RangeTransition ∷ []
+
+abbrev pub role_sources : List RuleKind
+role_sources = RoleAllow ∷ RoleTransition ∷ []
+
+-- the same of their targets
+abbrev pub type_targets : List RuleKind
+type_targets = Allow ∷ Auditallow ∷ Dontaudit ∷ AllowXperm ∷ AuditallowXperm ∷ DontauditXperm ∷ TypeTransition ∷ TypeChange ∷ TypeMember ∷ RoleTransition ∷ RangeTransition ∷ []
+
+abbrev pub role_targets : List RuleKind
+role_targets = RoleAllow ∷ []
+
+-- and of their defaults
+abbrev pub type_defaults : List RuleKind
+type_defaults = TypeTransition ∷ TypeChange ∷ TypeMember ∷ []
+
+abbrev pub role_defaults : List RuleKind
+role_defaults = RoleTransition ∷ []
+
+-- ---- names
+
+-- a table has no record of the name
+abbrev pub is_missing : Symbols → TableKind → List ℕ → Bool
+is_missing symbols table name = not (is_some (value_in symbols table name))
+
+-- A name is looked up in types where a kind is asked for which it is one, in roles alike, and is missing in one of them.
+abbrev pub is_end_missing : Symbols → List Bool → List RuleKind → List RuleKind → List ℕ → Bool
+is_end_missing symbols kinds of_types of_roles name = is_any_asked kinds of_types && is_missing symbols Types name || is_any_asked kinds of_roles && is_missing symbols Roles name
+
+-- a permission of the name is among some
+abbrev pub is_permission_of : List PermissionRec → List ℕ → Bool
+is_permission_of permissions name = is_among (map (λ permission. permission.name) permissions) name
+
+-- a class or a common has a permission of the name
+abbrev pub is_permission : Symbols → List ℕ → Bool
+is_permission symbols name = list_any (λ class. is_permission_of class.value.permissions name) symbols.classes.records || list_any (λ common. is_permission_of common.value.permissions name) symbols.commons.records
+
+-- ---- refusals
+
+-- criteria of permissions and of numbers are no patterns
+abbrev pub may_be_pattern : Aspect → Bool
+may_be_pattern aspects.Permissions = false
+may_be_pattern aspects.Numbers = false
+may_be_pattern other = true
+
+abbrev pub is_pattern_word : Given → Bool
+is_pattern_word given = may_be_pattern given.aspect && is_pattern given.criterion.mode
+
+abbrev pub refuse_if : Bool → Refusal → Option Refusal
+refuse_if test refusal = if test then Some refusal else None
+
+-- that of a criterion that is no pattern
+abbrev pub refusal_of_names : Symbols → List Bool → Aspect → List ℕ → Option Refusal
+refusal_of_names symbols kinds aspects.Source text = refuse_if (is_end_missing symbols kinds type_sources role_sources text) NotThere
+refusal_of_names symbols kinds aspects.Target text = refuse_if (is_end_missing symbols kinds type_targets role_targets text) NotThere
+refusal_of_names symbols kinds aspects.Class text = refuse_if (list_any (is_missing symbols Classes) (elements_of text)) NotThere
+refusal_of_names symbols kinds aspects.Permissions text = refuse_if (not (list_all (is_permission symbols) (elements_of text))) NotThere
+refusal_of_names symbols kinds aspects.Numbers text = refuse_if (not (list_all (λ element. is_some (span_of element)) (elements_of text))) NoNumber
+refusal_of_names symbols kinds aspects.Default text = refuse_if (is_end_missing symbols kinds type_defaults role_defaults text) NotThere
+refusal_of_names symbols kinds aspects.Booleans text = refuse_if (list_any (is_missing symbols Booleans) (elements_of text)) NotThere
+
+-- a pattern is not refused so
+unfoldable pub refusal_of : Symbols → List Bool → Given → Option Refusal
+refusal_of symbols kinds given = if is_pattern_word given then None else refusal_of_names symbols kinds given.aspect given.criterion.text
+
+-- ---- the first refusal
+
+-- a word that is refused, and why
+pub record RefusedWord : Type 0 where
+  pub word : ℕ
+  pub refusal : Refusal
+
+abbrev pub refused_at : ℕ → Option Refusal → Option RefusedWord → Option RefusedWord
+refused_at word None others = others
+refused_at word (Some refusal) others = Some (record { word = word; refusal = refusal })
+
+-- the first of them that is refused by its names or numbers
+abbrev pub first_refused : Symbols → List Bool → List Given → Option RefusedWord
+first_refused symbols kinds [] = None
+first_refused symbols kinds (given ∷ others) = refused_at given.criterion.word (refusal_of symbols kinds given) (first_refused symbols kinds others)
+
+-- ---- patterns
+
+-- the texts of the pattern words
+abbrev pub pattern_texts : List Given → List (List ℕ)
+pattern_texts all = map (λ given. given.criterion.text) (filter is_pattern_word all)

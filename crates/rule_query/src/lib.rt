@@ -1,0 +1,27 @@
+//! Which stored rules of a policy meet what a search asks for.
+//!
+//! The names, numbers and patterns of the criteria are looked up once ([`resolve`]), and what they mean is kept as sets of values, so
+//! that a rule is compared by look-ups of numbers alone ([`Query`]).
+#![tactic(auto)]
+
+mod class_bits;
+mod elements;
+mod ends;
+mod given;
+mod kinds;
+mod listed;
+mod number_test;
+mod permission_test;
+mod pushing;
+mod query;
+mod refusing;
+mod resolving;
+mod spans;
+mod test_making;
+mod tests;
+mod text_numbers;
+
+pub use given::Aspect;
+pub use query::Query;
+pub use refusing::Refusal;
+pub use resolving::{QueryError, resolve};

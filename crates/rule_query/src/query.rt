@@ -1,0 +1,83 @@
+ghost use Rattle.std.specs.Prelude.{◌≡◌, ◌<◌, ◌-◌, IfOk, length, ℕ};
+ghost use Rattle.std.specs.List.{find, list_all, range_with_len};
+ghost use Rattle.pol_rules.specs.StoredRules.{stored, stored_rules};
+ghost use Rattle.rule_order.specs.ListedOrder.{AreRules, in_rule_order};
+ghost use Rattle.rule_criteria.specs.declared.Criteria.{Criteria};
+ghost use Rattle.rule_query.specs.Meeting.{meets, meeting};
+ghost use Rattle.rule_query.specs.Resolved.{IsQueryOf};
+ghost use Rattle.rule_query.specs.Tests.{passes, rule_test};
+
+use crate::kinds::is_kind_asked;
+use crate::pushing::push_if;
+use crate::tests::Test;
+use pol_read::{Policy, Rule};
+use pol_symbols::Symbols;
+use rule_order::sort_by_rule_order;
+use std::alloc::{AllocError, Global};
+
+/// Criteria that were looked up in a policy: the kinds of rules that are asked, and what meets each criterion, by sets of values.
+#[derive(Drop)]
+pub struct Query {
+    pub(crate) kinds: [bool; 12],
+    pub(crate) tests: Vec<Test>,
+}
+
+impl Query {
+    /// Whether the stored rule of that number meets the criteria of the query, in the policy in which they were looked up. Takes no
+    /// memory.
+    #[tactic(auto, using(crate::proofs::Passing::meets_at))]
+    pub fn meets(&self, policy: &Policy<'_>, n: u32) -> bool
+        requires { n < length (stored_rules policy.now) }
+        ensures { (criteria : Criteria) → IsQueryOf policy.now criteria self.now → result ≡ meets policy.now criteria n }
+    {
+        self.passes(policy.symbols(), &policy.rule(n))
+    }
+
+    // Whether a rule is of a kind that is asked, and passes all tests.
+    fn passes(&self, symbols: &Symbols<'_>, rule: &Rule<'_>) -> bool
+        ensures { result ≡ passes symbols.now self.now (stored rule.now) }
+    {
+        is_kind_asked(&self.kinds, rule.kind) && all_pass(&self.tests, symbols, rule)
+    }
+
+    /// The least number of a stored rule, at or above a number, that meets the criteria. `None` exactly where there is none. Takes no
+    /// memory.
+    pub fn next_match(&self, policy: &Policy<'_>, from: u32) -> Option<u32>
+        ensures { (criteria : Criteria) → IsQueryOf policy.now criteria self.now → result ≡ find (meets policy.now criteria) (range_with_len from (length (stored_rules policy.now) - from)) }
+    {
+        for n in from..policy.rule_count() {
+            if self.meets(policy, n) {
+                return Some(n);
+            }
+        }
+        None
+    }
+
+    /// The numbers of all stored rules that meet the criteria, in the order in which rules are listed.
+    pub fn sorted(&self, alloc: Global, policy: &Policy<'_>) -> Result<Vec<u32>, AllocError>
+        ensures { (criteria : Criteria) → IsQueryOf policy.now criteria self.now → IfOk result (λ numbers. numbers.items ≡ in_rule_order policy.now (meeting policy.now criteria)) }
+    {
+        let numbers = self.meeting(alloc, policy)?;
+        sort_by_rule_order(alloc, policy, &numbers)
+    }
+
+    // The same, rising.
+    fn meeting(&self, alloc: Global, policy: &Policy<'_>) -> Result<Vec<u32>, AllocError>
+        ensures meeting { (criteria : Criteria) → IsQueryOf policy.now criteria self.now → IfOk result (λ numbers. numbers.items ≡ meeting policy.now criteria) }
+        ensures rules { IfOk result (λ numbers. AreRules policy.now numbers.items) }
+    {
+        let mut numbers = Vec::new(alloc);
+        for n in 0..policy.rule_count() {
+            let meets = self.meets(policy, n);
+            push_if(&mut numbers, n, meets)?;
+        }
+        Ok(numbers)
+    }
+}
+
+// Whether a rule passes all tests.
+fn all_pass(tests: &[Test], symbols: &Symbols<'_>, rule: &Rule<'_>) -> bool
+    ensures { result ≡ list_all (rule_test symbols.now (stored rule.now)) tests.now }
+{
+    tests.iter().all(|test| test.passes(symbols, rule))
+}

@@ -1,0 +1,231 @@
+// Which criteria are refused by their names and numbers.
+ghost use Rattle.std.specs.Prelude.{◌≡◌, IfOk, is_some};
+ghost use Rattle.std.specs.List.{list_all, list_any};
+ghost use Rattle.rule_query.specs.Given.{shown};
+ghost use Rattle.rule_query.specs.Numbers.{span_of};
+ghost use Rattle.rule_query.specs.Refusals.{is_end_missing, is_missing, is_pattern_word, is_permission, is_permission_of, may_be_pattern, refusal_of, refusal_of_names, refuse_if};
+
+use crate::elements::elements;
+use crate::given::{Aspect, GivenCriterion};
+use crate::kinds::is_any_asked;
+use crate::text_numbers::span_of;
+use pol_cursor::TableKind;
+use pol_read::RuleKind;
+use pol_symbols::Symbols;
+use std::alloc::{AllocError, Global};
+
+/// Why a criterion is refused.
+#[derive(Clone, Copy, Debug, PartialEq, Eq)]
+pub enum Refusal {
+    /// A name is not there.
+    NotThere,
+    /// An element is no number and no range.
+    NoNumber,
+}
+
+// The kinds whose sources, targets and defaults are types, and those where they are roles.
+const TYPE_SOURCES: [RuleKind; 10] = [
+    RuleKind::Allow,
+    RuleKind::Auditallow,
+    RuleKind::Dontaudit,
+    RuleKind::AllowXperm,
+    RuleKind::AuditallowXperm,
+    RuleKind::DontauditXperm,
+    RuleKind::TypeTransition,
+    RuleKind::TypeChange,
+    RuleKind::TypeMember,
+    RuleKind::RangeTransition,
+];
+
+const ROLE_SOURCES: [RuleKind; 2] = [RuleKind::RoleAllow, RuleKind::RoleTransition];
+
+const TYPE_TARGETS: [RuleKind; 11] = [
+    RuleKind::Allow,
+    RuleKind::Auditallow,
+    RuleKind::Dontaudit,
+    RuleKind::AllowXperm,
+    RuleKind::AuditallowXperm,
+    RuleKind::DontauditXperm,
+    RuleKind::TypeTransition,
+    RuleKind::TypeChange,
+    RuleKind::TypeMember,
+    RuleKind::RoleTransition,
+    RuleKind::RangeTransition,
+];
+
+const ROLE_TARGETS: [RuleKind; 1] = [RuleKind::RoleAllow];
+
+const TYPE_DEFAULTS: [RuleKind; 3] = [
+    RuleKind::TypeTransition,
+    RuleKind::TypeChange,
+    RuleKind::TypeMember,
+];
+
+const ROLE_DEFAULTS: [RuleKind; 1] = [RuleKind::RoleTransition];
+
+/// Why a criterion that is given is refused, if it is. A pattern is not refused here.
+#[tactic(auto, unfolding(crate::specs::Refusals::refusal_of))]
+pub fn refusal_of(
+    alloc: Global,
+    symbols: &Symbols<'_>,
+    kinds: &[bool; 12],
+    given: &GivenCriterion<'_>,
+) -> Result<Option<Refusal>, AllocError>
+    ensures { IfOk result (λ refusal. refusal ≡ refusal_of symbols.now kinds.now (shown given.now)) }
+{
+    if is_pattern_word(given) {
+        return Ok(None);
+    }
+    let text = given.criterion.text.as_str().as_bytes();
+    refusal_of_names(alloc, symbols, kinds, given.aspect, text)
+}
+
+/// Whether a criterion is a pattern.
+pub fn is_pattern_word(given: &GivenCriterion<'_>) -> bool
+    ensures { result ≡ is_pattern_word (shown given.now) }
+{
+    may_be_pattern(given.aspect) && given.criterion.mode.is_pattern()
+}
+
+// Whether criteria of a part of rules may be patterns.
+fn may_be_pattern(aspect: Aspect) -> bool
+    ensures { result ≡ may_be_pattern aspect }
+{
+    match aspect {
+        Aspect::Permissions | Aspect::Numbers => false,
+        _ => true,
+    }
+}
+
+// Why a criterion that is no pattern is refused.
+fn refusal_of_names(
+    alloc: Global,
+    symbols: &Symbols<'_>,
+    kinds: &[bool; 12],
+    aspect: Aspect,
+    text: &[u8],
+) -> Result<Option<Refusal>, AllocError>
+    ensures { IfOk result (λ refusal. refusal ≡ refusal_of_names symbols.now kinds.now aspect text.now) }
+{
+    match aspect {
+        Aspect::Source => Ok(refuse_if(
+            is_end_missing(symbols, kinds, &TYPE_SOURCES, &ROLE_SOURCES, text),
+            Refusal::NotThere,
+        )),
+        Aspect::Target => Ok(refuse_if(
+            is_end_missing(symbols, kinds, &TYPE_TARGETS, &ROLE_TARGETS, text),
+            Refusal::NotThere,
+        )),
+        Aspect::Default => Ok(refuse_if(
+            is_end_missing(symbols, kinds, &TYPE_DEFAULTS, &ROLE_DEFAULTS, text),
+            Refusal::NotThere,
+        )),
+        Aspect::Class => {
+            let names = elements(alloc, text)?;
+            Ok(refuse_if(
+                is_any_missing(symbols, TableKind::Classes, &names),
+                Refusal::NotThere,
+            ))
+        }
+        Aspect::Booleans => {
+            let names = elements(alloc, text)?;
+            Ok(refuse_if(
+                is_any_missing(symbols, TableKind::Booleans, &names),
+                Refusal::NotThere,
+            ))
+        }
+        Aspect::Permissions => {
+            let names = elements(alloc, text)?;
+            Ok(refuse_if(!are_permissions(symbols, &names), Refusal::NotThere))
+        }
+        Aspect::Numbers => {
+            let names = elements(alloc, text)?;
+            Ok(refuse_if(!are_spans(&names), Refusal::NoNumber))
+        }
+    }
+}
+
+fn refuse_if(test: bool, refusal: Refusal) -> Option<Refusal>
+    ensures { result ≡ refuse_if test refusal }
+{
+    if test { Some(refusal) } else { None }
+}
+
+// ---- names of types and roles
+
+// Whether a table has no record of a name.
+fn is_missing(symbols: &Symbols<'_>, table: TableKind, name: &[u8]) -> bool
+    ensures { result ≡ is_missing symbols.now table name.now }
+{
+    symbols.by_name(table, name).is_none()
+}
+
+// Whether a name is missing in one of the tables in which it is looked up.
+fn is_end_missing(
+    symbols: &Symbols<'_>,
+    kinds: &[bool; 12],
+    of_types: &[RuleKind],
+    of_roles: &[RuleKind],
+    name: &[u8],
+) -> bool
+    ensures { result ≡ is_end_missing symbols.now kinds.now of_types.now of_roles.now name.now }
+{
+    is_any_asked(kinds, of_types) && is_missing(symbols, TableKind::Types, name)
+        || is_any_asked(kinds, of_roles) && is_missing(symbols, TableKind::Roles, name)
+}
+
+// ---- lists
+
+// Whether one of some names is missing in a table.
+fn is_any_missing(symbols: &Symbols<'_>, table: TableKind, names: &[&[u8]]) -> bool
+    ensures { result ≡ list_any (λ name. is_missing symbols.now table name.now) names.now }
+{
+    names.iter().any(|name| is_missing(symbols, table, name))
+}
+
+// Whether each of some names is that of a permission.
+fn are_permissions(symbols: &Symbols<'_>, names: &[&[u8]]) -> bool
+    ensures { result ≡ list_all (λ name. is_permission symbols.now name.now) names.now }
+{
+    names.iter().all(|name| is_permission(symbols, name))
+}
+
+// Whether a class or a common has a permission of a name.
+fn is_permission(symbols: &Symbols<'_>, name: &[u8]) -> bool
+    ensures { result ≡ is_permission symbols.now name.now }
+{
+    is_class_permission(symbols, name) || is_common_permission(symbols, name)
+}
+
+// Whether a class has one of its own.
+#[tactic(auto, using(crate::proofs::ListTests::none_more, crate::proofs::ListTests::one_at, crate::proofs::ListTests::none_all))]
+fn is_class_permission(symbols: &Symbols<'_>, name: &[u8]) -> bool
+    ensures { result ≡ list_any (λ class. is_permission_of class.value.permissions name.now) symbols.now.classes.records }
+{
+    for i in 0..symbols.classes.len() {
+        if symbols.classes.view(i).permissions().has_name(name) {
+            return true;
+        }
+    }
+    false
+}
+
+// Whether a common has one.
+#[tactic(auto, using(crate::proofs::ListTests::none_more, crate::proofs::ListTests::one_at, crate::proofs::ListTests::none_all))]
+fn is_common_permission(symbols: &Symbols<'_>, name: &[u8]) -> bool
+    ensures { result ≡ list_any (λ common. is_permission_of common.value.permissions name.now) symbols.now.commons.records }
+{
+    for i in 0..symbols.commons.len() {
+        if symbols.commons.view(i).permissions().has_name(name) {
+            return true;
+        }
+    }
+    false
+}
+
+// Whether each of some elements is a number or a range.
+fn are_spans(elements: &[&[u8]]) -> bool
+    ensures { result ≡ list_all (λ element. is_some (span_of element.now)) elements.now }
+{
+    elements.iter().all(|element| span_of(element).is_some())
+}

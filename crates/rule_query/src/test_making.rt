@@ -1,0 +1,51 @@
+// The test of a criterion.
+ghost use Rattle.std.specs.Prelude.{◌≡◌, IfOk};
+ghost use Rattle.pol_expand.specs.PolicyMap.{IsPolicyMap};
+ghost use Rattle.rule_query.specs.Given.{shown};
+ghost use Rattle.rule_query.specs.Tests.{HasPatternWord};
+ghost use Rattle.rule_query.specs.Resolved.{IsTestOf};
+
+use crate::ends::{defaults, ends_of};
+use crate::given::{Aspect, GivenCriterion};
+use crate::listed::{listed, nodes};
+use crate::number_test::NumberTest;
+use crate::permission_test::PermissionTest;
+use crate::tests::Test;
+use pol_cursor::TableKind;
+use pol_expand::TypeMap;
+use pol_read::Policy;
+use regex::Regex;
+use std::alloc::{AllocError, Global};
+
+/// What meets a criterion, whose pattern was built if it is one.
+pub fn test_of(
+    alloc: Global,
+    policy: &Policy<'_>,
+    types: &TypeMap,
+    given: &GivenCriterion<'_>,
+    pattern: &Option<Regex>,
+) -> Result<Test, AllocError>
+    requires map { IsPolicyMap policy.now types.now }
+    requires pattern { HasPatternWord (shown given.now) pattern.now }
+    ensures { IfOk result (IsTestOf policy.now (shown given.now)) }
+{
+    let symbols = policy.symbols();
+    let criterion = given.criterion;
+    match given.aspect {
+        Aspect::Source => Ok(Test::Source(ends_of(alloc, policy, types, criterion, pattern)?)),
+        Aspect::Target => Ok(Test::Target(ends_of(alloc, policy, types, criterion, pattern)?)),
+        Aspect::Class => Ok(Test::Class(listed(
+            alloc,
+            symbols,
+            TableKind::Classes,
+            criterion,
+            pattern,
+        )?)),
+        Aspect::Permissions => Ok(Test::Permissions(PermissionTest::of(
+            alloc, symbols, criterion,
+        )?)),
+        Aspect::Numbers => Ok(Test::Numbers(NumberTest::of(alloc, criterion)?)),
+        Aspect::Default => Ok(Test::Default(defaults(alloc, symbols, criterion, pattern)?)),
+        Aspect::Booleans => Ok(Test::Condition(nodes(alloc, policy, criterion, pattern)?)),
+    }
+}

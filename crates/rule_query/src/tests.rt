@@ -1,0 +1,84 @@
+// What a rule is compared with, criterion by criterion.
+ghost use Rattle.std.specs.Prelude.{◌≡◌};
+ghost use Rattle.pol_rules.specs.DeclaredRules.{default_table};
+ghost use Rattle.pol_rules.specs.StoredRules.{stored};
+ghost use Rattle.rule_query.specs.Tests.{class_test, condition_test, default_test, rule_test};
+
+use crate::ends::{Ends, has_value};
+use crate::number_test::NumberTest;
+use crate::permission_test::PermissionTest;
+use pol_bitmap::Set;
+use pol_cursor::TableKind;
+use pol_read::{Condition, Rule, RuleKind, RulePart};
+use pol_symbols::Symbols;
+use rule_order::{table_of_source, table_of_target};
+
+/// What meets a criterion, by values and numbers.
+#[derive(Drop)]
+pub enum Test {
+    Source(Ends),
+    Target(Ends),
+    Class(Set),
+    Permissions(PermissionTest),
+    Numbers(NumberTest),
+    Default(Ends),
+    /// Numbers of conditional nodes.
+    Condition(Set),
+}
+
+impl Test {
+    /// Whether a rule passes. Takes no memory.
+    pub fn passes(&self, symbols: &Symbols<'_>, rule: &Rule<'_>) -> bool
+        ensures { result ≡ rule_test symbols.now (stored rule.now) self.now }
+    {
+        match self {
+            Test::Source(ends) => ends.has(table_of_source(rule.kind), rule.source),
+            Test::Target(ends) => ends.has(table_of_target(rule.kind), rule.target),
+            Test::Class(classes) => has_class(classes, rule.kind, rule.class),
+            Test::Permissions(test) => test.meets(symbols, rule.class, &rule.part),
+            Test::Numbers(test) => test.meets(&rule.part),
+            Test::Default(ends) => has_default(ends, rule.kind, &rule.part),
+            Test::Condition(nodes) => is_under(nodes, rule.condition),
+        }
+    }
+}
+
+// Whether the class of a rule is one of these. A role allow has none.
+fn has_class(classes: &Set, kind: RuleKind, class: u32) -> bool
+    ensures { result ≡ class_test classes.now kind class }
+{
+    match kind {
+        RuleKind::RoleAllow => false,
+        _ => has_value(classes, class),
+    }
+}
+
+// Whether the default of a rule is, where it has one.
+fn has_default(ends: &Ends, kind: RuleKind, part: &RulePart<'_>) -> bool
+    ensures { result ≡ default_test ends.now kind part.now }
+{
+    match part {
+        RulePart::Default(value) => ends.has(table_of_default(kind), *value),
+        _ => false,
+    }
+}
+
+// The table that declares the defaults of the rules of a kind.
+fn table_of_default(kind: RuleKind) -> TableKind
+    ensures { result ≡ default_table kind }
+{
+    match kind {
+        RuleKind::RoleTransition => TableKind::Roles,
+        _ => TableKind::Types,
+    }
+}
+
+// Whether a rule is under one of these nodes.
+fn is_under(nodes: &Set, condition: Option<Condition>) -> bool
+    ensures { result ≡ condition_test nodes.now condition }
+{
+    match condition {
+        Some(condition) => has_value(nodes, condition.node),
+        None => false,
+    }
+}
