@@ -1,5 +1,5 @@
 -- Lines as the code holds them.
-use Rattle.std.specs.Prelude.{◌≡◌, ℕ, List, [], ◌∷◌, Result, Ok, Err}
+use Rattle.std.specs.Prelude.{◌≡◌, [], ◌∷◌, Result, Ok, Err}
 use Rattle.perm_map.specs.declared.rows.Row.{Row as RowCode}
 use Rattle.perm_map.specs.declared.lines.ClassLine.{ClassLine as ClassLineCode}
 use Rattle.perm_map.specs.declared.lines.PermissionLine.{PermissionLine as PermissionLineCode}

@@ -1,10 +1,10 @@
 -- The ends of rules whose ends are types or attributes.
-use Rattle.std.proofs.Common.{◌≡◌, ℕ, ◌+◌, ◌<◌, ◌≤◌, Bool, true, false, cond, List, [], ◌∷◌, ◌++◌, Option, Some, None, length, slice_get, refl, sym, ap, subst, ◌∙◌, inl, inr, arith}
-use Rattle.std.specs.Prelude.{◌==◌, ◌&&◌, ◌||◌, ◌%◌, is_some, option_map, slice_index, if◌then◌else◌}
-use Rattle.std.specs.List.{All, Contains, find}
-use Rattle.std.proofs.lemmas.Bool.{false≢true, cases_eq, eq-eqb, eqb-true, and_parts, and_from, cond_both}
+use Rattle.std.proofs.Common.{◌≡◌, ℕ, ◌+◌, ◌<◌, Bool, true, false, cond, List, [], ◌∷◌, ◌++◌, Option, Some, None, length, slice_get, refl, sym, ap, subst, ◌∙◌, inl, inr, arith}
+use Rattle.std.specs.Prelude.{◌==◌, ◌||◌, ◌%◌, is_some, option_map, slice_index, if◌then◌else◌}
+use Rattle.std.specs.List.{All, find}
+use Rattle.std.proofs.lemmas.Bool.{false≢true, cases_eq, eq-eqb, eqb-true, and_parts, and_from}
 use Rattle.std.proofs.lemmas.List.{length_push, get_or_push, get_or_append_left}
-use Rattle.std.proofs.lemmas.List.Elements.{All-push, All-head, All-tail, All-contains}
+use Rattle.std.proofs.lemmas.List.Elements.{All-push, All-head, All-tail}
 use Rattle.std.proofs.lemmas.Option.{none-some, same_Some, slice_get_within}
 use Rattle.pol_cursor.specs.References.{Placed}
 use Rattle.pol_cursor.specs.declared.TableKind.{TableKind}
@@ -13,7 +13,7 @@ use Rattle.pol_symtab.specs.SymbolTables.{declares, primary_name}
 use Rattle.pol_datums.specs.declared.TypeRec.{TypeRec}
 use Rattle.pol_datums.specs.declared.Flavour.TheVariants.{Plain, Attribute}
 use Rattle.pol_datums.specs.TypeRecord.{is_primary_type, is_attribute, flavour_of}
-use Rattle.pol_symbols.specs.PolicySymbols.{name_in, flavour_in, flavour_found}
+use Rattle.pol_symbols.specs.PolicySymbols.{flavour_found}
 use Rattle.pol_file.specs.declared.Parts.{Parts}
 use Rattle.pol_file.specs.TypeValues.{IsTypeValue, HasTypeValues}
 use Rattle.pol_rules.specs.declared.RuleKind.{RuleKind}

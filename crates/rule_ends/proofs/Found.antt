@@ -1,5 +1,5 @@
 -- What is found by places is what the rules say.
-use Rattle.std.proofs.Common.{◌≡◌, ℕ, suc, ◌+◌, ◌-◌, ◌<◌, ◌≤◌, Bool, true, false, cond, List, [], ◌∷◌, ◌++◌, Option, Some, None, length, map, get_or, slice_get, refl, sym, ap, subst, ◌∙◌, inl, inr, append-nil, arith}
+use Rattle.std.proofs.Common.{◌≡◌, ℕ, ◌+◌, ◌<◌, ◌≤◌, Bool, true, false, cond, List, [], ◌∷◌, ◌++◌, Option, Some, None, length, map, get_or, slice_get, refl, sym, ap, subst, ◌∙◌, inl, inr, arith}
 use Rattle.std.specs.Prelude.{◌==◌, ◌&&◌, ◌||◌, not, slice_index}
 use Rattle.std.specs.List.{All, Contains, filter, flat_map, list_any, range_with_len}
 use Rattle.std.specs.List.Sorted.{IsPermutation}
@@ -15,9 +15,9 @@ use Rattle.pol_expand.proofs.Values.{same_tests}
 use Rattle.rule_order.specs.ListedOrder.{AreRules, in_rule_order}
 use Rattle.value_groups.specs.Marking.{is_among, AreApart}
 use Rattle.value_groups.specs.Grouping.{is_value_at, places_of, group_of, AreGroupsOf}
-use Rattle.rule_ends.specs.ChosenRules.{passes, rule_passes, holds_type, joins, is_rule_from_to, any_joins, rules_between, targets_from, sources_to}
+use Rattle.rule_ends.specs.ChosenRules.{passes, holds_type, joins, is_rule_from_to, any_joins, rules_between, targets_from, sources_to}
 use Rattle.rule_ends.specs.EndTables.{IsEnd, AreEndsOf, IsTableOf, has_ends, places_to, rules_at, rules_found, any_found, is_other_end}
-use Rattle.rule_ends.proofs.Anys.{any_gives, any_from, among_contains, contains_among, any_agree, filter_agree}
+use Rattle.rule_ends.proofs.Anys.{any_gives, any_from, among_contains, contains_among, filter_agree}
 use Rattle.rule_ends.proofs.Ends.{passes_within}
 
 -- ---- a rule by its place

@@ -1,5 +1,5 @@
 -- The ends of chosen rules, by the places of the rules in their list. It serves the code alone.
-use Rattle.std.specs.Prelude.{◌≡◌, ℕ, ◌+◌, ◌<◌, ◌≤◌, ◌==◌, nat_le, nat_lt, ◌&&◌, Bool, true, List, length, map, is_some, slice_index}
+use Rattle.std.specs.Prelude.{◌≡◌, ℕ, ◌+◌, ◌<◌, ◌==◌, nat_le, nat_lt, ◌&&◌, Bool, true, List, length, map, is_some, slice_index}
 use Rattle.std.specs.List.{All, filter, flat_map, list_any}
 use Rattle.pol_datums.specs.declared.Flavour.TheVariants.{Plain, Attribute}
 use Rattle.pol_symbols.specs.PolicySymbols.{flavour_in}

@@ -1,81 +1,14 @@
--- Rows of nodes: made from a set, and one node after another.
-use Rattle.std.proofs.Common.{◌≡◌, ◌⊎◌, inl, inr, ℕ, suc, ◌+◌, ◌<◌, ◌≤◌, Bool, true, List, [], ◌∷◌, ◌++◌, length, get_or, take, drop, refl, sym, ap, subst, ◌∙◌, arith, append_assoc, append-nil, drop-cons, length-append, Option, Some, None, slice_get, IfSome, IfNone}
+-- Rows of nodes: one node after another, and the successors of a node.
+use Rattle.std.proofs.Common.{◌≡◌, inl, inr, ℕ, suc, ◌+◌, ◌<◌, ◌≤◌, Bool, true, List, [], ◌∷◌, ◌++◌, length, get_or, take, drop, sym, ap, subst, ◌∙◌, arith, drop-cons}
 use Rattle.std.specs.List.{All, Contains, range_with_len}
 use Rattle.std.specs.List.Sorted.{IsStrictlyIncreasing, IsNonDecreasing}
 use Rattle.std.proofs.lemmas.Bool.{cases_order}
 use Rattle.std.proofs.lemmas.List.{take-append-drop, drop_all, get_or_default}
-use Rattle.std.proofs.lemmas.List.Elements.{All-contains, All-weaker, All-contains_itself, Contains-append_cases, Contains-append_right}
-use Rattle.pol_bitmap.specs.Nodes.{IsLeastFrom}
+use Rattle.std.proofs.lemmas.List.Elements.{All-weaker, All-contains_itself}
 use Rattle.walk_enum.specs.Walks.{ends_of, AreEnds}
 use Rattle.walk_enum.specs.Moving.{Follows, Ends}
-use Rattle.walk_enum.proofs.Elements.{not_in_nothing, in_cases, in_first, in_filter, from_filter, in_range, range_high, passes_filter}
-use Rattle.walk_enum.proofs.Ascending.{Ascends, ascends_parts, increasing_at, same_numbers, ascends_filter, ascends_range}
-
--- ---- a row made from a set
-
--- The numbers are those read and the rest, of which the first is at hand.
-abbrev pub Reads : List ℕ → List ℕ → Option ℕ → Type 0
-Reads bits done found = (rest : List ℕ) × (bits ≡ done ++ rest) × (found ≡ slice_get rest 0)
-
--- what a look for the least number from a place on gives
-abbrev pub FoundFrom : List ℕ → ℕ → Option ℕ → Type 0
-FoundFrom bits place found = IfSome found (IsLeastFrom bits place) × IfNone found (All (λ c. c < place) bits)
-
-first_rest : (bits front rest : List ℕ) (place : ℕ) (found : Option ℕ) → bits ≡ front ++ rest → Ascends ◌<◌ rest → ((x : ℕ) → Contains front x → x < place) → ((x : ℕ) → Contains rest x → place ≤ x) → FoundFrom bits place found → found ≡ slice_get rest 0
-first_rest bits front [] place None is up low high f = refl
-first_rest bits front (x ∷ more) place None is up low high f =
-    let has : Contains bits x = subst (λ (l : List ℕ). Contains l x) (sym is) (Contains-append_right front (x ∷ more) x (in_first x more)) in
-    absurd (omega (arith, All-contains (λ (c : ℕ). c < place) bits x f.1 has, high x (in_first x more)))
-first_rest bits front [] place (Some y) is up low high f =
-    absurd (omega (arith, f.0.above, low y (subst (λ (l : List ℕ). Contains l y) (is ∙ append-nil front) f.0.there)))
-first_rest bits front (x ∷ more) place (Some y) is up low high f =
-    let has : Contains bits x = subst (λ (l : List ℕ). Contains l x) (sym is) (Contains-append_right front (x ∷ more) x (in_first x more)) in
-    let least : place ≤ x → y ≤ x = All-contains (λ (c : ℕ). place ≤ c → y ≤ c) bits x f.0.least has in
-    let le : y ≤ x = least (high x (in_first x more)) in
-    elim (Contains-append_cases front (x ∷ more) y (subst (λ (l : List ℕ). Contains l y) is f.0.there)) [
-      | inl before ↦ absurd (omega (arith, low y before, f.0.above))
-      | inr there ↦ elim (in_cases x more y there) [
-        | inl same ↦ ap Some (sym same)
-        | inr later ↦ absurd (omega (arith, up.0 y later, le))
-      ]
-    ]
-
-pub reads_none : (bits : List ℕ) (found : Option ℕ) → Ascends ◌<◌ bits → FoundFrom bits 0 found → Reads bits [] found
-reads_none bits found up f = (bits, refl, first_rest bits [] bits 0 found refl up (λ x has. not_in_nothing x has) (λ x has. omega arith) f)
-
-below_next : (done : List ℕ) (x y z : ℕ) (more : List ℕ) → y ≡ x → ((a b : ℕ) → Contains done a → Contains (y ∷ more) b → a < b) → Contains done z ⊎ Contains (x ∷ []) z → z < x + 1
-below_next done x y z more same across (inl has) = omega (arith, across z y has (in_first y more), same)
-below_next done x y z more same across (inr one) = elim (in_cases x [] z one) [ inl e ↦ omega (arith, e) | inr none ↦ not_in_nothing z none ]
-
-pub reads_more : (bits done : List ℕ) (x : ℕ) (found : Option ℕ) → Ascends ◌<◌ bits → Reads bits done (Some x) → FoundFrom bits (x + 1) found → Reads bits (done ++ x ∷ []) found
-reads_more bits done x found up (rest, is, first) f = by rest is first
-  where
-    by : (rest : List ℕ) → bits ≡ done ++ rest → Some x ≡ slice_get rest 0 → Reads bits (done ++ x ∷ []) found
-    by [] is first = absurd cc
-    by (y ∷ more) is first =
-        let same : y ≡ x = cc in
-        let whole : bits ≡ (done ++ x ∷ []) ++ more = is ∙ ap (λ (v : ℕ). done ++ v ∷ more) same ∙ sym (append_assoc done (x ∷ []) more) in
-        let p = ascends_parts ◌<◌ done (y ∷ more) (subst (Ascends ◌<◌) is up) in (
-          more,
-          whole,
-          first_rest bits (done ++ x ∷ []) more (x + 1) found whole p.0.1
-              (λ z has. below_next done x y z more same p.1 (Contains-append_cases done (x ∷ []) z has))
-              (λ z has. omega (arith, p.0.0 z has, same)) f,
-        )
-
-pub reads_all : (bits done : List ℕ) → Reads bits done None → done ≡ bits
-reads_all bits done (rest, is, first) = by rest is first
-  where
-    by : (rest : List ℕ) → bits ≡ done ++ rest → None ≡ slice_get rest 0 → done ≡ bits
-    by [] is first = sym (append-nil done) ∙ sym is
-    by (y ∷ more) is first = absurd cc
-
-pub reads_fewer : (bits done : List ℕ) (x : ℕ) → Reads bits done (Some x) → length done < length bits
-reads_fewer bits done x (rest, is, first) = by rest is first
-  where
-    by : (rest : List ℕ) → bits ≡ done ++ rest → Some x ≡ slice_get rest 0 → length done < length bits
-    by [] is first = absurd cc
-    by (y ∷ more) is first = omega (arith, ap length is ∙ length-append done (y ∷ more))
+use Rattle.walk_enum.proofs.Elements.{in_filter, from_filter, in_range, range_high, passes_filter}
+use Rattle.walk_enum.proofs.Ascending.{Ascends, increasing_at, same_numbers, ascends_filter, ascends_range}
 
 -- ---- one node after another
 

@@ -1,4 +1,4 @@
-use Rattle.std.proofs.Common.{◌≡◌, ℕ, ◌+◌, ◌++◌, ◌∷◌, [], List, take, get_or}
+use Rattle.std.proofs.Common.{◌≡◌, ◌+◌, ◌++◌, ◌∷◌, [], take, get_or}
 use Rattle.std.proofs.lemmas.List.{take_more}
 use Rattle.rule_ends.proofs.Ends.{ends_more}
 use Rattle.rule_ends.proofs.end_table.ends_of.Goals as goal

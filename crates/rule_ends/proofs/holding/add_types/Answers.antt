@@ -1,4 +1,4 @@
-use Rattle.std.proofs.Common.{◌≡◌, ◌==◌, ℕ, ◌<◌, List, ◌∷◌, ◌∙◌, ap, subst}
+use Rattle.std.proofs.Common.{◌==◌, ℕ, ◌<◌, List, ◌∙◌, ap, subst}
 use Rattle.std.proofs.lemmas.List.Elements.{All-rest}
 use Rattle.pol_bitmap.specs.Nodes.{bits_of}
 use Rattle.value_groups.specs.Marking.{MarkedValues}

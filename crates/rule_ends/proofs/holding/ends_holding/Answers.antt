@@ -1,4 +1,4 @@
-use Rattle.std.proofs.Common.{◌≡◌, ℕ, ◌+◌, ◌≤◌, true, false, List, [], ap, sym, ◌∙◌, arith}
+use Rattle.std.proofs.Common.{◌≡◌, true, false, [], ap, sym, ◌∙◌, arith}
 use Rattle.value_groups.specs.Marking.{MarkedValues, is_among, with_value}
 use Rattle.rule_ends.specs.EndTables.{is_type_value}
 use Rattle.rule_ends.proofs.Holders.{held_by_none, held_by_ends}

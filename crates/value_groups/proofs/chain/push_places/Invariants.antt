@@ -1,7 +1,4 @@
-use Rattle.std.proofs.Common.{◌≡◌, ◌+◌, ◌-◌, ◌<◌, ◌≤◌, ◌++◌, cond, eqb, length}
-use Rattle.std.specs.Prelude.{slice_index}
-use Rattle.std.specs.List.{filter, range_with_len}
-use Rattle.value_groups.specs.Grouping.{is_value_at, place_in}
+use Rattle.std.proofs.Common.{◌+◌, ◌-◌, cond, eqb, length}
 use Rattle.value_groups.proofs.Chains.{AreFirstPlaces}
 use Rattle.value_groups.proofs.chain.push_places.Given as goal
 

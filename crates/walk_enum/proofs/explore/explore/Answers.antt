@@ -1,10 +1,10 @@
 use Rattle.std.proofs.Common.{◌≡◌, ◌≤◌, ◌<◌, ◌+◌, ◌++◌, ◌∷◌, [], ℕ, List, arith, ap, sym, subst, ◌∙◌, length, get_or, set, replicate}
 use Rattle.std.specs.Prelude.{slice_index}
-use Rattle.std.specs.List.{All}
+use Rattle.std.specs.List.{All, Contains}
 use Rattle.std.proofs.lemmas.List.{get_or_default}
 use Rattle.std.proofs.lemmas.List.Elements.{Contains-get_or}
 use Rattle.walk_enum.specs.Walks.{ends_of}
-use Rattle.walk_enum.specs.Exploring.{AreFound, Explores, GoesOn, Spreads}
+use Rattle.walk_enum.specs.Exploring.{Explores, GoesOn, Spreads}
 use Rattle.walk_enum.proofs.Elements.{not_in_nothing}
 use Rattle.walk_enum.proofs.Rows.{ends_fit, ends_fit_at}
 use Rattle.walk_enum.proofs.Exploring.{explores_start, explores_more, queue_small}
@@ -21,7 +21,7 @@ asking-init g c =
     record {
       explores = subst (λ (rs : List (List ℕ)). Explores next nodes c.args.from c.args.to depths c.push.new.self.items rs 0) (sym c.new-rows.ensures.items)
           (subst (λ (q : List ℕ). Explores next nodes c.args.from c.args.to depths q [] 0) (sym queue) (explores_start next nodes c.args.from c.args.to depths c.requires.from_low c.requires.from_high made));
-      known = subst (AreFound depths) (sym c.in_ok-known.ensures.bits) (record { each = λ b has. not_in_nothing b has });
+      known = record { each = λ b has. not_in_nothing b (subst (λ (l : List ℕ). Contains l b) c.in_ok-known.ensures.bits has) };
       cost = omega arith;
     }
 

@@ -1,12 +1,9 @@
-use Rattle.std.proofs.Common.{◌≡◌, ℕ, ◌+◌, ◌<◌, ◌≤◌, List, length, ap, sym, subst, ◌∙◌, IfOk, arith}
-use Rattle.std.specs.List.{All}
-use Rattle.std.proofs.lemmas.List.Elements.{All-weaker, All-same}
-use Rattle.pol_rules.specs.StoredRules.{stored_rules}
+use Rattle.std.proofs.Common.{◌≡◌, ℕ, List, length, ap, sym, subst, ◌∙◌, IfOk}
 use Rattle.rule_order.specs.ListedOrder.{AreRules, in_rule_order}
 use Rattle.value_groups.specs.Grouping.{group_of}
 use Rattle.rule_ends.specs.ChosenRules.{ChosenRules, rules_between}
 use Rattle.rule_ends.specs.EndTables.{rules_found}
-use Rattle.rule_ends.proofs.Found.{AreHolders, between_is, groups_within}
+use Rattle.rule_ends.proofs.Found.{between_is, groups_within}
 use Rattle.rule_ends.proofs.rule_ends.RuleEnds.between.Goals as goal
 
 pub found_rules-requires-clause-rules : goal.found_rules-requires-clause-rules

@@ -1,4 +1,4 @@
-use Rattle.std.proofs.Common.{◌≡◌, ℕ, List, length, ap, sym, ◌∙◌}
+use Rattle.std.proofs.Common.{ℕ, List, length, ap, sym, ◌∙◌}
 use Rattle.value_groups.specs.Grouping.{group_of}
 use Rattle.rule_ends.specs.ChosenRules.{ChosenRules, joins, any_joins}
 use Rattle.rule_ends.specs.EndTables.{any_found}

@@ -1,4 +1,4 @@
-use Rattle.std.proofs.Common.{◌≡◌, ◌<◌, false, length, sym, ap, ◌∙◌, arith}
+use Rattle.std.proofs.Common.{◌<◌, false, length, sym, ap, ◌∙◌, arith}
 use Rattle.std.proofs.lemmas.List.{get_or_default}
 use Rattle.value_groups.specs.Marking.{MarkedValues}
 use Rattle.value_groups.proofs.Marks.{marks_more}

@@ -1,4 +1,4 @@
-use Rattle.std.proofs.Common.{ℕ, ◌<◌, List, subst, ◌∙◌, sym}
+use Rattle.std.proofs.Common.{◌<◌, subst}
 use Rattle.std.specs.List.{All}
 use Rattle.value_groups.specs.Marking.{MarkedValues}
 use Rattle.value_groups.proofs.Marks.{marked_within}

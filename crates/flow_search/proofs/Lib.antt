@@ -1,0 +1,10 @@
+pub mod Results
+pub mod Masks
+pub mod Members
+pub mod HeldTypes
+pub mod TestOrders
+pub mod ReachedWeights
+pub mod Successors
+pub mod Giving
+pub mod Greatest
+pub mod Weighing

@@ -1,0 +1,167 @@
+-- The successors of a node.
+use Rattle.std.proofs.Common.{◌≡◌, ◌⊎◌, inl, inr, ◌↔◌, ℕ, ◌+◌, ◌<◌, ◌≤◌, List, [], Bool, true, false, ◌&&◌, ◌||◌, cond, not, eqb, sym, ap, ◌∙◌, subst, arith}
+use Rattle.std.specs.List.{Contains, filter, range_with_len}
+use Rattle.std.specs.List.Sorted.{IsStrictlyIncreasing}
+use Rattle.std.proofs.lemmas.List.Kept.{IsStrictlyIncreasing-filter}
+use Rattle.std.proofs.lemmas.Bool.{and_from, and_parts, or_cases, or_left, or_right, eq-eqb, eqb-true, false≢true}
+use Rattle.pol_bitmap.specs.declared.Node.{Node}
+use Rattle.pol_bitmap.specs.Nodes.{bits_of, has_bit}
+use Rattle.pol_bitmap.specs.Sets.{IsSet, IsUnion}
+use Rattle.pol_bitmap.proofs.BitLists.{bits_increasing}
+use Rattle.pol_file.specs.declared.Parts.{Parts}
+use Rattle.pol_expand.proofs.Values.{same_tests}
+use Rattle.walk_enum.specs.Walks.{AreEnds}
+use Rattle.walk_enum.proofs.Elements.{from_filter, in_filter, in_range, not_in_nothing, passes_filter, range_high}
+use Rattle.rule_ends.specs.ChosenRules.{ChosenRules, any_joins, sources_to, targets_from}
+use Rattle.rule_ends.specs.EndTables.{is_type_value}
+use Rattle.perm_map.specs.PermissionMap.{Weights, weights_of}
+use Rattle.flow_search.specs.FlowWeights.{inwards, outwards}
+use Rattle.flow_search.specs.Flows.{are_two_types}
+use Rattle.flow_search.specs.FlowEdges.{FlowSearch, flow_edge, is_flow}
+use Rattle.flow_search.specs.FlowParts.{AreFlowRules, AreJoined, any_edge, any_flow, is_open, is_successor, rules_reaching}
+use Rattle.flow_search.specs.EdgesBetween.{within}
+use Rattle.flow_search.proofs.ReachedWeights.{flow_reaches}
+use Rattle.flow_search.proofs.TestOrders.{ahead_tests, back_tests}
+
+-- ---- joined types
+
+-- type values that pass a test
+in_types : (n : ℕ) (test : ℕ → Bool) (value : ℕ) → Contains (filter test (range_with_len 1 n)) value ↔ ((1 ≤ value) × (value ≤ n) × (test value ≡ true))
+in_types n test value = (
+  λ h. (let range = range_high 1 n value (from_filter test (range_with_len 1 n) value h) in (range.0, below n value range.1, passes_filter test (range_with_len 1 n) value h)),
+  λ h. in_filter test (range_with_len 1 n) value h.2 (in_range n value h.0 h.1),
+)
+  where
+    below : (n value : ℕ) → value < 1 + n → value ≤ n
+    below n value h = omega arith
+
+either_test : (n : ℕ) (p q : ℕ → Bool) (found : List ℕ) (value : ℕ) → Contains found value ↔ (Contains (filter p (range_with_len 1 n)) value ⊎ Contains (filter q (range_with_len 1 n)) value) → Contains found value ↔ ((1 ≤ value) × (value ≤ n) × ((p value || q value) ≡ true))
+either_test n p q found value is = (
+  λ h. to (is.0 h),
+  λ h. is.1 (back h.0 h.1 (or_cases (p value) (q value) h.2)),
+)
+  where
+    to : Contains (filter p (range_with_len 1 n)) value ⊎ Contains (filter q (range_with_len 1 n)) value → (1 ≤ value) × (value ≤ n) × ((p value || q value) ≡ true)
+    to (inl h) = let parts = (in_types n p value).0 h in (parts.0, parts.1, or_left (p value) (q value) parts.2)
+    to (inr h) = let parts = (in_types n q value).0 h in (parts.0, parts.1, or_right (p value) (q value) parts.2)
+
+    back : 1 ≤ value → value ≤ n → (p value ≡ true) ⊎ (q value ≡ true) → Contains (filter p (range_with_len 1 n)) value ⊎ Contains (filter q (range_with_len 1 n)) value
+    back low high (inl h) = inl ((in_types n p value).1 (low, high, h))
+    back low high (inr h) = inr ((in_types n q value).1 (low, high, h))
+
+pub joins_from : (weights : Weights) (policy : Parts) (least node : ℕ) (out into found : List ℕ) → out ≡ targets_from policy (rules_reaching outwards weights policy least) node → into ≡ sources_to policy (rules_reaching inwards weights policy least) node → IsUnion out into found → AreJoined policy (λ other. any_flow weights policy least node other) found
+unfolding any_flow targets_from sources_to
+joins_from weights policy least node out into found out_is into_is union = record {
+  each = λ value. either_test policy.symbols.types.nprim (any_joins policy (rules_reaching outwards weights policy least) node) (λ source. any_joins policy (rules_reaching inwards weights policy least) source node) found value
+      (subst (λ (xs : List ℕ). Contains found value ↔ (Contains xs value ⊎ Contains (sources_to policy (rules_reaching inwards weights policy least) node) value)) out_is
+      (subst (λ (ys : List ℕ). Contains found value ↔ (Contains out value ⊎ Contains ys value)) into_is (union.each value)));
+}
+
+pub joins_to : (weights : Weights) (policy : Parts) (least node : ℕ) (out into found : List ℕ) → out ≡ sources_to policy (rules_reaching outwards weights policy least) node → into ≡ targets_from policy (rules_reaching inwards weights policy least) node → IsUnion out into found → AreJoined policy (λ other. any_flow weights policy least other node) found
+unfolding any_flow targets_from sources_to
+joins_to weights policy least node out into found out_is into_is union = record {
+  each = λ value. either_test policy.symbols.types.nprim (λ source. any_joins policy (rules_reaching outwards weights policy least) source node) (any_joins policy (rules_reaching inwards weights policy least) node) found value
+      (subst (λ (xs : List ℕ). Contains found value ↔ (Contains xs value ⊎ Contains (targets_from policy (rules_reaching inwards weights policy least) node) value)) out_is
+      (subst (λ (ys : List ℕ). Contains found value ↔ (Contains out value ⊎ Contains ys value)) into_is (union.each value)));
+}
+
+-- ---- edges
+
+same_either_way : (a b : ℕ) → eqb a b ≡ eqb b a
+same_either_way a b = same_tests (eqb a b) (eqb b a) (λ h. eq-eqb b a (sym (eqb-true a b h))) (λ h. eq-eqb a b (sym (eqb-true b a h)))
+
+ahead_is : (search : FlowSearch) (node other : ℕ) → 1 ≤ search.least → is_flow search node other ≡ (is_open search node && (is_successor search node other && any_flow (weights_of search.entries) search.policy search.least node other))
+unfolding is_flow
+ahead_is search node other some =
+    let policy = search.policy in
+    let flow = any_flow (weights_of search.entries) policy search.least node other in
+    let tn = is_type_value policy node in
+    let to = is_type_value policy other in
+    let xn = has_bit search.excluded node in
+    let xo = has_bit search.excluded other in
+    ap (λ (reached : Bool). are_two_types policy node other && reached && not xn && not xo) (flow_reaches (weights_of search.entries) policy search.least node other some)
+    ∙ ahead_tests tn to (eqb node other) xn xo flow
+    ∙ ap (λ (same : Bool). (tn && not xn) && ((not same && (to && not xo)) && flow)) (same_either_way node other)
+
+back_is : (search : FlowSearch) (node other : ℕ) → 1 ≤ search.least → is_flow search other node ≡ (is_open search node && (is_successor search node other && any_flow (weights_of search.entries) search.policy search.least other node))
+unfolding is_flow
+back_is search node other some =
+    let policy = search.policy in
+    let flow = any_flow (weights_of search.entries) policy search.least other node in
+    let tn = is_type_value policy node in
+    let to = is_type_value policy other in
+    let xn = has_bit search.excluded node in
+    let xo = has_bit search.excluded other in
+    ap (λ (reached : Bool). are_two_types policy other node && reached && not xo && not xn) (flow_reaches (weights_of search.entries) policy search.least other node some)
+    ∙ back_tests tn to (eqb other node) xn xo flow
+
+turned : (reverse : Bool) (x y o s a b : Bool) → x ≡ (o && (s && a)) → y ≡ (o && (s && b)) → cond reverse x y ≡ (o && (s && cond reverse a b))
+turned true x y o s a b h k = h
+turned false x y o s a b h k = k
+
+-- an edge from a node is one to a successor that some rule joins
+pub edge_is : (search : FlowSearch) (node other : ℕ) → 1 ≤ search.least → flow_edge search node other ≡ (is_open search node && (is_successor search node other && any_edge search node other))
+unfolding any_edge
+edge_is search node other some =
+    turned search.reverse (is_flow search other node) (is_flow search node other) (is_open search node) (is_successor search node other)
+    (any_flow (weights_of search.entries) search.policy search.least other node) (any_flow (weights_of search.entries) search.policy search.least node other)
+    (back_is search node other some) (ahead_is search node other some)
+
+-- the joined types that pass are the ends of the edges
+pub ends_are : (search : FlowSearch) (node : ℕ) (joined found : List ℕ) → 1 ≤ search.least → is_open search node ≡ true → AreJoined search.policy (any_edge search node) joined → found ≡ filter (is_successor search node) joined → AreEnds (flow_edge search) node found
+ends_are search node joined found some may are is = subst (AreEnds (flow_edge search) node) (sym is) (record { each = each })
+  where
+    each : (other : ℕ) → Contains (filter (is_successor search node) joined) other ↔ (flow_edge search node other ≡ true)
+    each other = (
+      λ h. (let passes = passes_filter (is_successor search node) joined other h in
+          let joins = (are.each other).0 (from_filter (is_successor search node) joined other h) in
+          edge_is search node other some ∙ and_from (is_open search node) (is_successor search node other && any_edge search node other) may (and_from (is_successor search node other) (any_edge search node other) passes joins.2)),
+      λ h. (let parts = and_parts (is_open search node) (is_successor search node other && any_edge search node other) (sym (edge_is search node other some) ∙ h) in
+          let both = and_parts (is_successor search node other) (any_edge search node other) parts.1 in
+          let apart = and_parts (not (eqb other node)) (is_open search other) both.0 in
+          let type = and_parts (is_type_value search.policy other) (not (has_bit search.excluded other)) apart.1 in
+          let range = within search.policy other type.0 in
+          in_filter (is_successor search node) joined other both.0 ((are.each other).1 (range.0, range.1, both.1))),
+    )
+
+-- a node that may be no end has no edges
+pub no_ends : (search : FlowSearch) (node : ℕ) (found : List ℕ) → 1 ≤ search.least → is_open search node ≡ false → found ≡ [] → AreEnds (flow_edge search) node found
+no_ends search node found some shut is = subst (AreEnds (flow_edge search) node) (sym is) (record { each = each })
+  where
+    each : (other : ℕ) → Contains [] other ↔ (flow_edge search node other ≡ true)
+    each other = (
+      λ h. not_in_nothing other h,
+      λ h. (let parts = and_parts (is_open search node) (is_successor search node other && any_edge search node other) (sym (edge_is search node other some) ∙ h) in
+          absurd (false≢true (sym shut ∙ parts.0))),
+    )
+
+-- ---- by what a graph keeps
+
+pub rules_join_from : (weights : Weights) (policy : Parts) (least node : ℕ) (out into : ChosenRules) → AreFlowRules weights policy least out into → (targets sources found : List ℕ) → targets ≡ targets_from out.policy out.rules node → sources ≡ sources_to into.policy into.rules node → IsUnion targets sources found → AreJoined policy (λ other. any_flow weights policy least node other) found
+rules_join_from weights policy least node out into are targets sources found targets_are sources_are union =
+    joins_from weights policy least node targets sources found
+    (targets_are ∙ ap (λ (p : Parts). targets_from p out.rules node) are.out_policy ∙ ap (λ (rules : List ℕ). targets_from policy rules node) are.out_rules)
+    (sources_are ∙ ap (λ (p : Parts). sources_to p into.rules node) are.into_policy ∙ ap (λ (rules : List ℕ). sources_to policy rules node) are.into_rules)
+    union
+
+pub rules_join_to : (weights : Weights) (policy : Parts) (least node : ℕ) (out into : ChosenRules) → AreFlowRules weights policy least out into → (sources targets found : List ℕ) → sources ≡ sources_to out.policy out.rules node → targets ≡ targets_from into.policy into.rules node → IsUnion sources targets found → AreJoined policy (λ other. any_flow weights policy least other node) found
+rules_join_to weights policy least node out into are sources targets found sources_are targets_are union =
+    joins_to weights policy least node sources targets found
+    (sources_are ∙ ap (λ (p : Parts). sources_to p out.rules node) are.out_policy ∙ ap (λ (rules : List ℕ). sources_to policy rules node) are.out_rules)
+    (targets_are ∙ ap (λ (p : Parts). targets_from p into.rules node) are.into_policy ∙ ap (λ (rules : List ℕ). targets_from policy rules node) are.into_rules)
+    union
+
+pub edge_back : (search : FlowSearch) (node : ℕ) → search.reverse ≡ true → any_edge search node ≡ (λ other. any_flow (weights_of search.entries) search.policy search.least other node)
+unfolding any_edge
+edge_back search node e =
+    ap {B = ℕ → Bool} (λ (turned : Bool) (other : ℕ). cond turned (any_flow (weights_of search.entries) search.policy search.least other node) (any_flow (weights_of search.entries) search.policy search.least node other)) e
+
+pub edge_ahead : (search : FlowSearch) (node : ℕ) → search.reverse ≡ false → any_edge search node ≡ (λ other. any_flow (weights_of search.entries) search.policy search.least node other)
+unfolding any_edge
+edge_ahead search node e =
+    ap {B = ℕ → Bool} (λ (turned : Bool) (other : ℕ). cond turned (any_flow (weights_of search.entries) search.policy search.least other node) (any_flow (weights_of search.entries) search.policy search.least node other)) e
+
+-- the successors among rising values rise
+pub successors_rise : (search : FlowSearch) (node : ℕ) (joined : List Node) (found : List ℕ) → IsSet joined → found ≡ filter (is_successor search node) (bits_of joined) → IsStrictlyIncreasing found
+successors_rise search node joined found set is =
+    subst IsStrictlyIncreasing (sym is) (IsStrictlyIncreasing-filter (is_successor search node) (bits_of joined) (bits_increasing 0 joined set.0))

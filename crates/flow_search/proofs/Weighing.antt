@@ -1,0 +1,113 @@
+-- The weights of rules, by the weights of the permissions of classes.
+use Rattle.std.proofs.Common.{◌≡◌, inl, inr, ℕ, ◌+◌, ◌<◌, max, List, [], ◌∷◌, ◌++◌, length, map, get_or, take, Bool, true, false, cond, Option, Some, None, slice_get, slice_index_or, refl, sym, ap, ◌∙◌, arith, append-nil}
+use Rattle.std.specs.List.{filter, range_with_len}
+use Rattle.std.proofs.lemmas.List.{map_push}
+use Rattle.std.proofs.lemmas.List.Elements.{filter-append, filter_more}
+use Rattle.std.proofs.lemmas.List.Sums.{fold_push}
+use Rattle.std.proofs.lemmas.Option.{slice_get_cases}
+use Rattle.pol_cursor.specs.References.{Placed}
+use Rattle.pol_cursor.specs.declared.TableKind.TheVariants.{Classes}
+use Rattle.pol_commons.specs.declared.PermissionRec.{PermissionRec}
+use Rattle.pol_classes.specs.declared.ClassRec.{ClassRec}
+use Rattle.pol_symbols.specs.declared.Symbols.{Symbols}
+use Rattle.pol_symbols.specs.PolicySymbols.{index_in, permissions_of}
+use Rattle.pol_symbols.proofs.SymbolSearch.{primary_found, primary_is_within, primary_missing}
+use Rattle.pol_expand.proofs.Values.{range_more}
+use Rattle.perm_map.specs.declared.Direction.{Direction}
+use Rattle.perm_map.specs.PermissionMap.{Weights}
+use Rattle.flow_search.specs.declared.class_weights.PermissionWeight.{PermissionWeight}
+use Rattle.flow_search.specs.FlowWeights.{class_of, greatest, has_permission, inwards, mask_weight, outwards, permission_weight}
+use Rattle.flow_search.specs.WeightTables.{AreWeights, class_weights, greatest_into, greatest_out, is_in, weighed}
+
+-- ---- the greatest, one after the other
+
+greatest_push : (xs : List ℕ) (x : ℕ) → greatest (xs ++ x ∷ []) ≡ max (greatest xs) x
+greatest_push xs x = fold_push max 0 xs x
+
+greatest_where : {X : Type 0} (f : X → ℕ) (xs : List X) (x : X) (test : Bool) → greatest (map f (xs ++ cond test (x ∷ []) [])) ≡ cond test (max (greatest (map f xs)) (f x)) (greatest (map f xs))
+greatest_where f xs x true = ap greatest (map_push f xs x) ∙ greatest_push (map f xs) (f x)
+greatest_where f xs x false = ap (λ ys. greatest (map f ys)) (append-nil xs)
+
+greatest_more : {X : Type 0} (f : X → ℕ) (p : X → Bool) (xs : List X) (i : ℕ) (d : X) → i < length xs → greatest (map f (filter p (take (i + 1) xs))) ≡ cond (p (get_or xs i d)) (max (greatest (map f (filter p (take i xs)))) (f (get_or xs i d))) (greatest (map f (filter p (take i xs))))
+greatest_more f p xs i d lt = ap (λ ys. greatest (map f ys)) (filter_more p xs i d lt) ∙ greatest_where f (filter p (take i xs)) (get_or xs i d) (p (get_or xs i d))
+
+pub out_more : (mask : ℕ) (permissions : List PermissionWeight) (i : ℕ) (d : PermissionWeight) → i < length permissions → greatest_out mask (take (i + 1) permissions) ≡ cond (is_in mask (get_or permissions i d)) (max (greatest_out mask (take i permissions)) (get_or permissions i d).out) (greatest_out mask (take i permissions))
+unfolding greatest_out
+out_more mask permissions i d lt = greatest_more (λ p. p.out) (is_in mask) permissions i d lt
+
+pub into_more : (mask : ℕ) (permissions : List PermissionWeight) (i : ℕ) (d : PermissionWeight) → i < length permissions → greatest_into mask (take (i + 1) permissions) ≡ cond (is_in mask (get_or permissions i d)) (max (greatest_into mask (take i permissions)) (get_or permissions i d).into) (greatest_into mask (take i permissions))
+unfolding greatest_into
+into_more mask permissions i d lt = greatest_more (λ p. p.into) (is_in mask) permissions i d lt
+
+-- the greatest that is given by one number more
+pub numbers_more : (g : ℕ → ℕ) (n : ℕ) → greatest (map g (range_with_len 0 (n + 1))) ≡ max (greatest (map g (range_with_len 0 n))) (g n)
+numbers_more g n =
+    let e : 0 + n ≡ n = omega arith in
+    ap (λ (xs : List ℕ). greatest (map g xs)) (range_more 0 n ∙ ap (λ (x : ℕ). range_with_len 0 n ++ x ∷ []) e)
+    ∙ ap greatest (map_push g (range_with_len 0 n) n) ∙ greatest_push (map g (range_with_len 0 n)) (g n)
+
+-- one number more, where it passes
+pub reaching_more : (p : ℕ → Bool) (n : ℕ) → filter p (range_with_len 0 (n + 1)) ≡ filter p (range_with_len 0 n) ++ cond (p n) (n ∷ []) []
+reaching_more p n =
+    let e : 0 + n ≡ n = omega arith in
+    ap (filter p) (range_more 0 n ∙ ap (λ (x : ℕ). range_with_len 0 n ++ x ∷ []) e) ∙ filter-append p (range_with_len 0 n) (n ∷ [])
+
+-- ---- permissions
+
+kept_out : (weights : Weights) (class : List ℕ) (mask : ℕ) (permissions : List PermissionRec) → map (λ (p : PermissionWeight). p.out) (filter (is_in mask) (map (weighed weights class) permissions)) ≡ map (permission_weight outwards weights class) (filter (has_permission mask) permissions)
+kept_out weights class mask [] = refl
+kept_out weights class mask (p ∷ ps) = by (has_permission mask p) (kept_out weights class mask ps)
+  where
+    by : (test : Bool) → map (λ (p : PermissionWeight). p.out) (filter (is_in mask) (map (weighed weights class) ps)) ≡ map (permission_weight outwards weights class) (filter (has_permission mask) ps) → map (λ (p : PermissionWeight). p.out) (cond test (weighed weights class p ∷ filter (is_in mask) (map (weighed weights class) ps)) (filter (is_in mask) (map (weighed weights class) ps))) ≡ map (permission_weight outwards weights class) (cond test (p ∷ filter (has_permission mask) ps) (filter (has_permission mask) ps))
+    by true h = ap (λ (xs : List ℕ). permission_weight outwards weights class p ∷ xs) h
+    by false h = h
+
+kept_into : (weights : Weights) (class : List ℕ) (mask : ℕ) (permissions : List PermissionRec) → map (λ (p : PermissionWeight). p.into) (filter (is_in mask) (map (weighed weights class) permissions)) ≡ map (permission_weight inwards weights class) (filter (has_permission mask) permissions)
+kept_into weights class mask [] = refl
+kept_into weights class mask (p ∷ ps) = by (has_permission mask p) (kept_into weights class mask ps)
+  where
+    by : (test : Bool) → map (λ (p : PermissionWeight). p.into) (filter (is_in mask) (map (weighed weights class) ps)) ≡ map (permission_weight inwards weights class) (filter (has_permission mask) ps) → map (λ (p : PermissionWeight). p.into) (cond test (weighed weights class p ∷ filter (is_in mask) (map (weighed weights class) ps)) (filter (is_in mask) (map (weighed weights class) ps))) ≡ map (permission_weight inwards weights class) (cond test (p ∷ filter (has_permission mask) ps) (filter (has_permission mask) ps))
+    by true h = ap (λ (xs : List ℕ). permission_weight inwards weights class p ∷ xs) h
+    by false h = h
+
+out_of_class : (weights : Weights) (symbols : Symbols) (class : ClassRec) (mask : ℕ) → greatest_out mask (class_weights weights symbols class) ≡ greatest (map (permission_weight outwards weights class.name) (filter (has_permission mask) (permissions_of symbols class)))
+unfolding greatest_out class_weights
+out_of_class weights symbols class mask = ap greatest (kept_out weights class.name mask (permissions_of symbols class))
+
+into_of_class : (weights : Weights) (symbols : Symbols) (class : ClassRec) (mask : ℕ) → greatest_into mask (class_weights weights symbols class) ≡ greatest (map (permission_weight inwards weights class.name) (filter (has_permission mask) (permissions_of symbols class)))
+unfolding greatest_into class_weights
+into_of_class weights symbols class mask = ap greatest (kept_into weights class.name mask (permissions_of symbols class))
+
+-- ---- classes
+
+module _ (weights : Weights) (symbols : Symbols) (lists : List (List PermissionWeight)) (are : AreWeights weights symbols lists) (class mask : ℕ) where
+  pub class_within : (i : ℕ) → index_in symbols Classes class ≡ Some i → i < length lists
+  class_within i is =
+      let within = primary_is_within (λ (class : ClassRec). true) (λ class. class.value) symbols.classes.records class i is in
+      omega (arith, within, are.count)
+
+  out_at : (i : ℕ) (found : Placed ClassRec) → index_in symbols Classes class ≡ Some i → slice_get symbols.classes.records i ≡ Some found → greatest_out mask (slice_index_or lists i []) ≡ mask_weight outwards weights symbols (class_of symbols class) mask
+  out_at i found is at =
+      ap (greatest_out mask) (are.each i found at) ∙ out_of_class weights symbols found.value mask
+      ∙ ap (λ (c : Option (Placed ClassRec)). mask_weight outwards weights symbols c mask) (sym (primary_found (λ (class : ClassRec). true) (λ class. class.value) symbols.classes.records class i found is at))
+
+  into_at : (i : ℕ) (found : Placed ClassRec) → index_in symbols Classes class ≡ Some i → slice_get symbols.classes.records i ≡ Some found → greatest_into mask (slice_index_or lists i []) ≡ mask_weight inwards weights symbols (class_of symbols class) mask
+  into_at i found is at =
+      ap (greatest_into mask) (are.each i found at) ∙ into_of_class weights symbols found.value mask
+      ∙ ap (λ (c : Option (Placed ClassRec)). mask_weight inwards weights symbols c mask) (sym (primary_found (λ (class : ClassRec). true) (λ class. class.value) symbols.classes.records class i found is at))
+
+  pub class_out : (i : ℕ) → index_in symbols Classes class ≡ Some i → greatest_out mask (slice_index_or lists i []) ≡ mask_weight outwards weights symbols (class_of symbols class) mask
+  class_out i is = elim (slice_get_cases symbols.classes.records i).1 [
+    | inl there ↦ out_at i there.0 is there.2
+    | inr past ↦ absurd (omega (arith, primary_is_within (λ (class : ClassRec). true) (λ class. class.value) symbols.classes.records class i is, past.0))
+  ]
+
+  pub class_into : (i : ℕ) → index_in symbols Classes class ≡ Some i → greatest_into mask (slice_index_or lists i []) ≡ mask_weight inwards weights symbols (class_of symbols class) mask
+  class_into i is = elim (slice_get_cases symbols.classes.records i).1 [
+    | inl there ↦ into_at i there.0 is there.2
+    | inr past ↦ absurd (omega (arith, primary_is_within (λ (class : ClassRec). true) (λ class. class.value) symbols.classes.records class i is, past.0))
+  ]
+
+pub class_missing : (way : Direction → ℕ → ℕ) (weights : Weights) (symbols : Symbols) (class mask : ℕ) → index_in symbols Classes class ≡ None → 0 ≡ mask_weight way weights symbols (class_of symbols class) mask
+class_missing way weights symbols class mask is =
+    ap (λ (c : Option (Placed ClassRec)). mask_weight way weights symbols c mask) (sym (primary_missing (λ (class : ClassRec). true) (λ class. class.value) symbols.classes.records class is))

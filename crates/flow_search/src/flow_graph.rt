@@ -1,0 +1,268 @@
+ghost use Rattle.std.specs.Prelude.{◌≡◌, ◌≤◌, true, IfOk};
+ghost use Rattle.std.specs.List.{filter};
+ghost use Rattle.pol_bitmap.specs.Nodes.{bits_of, has_bit};
+ghost use Rattle.pol_bitmap.specs.Sets.{IsSet};
+ghost use Rattle.pol_expand.specs.PolicyMap.{IsPolicyMap};
+ghost use Rattle.perm_map.specs.PermissionMap.{weights_of};
+ghost use Rattle.rule_order.specs.ListedOrder.{AreRules};
+ghost use Rattle.walk_enum.specs.Walks.{AreEnds};
+ghost use Rattle.flow_search.specs.Flows.{flow_rules, flow_weight, gives_least, rule_numbers};
+ghost use Rattle.flow_search.specs.FlowEdges.{flow_edge};
+ghost use Rattle.flow_search.specs.FlowParts.{any_edge, any_flow, is_open, is_successor, AreDistinct, AreJoined};
+
+use crate::holding::{are_two_types, is_type};
+use crate::reaching::{push_where, rules_reaching};
+use crate::weigher::Weigher;
+use perm_map::PermMap;
+use pol_bitmap::Set;
+use pol_expand::TypeMap;
+use pol_read::Policy;
+use rule_ends::RuleEnds;
+use rule_order::sort_by_rule_order;
+use std::alloc::{AllocError, Global};
+use std::marker::Model;
+use std::sync::ledger::Ledger;
+use walk_enum::{Graph, Steps};
+
+/// The graph of the flows of a policy of at least a weight, or of their reverse. Its nodes are the type values, and no edge joins an excluded
+/// type. Contracts see the policy, the entries of the permission map, the least weight, the excluded types and the direction.
+///
+/// It keeps the rules that flow at least the weight by their stored ends, and asks them for the successors of a node. All edges are never
+/// made.
+#[derive(Drop)]
+pub struct FlowGraph<'p> {
+    weigher: Weigher<'p>,
+    least: u8,
+    // The rules that flow from the source to the target at least the weight.
+    out: RuleEnds<'p>,
+    // Those that flow from the target to the source.
+    into: RuleEnds<'p>,
+    excluded: Set,
+    reverse: bool,
+}
+
+impl<'p> Model for FlowGraph<'p> {
+    ghost use Rattle.std.specs.Prelude.{◌≤◌};
+    ghost use Rattle.perm_map.specs.PermissionMap.{weights_of};
+    ghost use Rattle.flow_search.specs.FlowEdges.{FlowSearch};
+    ghost use Rattle.flow_search.specs.FlowParts.{AreFlowRules};
+
+    ghost Value = { FlowSearch };
+
+    ghost view = { λ g. record { policy = g.weigher.policy; entries = g.weigher.entries; least = g.least; excluded = g.excluded; reverse = g.reverse } };
+
+    ghost invariant = { λ g. (1 ≤ g.least) × AreFlowRules (weights_of g.weigher.entries) g.weigher.policy g.least g.out g.into };
+}
+
+impl<'p> FlowGraph<'p> {
+    /// The graph of a policy, with the map of its types. Goes through the rules once.
+    pub fn new(
+        alloc: Global,
+        policy: &'p Policy<'p>,
+        types: &'p TypeMap,
+        map: &'p PermMap<'p>,
+        least: u8,
+        excluded: &Set,
+        reverse: bool,
+    ) -> Result<FlowGraph<'p>, AllocError>
+        requires types { IsPolicyMap policy.now types.now }
+        requires weight { 1 ≤ least }
+        ensures { IfOk result (λ graph. graph ≡ record { policy = policy.now; entries = map.now; least = least; excluded = excluded.now; reverse = reverse }) }
+    {
+        let weigher = Weigher::new(alloc, policy, map)?;
+        let found = rules_reaching(alloc, &weigher, least)?;
+        Ok(FlowGraph {
+            out: RuleEnds::build(alloc, policy, types, found.out)?,
+            into: RuleEnds::build(alloc, policy, types, found.into)?,
+            excluded: excluded.share()?,
+            weigher,
+            least,
+            reverse,
+        })
+    }
+
+    /// The policy.
+    pub fn policy(&self) -> &'p Policy<'p>
+        ensures { result.now ≡ self.now.policy }
+    {
+        self.weigher.policy()
+    }
+
+    /// The weight of the flow from a type to another, 0 for none. Exclusion, direction and the least weight do not change it. It takes no
+    /// memory and goes through all rules.
+    pub fn flow(&self, from: u32, to: u32) -> u8
+        ensures { result ≡ flow_weight (weights_of self.now.entries) self.now.policy from to }
+    {
+        self.weigher.flow(from, to)
+    }
+
+    // The numbers of the rules that give the flow from a value to another at least the least weight, rising.
+    fn giving(&self, alloc: Global, from: u32, to: u32) -> Result<Vec<u32>, AllocError>
+        ensures found { IfOk result (λ found. found.items ≡ filter (gives_least (weights_of self.now.entries) self.now.policy self.now.least from to) (rule_numbers self.now.policy)) }
+        ensures rules { IfOk result (λ found. AreRules self.now.policy found.items) }
+    {
+        let mut numbers = self.out.between(alloc, from, to)?;
+        let others = self.into.between(alloc, to, from)?;
+        numbers.extend_from_slice(&others)?;
+        // a rule that gives the flow both ways counts once
+        make_distinct(&mut numbers);
+        Ok(numbers)
+    }
+
+    /// The rules that give the flow from a type to another at least the least weight, in the order in which rules are listed. Exclusion and
+    /// direction change none of them.
+    #[tactic(auto, unfolding(crate::specs::Flows::flow_rules))]
+    pub fn rules(&self, alloc: Global, from: u32, to: u32) -> Result<Vec<u32>, AllocError>
+        ensures found { IfOk result (λ found. found.items ≡ flow_rules (weights_of self.now.entries) self.now.policy self.now.least from to) }
+        ensures rules { IfOk result (λ found. AreRules self.now.policy found.items) }
+    {
+        if !are_two_types(self.policy(), from, to) {
+            return Ok(Vec::new(alloc));
+        }
+        let numbers = self.giving(alloc, from, to)?;
+        sort_by_rule_order(alloc, self.policy(), &numbers)
+    }
+
+    /// The weight of the flow from a type to another, by its rules as [`FlowGraph::rules`] answers them. It looks at no other rule where
+    /// there are any.
+    pub fn weight(&self, rules: &[u32], from: u32, to: u32) -> u8
+        requires { rules.now ≡ flow_rules (weights_of self.now.entries) self.now.policy self.now.least from to }
+        ensures { result ≡ flow_weight (weights_of self.now.entries) self.now.policy from to }
+    {
+        if rules.is_empty() {
+            return self.flow(from, to);
+        }
+        let mut weight = 0;
+        for number in rules {
+            weight = weight.max(self.weigher.given(from, to, *number));
+        }
+        weight
+    }
+
+    // The types that the rules join a value to.
+    fn joined_from(&self, alloc: Global, node: u32) -> Result<Set, AllocError>
+        ensures form { IfOk result IsSet }
+        ensures joined { IfOk result (λ set. AreJoined self.now.policy (λ other. any_flow (weights_of self.now.entries) self.now.policy self.now.least node other) (bits_of set)) }
+    {
+        let out = self.out.targets_of(alloc, node)?;
+        let into = self.into.sources_of(alloc, node)?;
+        out.union(alloc, &into)
+    }
+
+    // The types that the rules join to a value.
+    fn joined_to(&self, alloc: Global, node: u32) -> Result<Set, AllocError>
+        ensures form { IfOk result IsSet }
+        ensures joined { IfOk result (λ set. AreJoined self.now.policy (λ other. any_flow (weights_of self.now.entries) self.now.policy self.now.least other node) (bits_of set)) }
+    {
+        let out = self.out.sources_of(alloc, node)?;
+        let into = self.into.targets_of(alloc, node)?;
+        out.union(alloc, &into)
+    }
+
+    // The one or the other, as the graph is turned.
+    fn joined(&self, alloc: Global, node: u32) -> Result<Set, AllocError>
+        ensures form { IfOk result IsSet }
+        ensures joined { IfOk result (λ set. AreJoined self.now.policy (any_edge self.now node) (bits_of set)) }
+    {
+        if self.reverse {
+            self.joined_to(alloc, node)
+        } else {
+            self.joined_from(alloc, node)
+        }
+    }
+
+    // Whether a type is excluded.
+    fn is_excluded(&self, node: u32) -> bool
+        ensures has { result ≡ has_bit self.now.excluded node }
+        ensures least { 1 ≤ self.now.least }
+    {
+        self.excluded.has(node)
+    }
+
+    // Whether a type may be an end of an edge.
+    fn is_open(&self, node: u32) -> bool
+        ensures may { result ≡ is_open self.now node }
+        ensures least { 1 ≤ self.now.least }
+    {
+        let excluded = self.is_excluded(node);
+        is_type(self.policy(), node) && !excluded
+    }
+
+    // Whether a joined type is a successor of a node.
+    fn is_successor(&self, node: u32, other: u32) -> bool
+        ensures { result ≡ is_successor self.now node other }
+    {
+        other != node && self.is_open(other)
+    }
+
+    // The successors of a node among joined types, rising.
+    fn successors_among(
+        &self,
+        alloc: Global,
+        node: u32,
+        joined: &Set,
+    ) -> Result<Vec<u32>, AllocError>
+        ensures { IfOk result (λ found. found.items ≡ filter (is_successor self.now node) (bits_of joined.now)) }
+    {
+        let mut found = Vec::new(alloc);
+        for other in joined.bits() {
+            push_where(&mut found, self.is_successor(node, other), other)?;
+        }
+        Ok(found)
+    }
+
+    // The joined types that are successors of a node which may be an end.
+    fn successors(&self, alloc: Global, node: u32) -> Result<Set, AllocError>
+        requires may { is_open self.now node ≡ true }
+        requires least { 1 ≤ self.now.least }
+        ensures { IfOk result (λ set. AreEnds (flow_edge self.now) node (bits_of set)) }
+    {
+        let joined = self.joined(alloc, node)?;
+        let found = self.successors_among(alloc, node, &joined)?;
+        Set::from_rising(alloc, &found)
+    }
+
+    /// The types that a type has an edge to. There are none where it is excluded.
+    pub fn flows_from(&self, alloc: Global, node: u32) -> Result<Set, AllocError>
+        ensures { IfOk result (λ set. AreEnds (flow_edge self.now) node (bits_of set)) }
+    {
+        if self.is_open(node) {
+            self.successors(alloc, node)
+        } else {
+            Set::empty(alloc)
+        }
+    }
+}
+
+// Sorts numbers, and leaves each once.
+fn make_distinct(numbers: &mut Vec<u32>)
+    ensures { AreDistinct numbers.old.items numbers.new.items }
+{
+    numbers.sort_unstable();
+    numbers.dedup();
+}
+
+impl<'p> Graph for FlowGraph<'p> {
+    ghost use Rattle.flow_search.specs.FlowEdges.{flow_count, flow_edge};
+    ghost use Rattle.flow_search.specs.EdgesBetween.{edges_join};
+
+    ghost nodes = { flow_count };
+
+    ghost edge = { flow_edge };
+
+    ghost between = { edges_join };
+
+    fn size(&self) -> u32 {
+        self.policy().type_count()
+    }
+
+    fn succ<L: Ledger>(
+        &self,
+        alloc: Global,
+        node: u32,
+        steps: &mut Steps<L>,
+    ) -> Result<Set, AllocError> {
+        steps.tick();
+        self.flows_from(alloc, node)
+    }
+}

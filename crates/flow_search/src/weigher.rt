@@ -1,0 +1,169 @@
+ghost use Rattle.std.specs.Prelude.{◌≡◌, ◌<◌, [], IfOk, length, slice_index_or, if◌then◌else◌};
+ghost use Rattle.pol_rules.specs.declared.RuleKind.TheVariants.{Allow};
+ghost use Rattle.pol_rules.specs.StoredRules.{stored, stored_rules};
+ghost use Rattle.perm_map.specs.PermissionMap.{weights_of};
+ghost use Rattle.flow_search.specs.FlowWeights.{class_of, inwards, mask_weight, outwards, part_weight, rule_weight};
+ghost use Rattle.flow_search.specs.Flows.{flow_weight, given_by, weight_of_rule};
+ghost use Rattle.flow_search.specs.WeightTables.{AreWeights, greatest_into, greatest_out};
+
+use crate::class_weights::{ClassWeights, RuleWeights};
+use crate::holding::{are_two_types, is_rule_from_to};
+use perm_map::PermMap;
+use pol_cursor::TableKind;
+use pol_read::{Policy, Rule, RuleKind, RulePart};
+use pol_symbols::Symbols;
+use std::alloc::{AllocError, Global};
+use std::marker::Model;
+
+/// What weighs the rules of a policy by a permission map. Contracts see the policy and the entries of the map.
+///
+/// The permissions of each class are looked up in the map once.
+#[derive(Drop)]
+pub struct Weigher<'p> {
+    policy: &'p Policy<'p>,
+    map: &'p PermMap<'p>,
+    // By the number of a class in the file.
+    classes: Vec<ClassWeights>,
+}
+
+impl<'p> Model for Weigher<'p> {
+    ghost use Rattle.perm_map.specs.PermissionMap.{weights_of};
+    ghost use Rattle.flow_search.specs.WeightTables.{AreWeights, Weighing};
+
+    ghost Value = { Weighing };
+
+    ghost view = { λ w. record { policy = w.policy.now; entries = w.map.now } };
+
+    ghost invariant = { λ w. AreWeights (weights_of w.map.now) w.policy.now.symbols w.classes.items };
+}
+
+const NONE: RuleWeights = RuleWeights { out: 0, into: 0 };
+
+impl<'p> Weigher<'p> {
+    /// Looks up the permissions of all classes.
+    pub fn new(
+        alloc: Global,
+        policy: &'p Policy<'p>,
+        map: &'p PermMap<'p>,
+    ) -> Result<Weigher<'p>, AllocError>
+        ensures { IfOk result (λ weigher. weigher ≡ record { policy = policy.now; entries = map.now }) }
+    {
+        let classes = weights_of_classes(alloc, policy.symbols(), map)?;
+        Ok(Weigher {
+            policy,
+            map,
+            classes,
+        })
+    }
+
+    /// The policy.
+    pub fn policy(&self) -> &'p Policy<'p>
+        ensures { result.now ≡ self.now.policy }
+    {
+        self.policy
+    }
+
+    // The weights of a rule of a class that allows what a mask has.
+    fn weigh_mask(&self, class: u32, mask: u32) -> RuleWeights
+        ensures out { result.out ≡ mask_weight outwards (weights_of self.now.entries) self.now.policy.symbols (class_of self.now.policy.symbols class) mask }
+        ensures into { result.into ≡ mask_weight inwards (weights_of self.now.entries) self.now.policy.symbols (class_of self.now.policy.symbols class) mask }
+    {
+        match self.policy.symbols().by_value(TableKind::Classes, class) {
+            Some(i) => greatest_at(&self.classes, i, mask),
+            None => NONE,
+        }
+    }
+
+    // The weights of an allow rule of a class.
+    fn weigh_part(&self, class: u32, part: &RulePart<'_>) -> RuleWeights
+        ensures out { result.out ≡ part_weight outwards (weights_of self.now.entries) self.now.policy.symbols class Allow part.now }
+        ensures into { result.into ≡ part_weight inwards (weights_of self.now.entries) self.now.policy.symbols class Allow part.now }
+    {
+        match part {
+            RulePart::Perms(mask) => self.weigh_mask(class, *mask),
+            _ => NONE,
+        }
+    }
+
+    // The weights of a rule.
+    #[tactic(auto, unfolding(crate::specs::FlowWeights::rule_weight))]
+    fn weigh_rule(&self, rule: &Rule<'_>) -> RuleWeights
+        ensures out { result.out ≡ rule_weight outwards (weights_of self.now.entries) self.now.policy.symbols (stored rule.now) }
+        ensures into { result.into ≡ rule_weight inwards (weights_of self.now.entries) self.now.policy.symbols (stored rule.now) }
+    {
+        match rule.kind {
+            RuleKind::Allow => self.weigh_part(rule.class, &rule.part),
+            _ => NONE,
+        }
+    }
+
+    /// The weights of the rule of that number.
+    #[tactic(auto, unfolding(crate::specs::Flows::weight_of_rule))]
+    pub fn weigh(&self, number: u32) -> RuleWeights
+        requires { number < length (stored_rules self.now.policy) }
+        ensures out { result.out ≡ weight_of_rule outwards (weights_of self.now.entries) self.now.policy number }
+        ensures into { result.into ≡ weight_of_rule inwards (weights_of self.now.entries) self.now.policy number }
+    {
+        self.weigh_rule(&self.policy.rule(number))
+    }
+
+    /// What the rule of that number gives to the flow from a type to another.
+    #[tactic(auto, unfolding(crate::specs::Flows::given_by, crate::specs::Flows::weight_of_rule, rule_ends::specs::ChosenRules::joins))]
+    pub fn given(&self, from: u32, to: u32, number: u32) -> u8
+        requires { number < length (stored_rules self.now.policy) }
+        ensures { result ≡ given_by (weights_of self.now.entries) self.now.policy from to number }
+    {
+        let rule = self.policy.rule(number);
+        let weights = self.weigh_rule(&rule);
+        let ahead = is_rule_from_to(self.policy, &rule, from, to);
+        let back = is_rule_from_to(self.policy, &rule, to, from);
+        weight_where(ahead, weights.out).max(weight_where(back, weights.into))
+    }
+
+    /// The weight of the flow from a type to another, or 0. Goes through all rules.
+    #[tactic(auto, unfolding(crate::specs::Flows::flow_weight), using(crate::proofs::Weighing::numbers_more))]
+    pub fn flow(&self, from: u32, to: u32) -> u8
+        ensures { result ≡ flow_weight (weights_of self.now.entries) self.now.policy from to }
+    {
+        if !are_two_types(self.policy, from, to) {
+            return 0;
+        }
+        let mut weight = 0;
+        for number in 0..self.policy.rule_count() {
+            weight = weight.max(self.given(from, to, number));
+        }
+        weight
+    }
+}
+
+// The greatest weights of the permissions of a class that a mask has.
+fn greatest_at(classes: &[ClassWeights], number: u32, mask: u32) -> RuleWeights
+    requires { number < length classes.now }
+    ensures out { result.out ≡ greatest_out mask (slice_index_or classes.now number []) }
+    ensures into { result.into ≡ greatest_into mask (slice_index_or classes.now number []) }
+{
+    classes[number as usize].greatest(mask)
+}
+
+// A weight where a test holds, and else 0.
+fn weight_where(holds: bool, weight: u8) -> u8
+    ensures { result ≡ (if holds then weight else 0) }
+{
+    if holds { weight } else { 0 }
+}
+
+// The weights of the permissions of each class, in the order of the file.
+fn weights_of_classes(
+    alloc: Global,
+    symbols: &Symbols<'_>,
+    map: &PermMap<'_>,
+) -> Result<Vec<ClassWeights>, AllocError>
+    ensures { IfOk result (λ classes. AreWeights (weights_of map.now) symbols.now classes.items) }
+{
+    let mut classes = Vec::new(alloc);
+    for i in 0..symbols.len(TableKind::Classes) {
+        let class = symbols.classes.view(i);
+        classes.push(ClassWeights::of_class(alloc, symbols, map, &class)?)?;
+    }
+    Ok(classes)
+}
