@@ -60,7 +60,8 @@ pub fn explore<G: Graph, L: Ledger>(
     })
 }
 
-// The successors of a node. They are many where a set of all nodes has fewer words of 64.
+// The successors of a node. They are many where they are more than the words of 64 nodes that a set of the graph has, and
+// a few more.
 fn ask<G: Graph, L: Ledger>(
     alloc: Global,
     graph: &G,

@@ -13,9 +13,11 @@ use std::sync::ledger::Ledger;
 
 /// The shortest walks from a node to a node, or `None` where there is no walk.
 ///
-/// From a node to itself there is one walk, of no step. Each node is asked for its successors at most once, and the
-/// time is linear in the edges of the nodes that are asked. The memory is that of their successors, 4 bytes each, and
-/// of a few numbers a node.
+/// From a node to itself there is one walk, of no step. Each node is asked for its successors at most once. The time is
+/// linear in the edges of the nodes that are asked, but for bringing the nodes on shortest walks into order; of nodes
+/// with many successors it is linear in the words of 64 nodes. The memory is that of the sets that the graph gives,
+/// which are kept until the search ends, and of a few numbers a node. What stays are the successors on shortest walks,
+/// 4 bytes each.
 pub fn search<G: Graph, L: Ledger>(
     alloc: Global,
     graph: &G,
