@@ -1,0 +1,4 @@
+pub mod Gains
+pub mod Wrotes
+pub mod ItemTexts
+pub mod Resuming

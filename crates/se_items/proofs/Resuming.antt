@@ -1,0 +1,24 @@
+-- Parts of a list of items, and those after them.
+use Rattle.std.proofs.Common.{◌≡◌, ◌+◌, ◌++◌, ◌∷◌, [], ℕ, zero, suc, List, take, drop, Option, Some, None, sym, ◌∙◌, ap, refl, arith}
+use Rattle.std.proofs.lemmas.List.{take-append-drop, drop-drop}
+use Rattle.se_items.specs.Paging.{page, most_items}
+
+pub page_then : (from count : ℕ) (items : List (List ℕ)) → page from (Some count) items ++ page (from + count) None items ≡ page from None items
+unfolding page
+page_then from count items =
+    let all : List (List ℕ) = take most_items items in
+    ap (λ rest. take count (drop from all) ++ rest) (sym (drop-drop count from all)) ∙ take-append-drop count (drop from all)
+
+take-none : {A : Type 0} (count : ℕ) → take {A = A} count [] ≡ []
+take-none zero = refl
+take-none (suc count) = refl
+
+drop-none : {A : Type 0} (count : ℕ) → drop {A = A} count [] ≡ []
+drop-none zero = refl
+drop-none (suc count) = refl
+
+-- of no items none are asked for
+pub page-none : (from : ℕ) (limit : Option ℕ) → page {A = List ℕ} from limit [] ≡ []
+unfolding page
+page-none from None = rw (take-none {A = List ℕ} most_items) (drop-none {A = List ℕ} from)
+page-none from (Some count) = rw (take-none {A = List ℕ} most_items, drop-none {A = List ℕ} from) (take-none {A = List ℕ} count)

@@ -1,0 +1,4 @@
+pub mod Cuts
+pub mod Lasts
+pub mod Numbers
+pub mod Texts

@@ -1,0 +1,5 @@
+pub mod Word
+pub mod Options
+pub mod Values
+pub mod Given
+pub mod Misfits

@@ -1,0 +1,59 @@
+// What the text of a value is: a number within a range, or a list.
+ghost use Rattle.std.specs.Prelude.{◌≡◌, ◌≤◌, IfSome, true};
+ghost use Rattle.std.specs.Char.{is_ascii_digit};
+ghost use Rattle.std.specs.List.{list_all};
+ghost use Rattle.std.specs.Str.Parse.{digits_value};
+ghost use Rattle.se_options.specs.Values.{is_comma_list, is_number, number_within};
+
+// The number that the text is, if it has 1 to 18 decimal digits and is one from the least to the most.
+#[tactic(auto, unfolding(crate::specs::Values::number_within))]
+pub fn number_within(least: u64, most: u64, text: &str) -> Option<u64>
+    ensures number { result ≡ number_within least most text.now }
+    ensures least { IfSome result (λ number. least ≤ number) }
+    ensures most { IfSome result (λ number. number ≤ most) }
+{
+    if !is_number(text) {
+        return None;
+    }
+    let number = value_of_digits(text);
+    if least <= number && number <= most {
+        Some(number)
+    } else {
+        None
+    }
+}
+
+// The number of 1 to 18 decimal digits.
+fn value_of_digits(digits: &str) -> u64
+    requires { is_number digits.now ≡ true }
+    ensures { result ≡ digits_value 10 digits.now }
+{
+    match digits.parse::<u64>() {
+        Ok(number) => number,
+        Err(_) => unreachable!(),
+    }
+}
+
+// Whether the text has 1 to 18 bytes, all decimal digits.
+fn is_number(text: &str) -> bool
+    ensures { result ≡ is_number text.now }
+{
+    !text.is_empty() && text.len() <= 18 && are_digits(text.as_bytes())
+}
+
+// Whether all bytes are decimal digits.
+fn are_digits(bytes: &[u8]) -> bool
+    ensures { result ≡ list_all is_ascii_digit bytes.now }
+{
+    bytes.iter().all(|byte| byte.is_ascii_digit())
+}
+
+// Whether no element of the list that is parted by commas is empty.
+#[tactic(auto, unfolding(crate::specs::Values::is_comma_list))]
+pub fn is_comma_list(text: &str) -> bool
+    ensures { result ≡ is_comma_list text.now }
+{
+    text.as_bytes()
+        .split(|byte| *byte == b',')
+        .all(|element| !element.is_empty())
+}

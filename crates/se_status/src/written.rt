@@ -1,0 +1,21 @@
+// The status of an answer that was written, or not.
+ghost use Rattle.std.specs.Prelude.{◌≡◌, ℕ, List};
+ghost use Rattle.std.specs.declared.option.Option.{Option};
+ghost use Rattle.se_items.specs.Writing.{Sends};
+ghost use Rattle.se_status.specs.Meeting.{Concludes, IsWritten, done};
+
+use crate::Status;
+use se_items::WriteEnd;
+
+/// How a run ends whose answer was written, or why not.
+pub fn status_written(end: Result<(), WriteEnd>) -> Status
+    ensures concludes { (old new : Option (List ℕ)) (before now : ℕ) (text : List ℕ)
+        → Sends old new before now text end → Concludes (done text) old new before now result }
+    ensures plain { IsWritten result }
+{
+    match end {
+        Ok(()) => Status::Done,
+        Err(WriteEnd::Fault) => Status::WriteFault,
+        Err(WriteEnd::Memory) => Status::Memory,
+    }
+}
