@@ -1,0 +1,67 @@
+-- The two ways of a transition, and the steps, test by test.
+use Rattle.std.proofs.Common.{◌≡◌, ℕ, Bool, true, false, refl, sym, ap, ◌∙◌}
+use Rattle.std.specs.Prelude.{◌&&◌, ◌||◌, not}
+use Rattle.std.specs.List.{list_any, range_with_len}
+use Rattle.std.proofs.lemmas.Bool.{and_left, and_right, and_from, false≢true, true≢false}
+use Rattle.pol_bitmap.specs.Nodes.{has_bit}
+use Rattle.pol_file.specs.declared.Parts.{Parts}
+use Rattle.dom_trans.specs.Grants.{grants, process, transition, dyntransition, setcurrent}
+use Rattle.dom_trans.specs.Transitions.{are_two_types, is_entry, is_standard, is_dynamic, is_transition}
+use Rattle.dom_trans.specs.DomainEdges.{Domains, is_step}
+
+abbrev pub any_entry : Parts → ℕ → ℕ → Bool
+any_entry policy a b = list_any (is_entry policy a b) (range_with_len 1 policy.symbols.types.nprim)
+
+and_true : (x y : Bool) → y ≡ true → (x && y) ≡ x
+and_true true y e = e
+and_true false y e = refl
+
+module _ (policy : Parts) (a b : ℕ) where
+  -- by executing a file
+  pub standard_of_others : are_two_types policy a b ≡ false → false ≡ is_standard policy a b
+  unfolding is_standard
+  standard_of_others e = sym (and_left (are_two_types policy a b && grants policy a b process transition) (any_entry policy a b) (and_left (are_two_types policy a b) (grants policy a b process transition) e))
+
+  pub standard_refused : grants policy a b process transition ≡ false → false ≡ is_standard policy a b
+  unfolding is_standard
+  standard_refused e = sym (and_left (are_two_types policy a b && grants policy a b process transition) (any_entry policy a b) (and_right (are_two_types policy a b) (grants policy a b process transition) e))
+
+  pub standard_by_entry : are_two_types policy a b ≡ true → grants policy a b process transition ≡ true → any_entry policy a b ≡ is_standard policy a b
+  unfolding is_standard
+  standard_by_entry two granted = sym (ap (λ (t : Bool). t && any_entry policy a b) (and_from (are_two_types policy a b) (grants policy a b process transition) two granted))
+
+  -- without one
+  pub dynamic_of_others : are_two_types policy a b ≡ false → false ≡ is_dynamic policy a b
+  unfolding is_dynamic
+  dynamic_of_others e = sym (and_left (are_two_types policy a b && grants policy a b process dyntransition) (grants policy a a process setcurrent) (and_left (are_two_types policy a b) (grants policy a b process dyntransition) e))
+
+  pub dynamic_refused : grants policy a a process setcurrent ≡ false → false ≡ is_dynamic policy a b
+  unfolding is_dynamic
+  dynamic_refused e = sym (and_right (are_two_types policy a b && grants policy a b process dyntransition) (grants policy a a process setcurrent) e)
+
+  pub dynamic_by_grant : are_two_types policy a b ≡ true → grants policy a a process setcurrent ≡ true → grants policy a b process dyntransition ≡ is_dynamic policy a b
+  unfolding is_dynamic
+  dynamic_by_grant two changes =
+      sym (and_true (are_two_types policy a b && grants policy a b process dyntransition) (grants policy a a process setcurrent) changes ∙ ap (λ (t : Bool). t && grants policy a b process dyntransition) two)
+
+-- ---- steps
+
+shut : (t x y : Bool) → (x || y) ≡ true → (t && not x && not y) ≡ false
+shut false x y e = refl
+shut true true y e = refl
+shut true false true e = refl
+shut true false false e = absurd (false≢true e)
+
+clear : (t x y : Bool) → (x || y) ≡ false → (t && not x && not y) ≡ t
+clear t true y e = absurd (true≢false e)
+clear t false true e = absurd (true≢false e)
+clear true false false e = refl
+clear false false false e = refl
+
+pub step_excluded : (domains : Domains) (a b : ℕ) → (has_bit domains.excluded a || has_bit domains.excluded b) ≡ true → false ≡ is_step domains a b
+unfolding is_step
+step_excluded domains a b e = sym (shut (is_transition domains.policy a b) (has_bit domains.excluded a) (has_bit domains.excluded b) e)
+
+pub step_by_transition : (domains : Domains) (a b : ℕ) → (has_bit domains.excluded a || has_bit domains.excluded b) ≡ false → is_transition domains.policy a b ≡ is_step domains a b
+unfolding is_step
+step_by_transition domains a b e = sym (clear (is_transition domains.policy a b) (has_bit domains.excluded a) (has_bit domains.excluded b) e)

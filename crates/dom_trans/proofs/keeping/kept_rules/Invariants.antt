@@ -1,0 +1,5 @@
+use Rattle.dom_trans.specs.Keeping.{wanted_in, AreKept}
+use Rattle.dom_trans.proofs.keeping.kept_rules.Given as goal
+
+abbrev pub invariant-loop-number : goal.invariant-loop-number
+invariant-loop-number l = AreKept l.policy (wanted_in l.policy.symbols) l.number l.kept

@@ -1,0 +1,37 @@
+-- The rules that transitions rest on, each list as chosen rules. It serves the code alone.
+use Rattle.std.specs.Prelude.{◌≡◌, ℕ, ◌<◌, ◌^◌, Bool, true, ◌&&◌, ◌||◌, List, length}
+use Rattle.std.specs.List.{All}
+use Rattle.pol_bitmap.specs.declared.Node.{Node}
+use Rattle.pol_bitmap.specs.Nodes.{bits_of, has_bit}
+use Rattle.pol_file.specs.declared.Parts.{Parts}
+use Rattle.rule_ends.specs.ChosenRules.{ChosenRules, is_between_types, targets_from}
+use Rattle.dom_trans.specs.Grants.{granting_rules, grants, default_rules, process, file, transition, dyntransition, setexec, setcurrent, execute, entrypoint}
+use Rattle.dom_trans.specs.Transitions.{is_default}
+
+-- chosen rules of a policy
+abbrev pub chosen : Parts → List ℕ → ChosenRules
+chosen policy rules = record { policy = policy; rules = rules }
+
+-- the ends of some rules are types and attributes, and the rules are few
+pub record HaveTypeEnds (policy : Parts) (numbers : List ℕ) : Type 0 where
+  pub types : All (λ number. is_between_types policy number ≡ true) numbers
+  pub few : length numbers < 2 ^ 32
+
+pub record AreRuleLists (policy : Parts) (transitions dyntransitions setexecs setcurrents executes entrypoints defaults : ChosenRules) : Type 0 where
+  pub transitions_are : transitions ≡ chosen policy (granting_rules policy process transition)
+  pub dyntransitions_are : dyntransitions ≡ chosen policy (granting_rules policy process dyntransition)
+  pub setexecs_are : setexecs ≡ chosen policy (granting_rules policy process setexec)
+  pub setcurrents_are : setcurrents ≡ chosen policy (granting_rules policy process setcurrent)
+  pub executes_are : executes ≡ chosen policy (granting_rules policy file execute)
+  pub entrypoints_are : entrypoints ≡ chosen policy (granting_rules policy file entrypoint)
+  pub defaults_are : defaults ≡ chosen policy (default_rules policy)
+
+-- What a type may do, whatever the other domain is.
+pub record IsSourceOf (policy : Parts) (a : ℕ) (executable : List Node) (sets_exec sets_current : Bool) : Type 0 where
+  pub executes : bits_of executable ≡ targets_from policy (granting_rules policy file execute) a
+  pub asks : sets_exec ≡ grants policy a a process setexec
+  pub changes : sets_current ≡ grants policy a a process setcurrent
+
+-- an entry point of a domain is an entry from a type, by the set of what the type may execute
+abbrev pub leads : Parts → ℕ → ℕ → List Node → ℕ → Bool
+leads policy a b executable entry = has_bit executable entry && (grants policy a a process setexec || is_default policy a b entry)

@@ -1,0 +1,12 @@
+//! Transitions from domain to domain, and the rules behind each of them.
+#![tactic(auto)]
+
+mod dom_graph;
+mod dom_rules;
+mod keeping;
+mod permission;
+mod reasons;
+
+pub use dom_graph::DomGraph;
+pub use permission::Permission;
+pub use reasons::{EntryReason, EntryReasonList, Reasons};

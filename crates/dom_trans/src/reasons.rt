@@ -1,0 +1,28 @@
+use pol_cursor::{NumberList, OwnedList};
+
+/// The rules behind one entry type of a transition, each list in the order in which rules are listed.
+#[derive(Drop)]
+pub struct EntryReason {
+    /// The value of the type.
+    pub entry: u32,
+    /// Those that make it an entry point of the new domain.
+    pub entrypoint: NumberList,
+    /// Those that let the old domain execute it.
+    pub execute: NumberList,
+    /// The type_transitions that make the new domain the default.
+    pub default: NumberList,
+}
+
+/// Those of its entry types, rising.
+pub type EntryReasonList = OwnedList<EntryReason>;
+
+/// The numbers of the rules behind a transition, each list in the order in which rules are listed. A way of transition that does not
+/// hold has none.
+#[derive(Drop)]
+pub struct Reasons {
+    pub transition: NumberList,
+    pub setexec: NumberList,
+    pub entries: EntryReasonList,
+    pub dyntransition: NumberList,
+    pub setcurrent: NumberList,
+}
