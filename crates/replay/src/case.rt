@@ -38,6 +38,8 @@ pub struct Case {
     /// The permission map, where the files have one. Its name is `map`.
     pub map: Option<Source>,
     pub files: Orders,
+    /// The pattern that is refused, counted from 1, or 0 where none is.
+    pub patterns: u64,
     pub out: Orders,
     pub err: Orders,
     pub wanted: Answer,
@@ -64,6 +66,7 @@ impl Case {
             policy: None,
             map: None,
             files: Orders::new(),
+            patterns: 0,
             out: Orders::new(),
             err: Orders::new(),
             wanted: Answer::new(alloc),

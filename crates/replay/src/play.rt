@@ -1,10 +1,10 @@
-// A case is played: its words through the tools, over files and sinks in memory.
+// A case is played: its words through the tools, over files, patterns and sinks in memory.
 ghost use Rattle.se_outside.specs.Outside.{NoneAsked};
 ghost use Rattle.se_outside.specs.MemFiles.{mem_state};
 
 use crate::answer::Answer;
 use crate::case::{Case, Orders};
-use se_outside::{MemFiles, MemSink};
+use se_outside::{MemFiles, MemPatterns, MemSink};
 use se_tools::run;
 use std::alloc::{AllocError, Global};
 
@@ -22,7 +22,16 @@ pub fn play(
     files.most(case.files.most);
     let mut out = sink_of(alloc, &case.out)?;
     let mut err = sink_of(alloc, &case.err)?;
-    let status = run(alloc, &case.words, &mut files, &mut out, &mut err);
+    let mut patterns = MemPatterns::new(alloc);
+    patterns.fail(case.patterns)?;
+    let status = run(
+        alloc,
+        &case.words,
+        &mut files,
+        &mut patterns,
+        &mut out,
+        &mut err,
+    );
     Ok(Answer {
         code: status.code(),
         out: Vec::from_slice(alloc, out.bytes())?,

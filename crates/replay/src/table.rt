@@ -17,6 +17,7 @@ enum Key {
     Map,
     FilesFail,
     FilesMost,
+    PatternsFail,
     OutFail,
     OutMost,
     OutRoom,
@@ -30,13 +31,14 @@ enum Key {
     ErrPart,
 }
 
-const KEYS: [(&str, Key); 17] = [
+const KEYS: [(&str, Key); 18] = [
     ("words", Key::Words),
     ("named", Key::Named),
     ("policy", Key::Policy),
     ("map", Key::Map),
     ("files-fail", Key::FilesFail),
     ("files-most", Key::FilesMost),
+    ("patterns-fail", Key::PatternsFail),
     ("out-fail", Key::OutFail),
     ("out-most", Key::OutMost),
     ("out-room", Key::OutRoom),
@@ -159,6 +161,7 @@ fn set(alloc: Global, key: Key, value: &str, case: &mut Case) -> Result<(), Caus
         Key::Map => case.map = Some(source_of(alloc, value)?),
         Key::FilesFail => case.files = with_fail(case.files, value)?,
         Key::FilesMost => case.files = with_most(case.files, value)?,
+        Key::PatternsFail => case.patterns = number_of(value)?,
         Key::OutFail => case.out = with_fail(case.out, value)?,
         Key::OutMost => case.out = with_most(case.out, value)?,
         Key::OutRoom => case.out = with_room(case.out, value)?,

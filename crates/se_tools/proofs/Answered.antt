@@ -1,20 +1,28 @@
 -- From a file that was read whole, or not, to the answer about it.
-use Rattle.std.proofs.Common.{◌≡◌, ◌≢◌, ◌≤◌, ◌<◌, ◌+◌, ℕ, List, length, true, false, Option, Result, Ok, Err, Vec, nat_lt, refl, arith}
+use Rattle.std.proofs.Common.{◌≡◌, ◌≢◌, ◌≤◌, ◌<◌, ◌+◌, ℕ, List, [], length, true, false, Option, Some, None, Result, Ok, Err, Vec, nat_lt, refl, sym, ap, append-nil, arith}
 use Rattle.std.specs.Global.{Global}
+use Rattle.std.specs.Prelude.{IsOk, MatchOption}
 use Rattle.std.proofs.lemmas.Bool.{ltb-true}
 use Rattle.pol_file.specs.Acceptance.{accept}
-use Rattle.se_outside.specs.Outside.{IsAsked, SlotState, World, told}
+use Rattle.rule_query.specs.Given.{Given}
+use Rattle.rule_query.specs.Resolving.{AskedFor}
+use Rattle.se_outside.specs.Outside.{IsAsked, NoneAsked, Rose, SlotState, World, told}
 use Rattle.se_outside.specs.declared.Slot.{Slot}
 use Rattle.se_outside.specs.declared.Slot.TheVariants.{Policy, Map}
 use Rattle.se_words.specs.Request.{Asks, policy_of}
-use Rattle.se_tools.specs.Answer.{Answers, AsksOnly, IsAbout, IsAskedUnder, bytes_answer, file_limit, policy_answer}
-use Rattle.se_tools.specs.Meeting.{Concludes, IsOfPolicy, refusal}
+use Rattle.se_items.specs.Writing.{GainsPart}
+use Rattle.se_items.proofs.Gains.{gains-none}
+use Rattle.se_search.specs.SearchPatterns.{TriedUntil, TriesPatterns}
+use Rattle.se_status.specs.declared.Status.{Status}
+use Rattle.se_status.specs.declared.Status.TheVariants.{Done, Usage, ReadFault, TooLarge, BadPolicy, BadMap, UnknownName, BadNumber, BadPattern, WriteFault, Memory}
+use Rattle.se_status.specs.Meeting.{Answer, refusal}
+use Rattle.se_tools.specs.Answer.{asked_name, asked_patterns, by_file, file_limit, name_in, patterns_in, policy_answer}
+use Rattle.se_tools.specs.Answers.{Answers, AsksMap, AsksOnly, HoldsPolicy, IsAbout, IsAskedUnder, IsSettled, Settles}
 use Rattle.se_tools.specs.Reading.{ReadsWhole}
 use Rattle.se_tools.specs.declared.reading.ReadEnd.{ReadEnd}
 use Rattle.se_tools.specs.declared.reading.ReadEnd.TheVariants as ends
-use Rattle.se_tools.specs.declared.status.Status.{Status}
-use Rattle.se_tools.specs.declared.status.Status.TheVariants.{Done, Usage, ReadFault, TooLarge, BadPolicy, UnknownName, WriteFault, Memory}
-use Rattle.se_tools.proofs.Gains.{gains-none}
+
+-- ---- a file within its limit
 
 below : (a b : ℕ) → b ≤ a → nat_lt a b ≡ false
 below a b le = grind (arith, ltb-true)
@@ -22,96 +30,259 @@ below a b le = grind (arith, ltb-true)
 above : (a b : ℕ) → a < b → nat_lt a b ≡ true
 above a b lt = grind (arith, ltb-true)
 
-bytes-within : (asks : Asks) (bytes : List ℕ) → length bytes ≤ file_limit Policy → bytes_answer asks bytes ≡ policy_answer asks (accept bytes)
-unfolding bytes_answer
-bytes-within asks bytes le = rw (below (file_limit Policy) (length bytes) le) refl
+within-few : (slot : Slot) (bytes : List ℕ) (answer : List ℕ → Answer) → length bytes ≤ file_limit slot → by_file slot (Some bytes) answer ≡ answer bytes
+unfolding by_file
+within-few slot bytes answer le = rw (below (file_limit slot) (length bytes) le) refl
 
-bytes-above : (asks : Asks) (bytes : List ℕ) → file_limit Policy < length bytes → bytes_answer asks bytes ≡ refusal (TooLarge Policy)
-unfolding bytes_answer
-bytes-above asks bytes lt = rw (above (file_limit Policy) (length bytes) lt) refl
+within-many : (slot : Slot) (bytes : List ℕ) (answer : List ℕ → Answer) → file_limit slot < length bytes → by_file slot (Some bytes) answer ≡ refusal (TooLarge slot)
+unfolding by_file
+within-many slot bytes answer lt = rw (above (file_limit slot) (length bytes) lt) refl
 
-other-map : Map ≢ Policy
+-- The answer by the bytes that were read.
+pub by_file-read : (world : World) (old new : Slot → SlotState) (slot : Slot) (name : List ℕ) (v : Vec ℕ Global) (held : Option (List ℕ)) (answer : List ℕ → Answer)
+    → ReadsWhole world old new slot name (file_limit slot) (Ok v) → told world slot name ≡ Some held → by_file slot held answer ≡ answer v.items
+by_file-read world old new slot name v None answer reads tells = absurd (let e = reads.absent tells in cc)
+by_file-read world old new slot name v (Some bytes) answer reads tells = let same = reads.content bytes tells in rw (← same) (within-few slot v.items answer reads.within)
+
+-- The answer where more was read than the limit.
+pub by_file-large : (world : World) (old new : Slot → SlotState) (slot : Slot) (name : List ℕ) (held : Option (List ℕ)) (answer : List ℕ → Answer)
+    → ReadsWhole world old new slot name (file_limit slot) (Err ends.TooLarge) → told world slot name ≡ Some held → by_file slot held answer ≡ refusal (TooLarge slot)
+by_file-large world old new slot name None answer reads tells = absurd (let e = reads.absent tells in cc)
+by_file-large world old new slot name (Some bytes) answer reads tells = within-many slot bytes answer (reads.content bytes tells refl)
+
+-- ---- slots and their names
+
+pub other-map : Map ≢ Policy
 other-map e = cc
 
-about-policy : (asks : Asks) (status : Status) → IsOfPolicy status → IsAbout (Ok asks) status
-about-policy asks Done h = refl
-about-policy asks (Usage word) h = absurd h
-about-policy asks (ReadFault slot) h = absurd h
-about-policy asks (TooLarge slot) h = absurd h
-about-policy asks (BadPolicy fault) h = refl
-about-policy asks (UnknownName word) h = refl
-about-policy asks WriteFault h = refl
-about-policy asks Memory h = tt
+pub other-policy : Policy ≢ Map
+other-policy e = cc
 
-no-fault : (slot : Slot) (status : Status) → IsOfPolicy status → status ≡ ReadFault slot → ⊥
-no-fault slot Done h e = cc
-no-fault slot (Usage word) h e = h
-no-fault slot (ReadFault other) h e = h
-no-fault slot (TooLarge other) h e = h
-no-fault slot (BadPolicy fault) h e = cc
-no-fault slot (UnknownName word) h e = cc
-no-fault slot WriteFault h e = cc
-no-fault slot Memory h e = cc
+-- what is the same, whether a name is asked for or not
+pub untouched-map : (name : Option (List ℕ)) (P : Type 0) → P → MatchOption name P (λ _. P)
+untouched-map None P p = p
+untouched-map (Some name) P p = p
 
-asked-under : (world : World) (slot : Slot) (name : List ℕ) (status : Status) (state : SlotState) → state.asked ≡ true → IsAsked (told world slot name) state.name name
-    → IsAskedUnder world slot name status state
-asked-under world slot name Done state asked named = (asked, named)
-asked-under world slot name (Usage word) state asked named = (asked, named)
-asked-under world slot name (ReadFault other) state asked named = (asked, named)
-asked-under world slot name (TooLarge other) state asked named = (asked, named)
-asked-under world slot name (BadPolicy fault) state asked named = (asked, named)
-asked-under world slot name (UnknownName word) state asked named = (asked, named)
-asked-under world slot name WriteFault state asked named = (asked, named)
-asked-under world slot name Memory state asked named = λ _. named
+-- the policy was asked under its name
+asked-policy : (world : World) (name : List ℕ) (status : Status) (old new : SlotState) → new.asked ≡ true → IsAsked (told world Policy name) new.name name → IsAskedUnder world Policy name status old new
+asked-policy world name Done old new asked named = (asked, named)
+asked-policy world name (Usage word) old new asked named = (asked, named)
+asked-policy world name (ReadFault slot) old new asked named = (asked, named)
+asked-policy world name (TooLarge slot) old new asked named = (asked, named)
+asked-policy world name (BadPolicy fault) old new asked named = (asked, named)
+asked-policy world name (BadMap fault) old new asked named = (asked, named)
+asked-policy world name (UnknownName word) old new asked named = (asked, named)
+asked-policy world name (BadNumber word) old new asked named = (asked, named)
+asked-policy world name (BadPattern word kind) old new asked named = (asked, named)
+asked-policy world name WriteFault old new asked named = (asked, named)
+asked-policy world name Memory old new asked named = λ _. named
+
+-- ---- patterns that were not tried
+
+asked-none : (old : Option (List (List ℕ))) → AskedFor old old []
+asked-none None = tt
+asked-none (Some had) = ap Some (sym (append-nil had))
+
+pub untried : (words : List Given) (asked : Option (List (List ℕ))) (past : ℕ) (status : Status) → TriedUntil [] words past past status → TriesPatterns words asked asked past past status
+untried words asked past status until = record { tried = []; others = words; order = refl; asked = asked-none asked; until = until; later = omega arith }
+
+-- ---- the status of a policy that was read
+
+settled-about : (asks : Asks) (status : Status) → IsSettled asks status → IsAbout (Ok asks) status
+settled-about asks Done h = refl
+settled-about asks (Usage word) h = absurd h
+settled-about asks (ReadFault slot) (is, some) = rw is some
+settled-about asks (TooLarge slot) (is, some) = rw is some
+settled-about asks (BadPolicy fault) h = refl
+settled-about asks (BadMap fault) h = h
+settled-about asks (UnknownName word) h = refl
+settled-about asks (BadNumber word) h = refl
+settled-about asks (BadPattern word kind) h = refl
+settled-about asks WriteFault h = refl
+settled-about asks Memory h = tt
+
+not-policy : (asks : Asks) (status : Status) → IsSettled asks status → status ≡ ReadFault Policy → ⊥
+not-policy asks (ReadFault slot) (is, some) e = cc
+not-policy asks Done h e = cc
+not-policy asks (Usage word) h e = cc
+not-policy asks (TooLarge slot) h e = cc
+not-policy asks (BadPolicy fault) h e = cc
+not-policy asks (BadMap fault) h e = cc
+not-policy asks (UnknownName word) h e = cc
+not-policy asks (BadNumber word) h e = cc
+not-policy asks (BadPattern word kind) h e = cc
+not-policy asks WriteFault h e = cc
+not-policy asks Memory h e = cc
 
 -- The policy was read, and nothing else was asked for.
 Reads : Asks → World → (Slot → SlotState) → (Slot → SlotState) → Result (Vec ℕ Global) ReadEnd → Type 0
 Reads asks world old new result = ReadsWhole world old new Policy (policy_of asks).text (file_limit Policy) result
 
-asks-only : (asks : Asks) (world : World) (status : Status) (old new : Slot → SlotState) (result : Result (Vec ℕ Global) ReadEnd) → Reads asks world old new result → AsksOnly world (Ok asks) status old new
-unfolding Reads
-asks-only asks world status old new result reads Policy = asked-under world Policy (policy_of asks).text status (new Policy) reads.asked reads.named
-asks-only asks world status old new result reads Map = reads.others Map other-map
+-- ---- what a policy that was not read leaves
 
-turns-by : (asks : Asks) (world : World) (old new : Slot → SlotState) (result : Result (Vec ℕ Global) ReadEnd) → Reads asks world old new result
+asked-unread : (asks : Asks) (world : World) (status : Status) (old new : Slot → SlotState) (result : Result (Vec ℕ Global) ReadEnd) → Reads asks world old new result
+    → MatchOption (name_in asks Map) (new Map ≡ old Map) (λ name. IsAskedUnder world Map name status (old Map) (new Map)) → AsksOnly world (Ok asks) status old new
+unfolding Reads
+asked-unread asks world status old new result reads at Policy = asked-policy world (policy_of asks).text status (old Policy) (new Policy) reads.asked reads.named
+asked-unread asks world status old new result reads at Map = at
+
+turns-unread : (asks : Asks) (world : World) (old new : Slot → SlotState) (result : Result (Vec ℕ Global) ReadEnd) → Reads asks world old new result
     → (slot : Slot) → (new slot).turns ≤ (old slot).turns + file_limit slot + 2
 unfolding Reads
-turns-by asks world old new result reads Policy = reads.turns
-turns-by asks world old new result reads Map = rw (reads.others Map other-map) (omega arith)
+turns-unread asks world old new result reads Policy = reads.turns
+turns-unread asks world old new result reads Map = rw (reads.others Map other-map) (omega arith)
 
--- The answer about what was read.
-pub answers-within : (asks : Asks) (world : World) (files_old files_new : Slot → SlotState) (old new : Option (List ℕ)) (before now : ℕ) (v : Vec ℕ Global) (status : Status)
-    → ReadsWhole world files_old files_new Policy (policy_of asks).text (file_limit Policy) (Ok v)
-    → Concludes (policy_answer asks (accept v.items)) old new before now status
-    → Answers (Ok asks) world files_old files_new old new before now status
+-- a slot that was not asked, when memory ran out
+pub unasked-memory : (world : World) (name : Option (List ℕ)) (slot : Slot) (state : SlotState) → state.asked ≡ false → MatchOption name (state ≡ state) (λ name. IsAskedUnder world slot name Memory state state)
+unasked-memory world None slot state unasked = refl
+unasked-memory world (Some name) Policy state unasked = λ asked. absurd (cc (unasked, asked))
+unasked-memory world (Some name) Map state unasked = λ asked. absurd (cc (unasked, asked))
+
+fault-at : (old new : Slot → SlotState) → Rose (old Policy).faults (new Policy).faults → (slot : Slot) → ReadFault Policy ≡ ReadFault slot → Rose (old slot).faults (new slot).faults
+fault-at old new rose Policy e = rose
+fault-at old new rose Map e = absurd (cc e)
+
+not-asked : (old new : SlotState) → old.asked ≡ false → new ≡ old → new.asked ≡ true → ⊥
+not-asked old new unasked same asked = let e = ap (λ (s : SlotState). s.asked) same in cc
+
+pub part-none : (sink : Option (List ℕ)) (text : List ℕ) → GainsPart sink sink text
+part-none sink text = ([], text, refl, gains-none sink)
+
+-- ---- nothing was asked for
+
+-- The words do not fit.
+pub answers-usage : (word : ℕ) (world : World) (files : Slot → SlotState) (asked : Option (List (List ℕ))) (past : ℕ) (sink : Option (List ℕ)) (faults : ℕ) → NoneAsked files
+    → Answers (Err word) world files files asked asked past past sink sink faults faults (Usage word)
+answers-usage word world files asked past sink faults unasked = record {
+  meets = λ contents tells. (refl, gains-none sink);
+  about = refl;
+  silent = gains-none sink;
+  asked = λ slot. refl;
+  turns = λ slot. omega arith;
+  read = λ slot e. absurd (cc e);
+  mapped = λ e. cc (unasked Map, e);
+  patterns = untried [] asked past (Usage word) refl;
+  wrote = λ e. absurd (cc e);
+  later = omega arith;
+}
+
+-- Memory ran out over the words.
+pub answers-nothing : (request : Result Asks ℕ) (world : World) (files : Slot → SlotState) (asked : Option (List (List ℕ))) (past : ℕ) (sink : Option (List ℕ)) (faults : ℕ) → NoneAsked files
+    → Answers request world files files asked asked past past sink sink faults faults Memory
+answers-nothing request world files asked past sink faults unasked = record {
+  meets = λ contents tells. part-none sink _;
+  about = tt;
+  silent = tt;
+  asked = λ slot. unasked-memory world (asked_name request slot) slot (files slot) (unasked slot);
+  turns = λ slot. omega arith;
+  read = λ slot e. absurd (cc e);
+  mapped = λ e. absurd (cc (unasked Map, e));
+  patterns = untried (asked_patterns request) asked past Memory tt;
+  wrote = λ e. absurd (cc e);
+  later = omega arith;
+}
+
+-- ---- the policy was not read
+
+-- A read failed.
+pub answers-fault : (asks : Asks) (world : World) (files_old files_new : Slot → SlotState) (asked : Option (List (List ℕ))) (past : ℕ) (sink : Option (List ℕ)) (faults : ℕ) → (files_old Map).asked ≡ false
+    → ReadsWhole world files_old files_new Policy (policy_of asks).text (file_limit Policy) (Err ends.Fault)
+    → Answers (Ok asks) world files_old files_new asked asked past past sink sink faults faults (ReadFault Policy)
 unfolding Reads
-answers-within asks world files_old files_new old new before now v status reads concludes = record {
-  meets = λ contents tells.
-      let same = reads.content (contents Policy) (tells Policy) in
-      rw (← same, bytes-within asks v.items reads.within) concludes.meets;
-  absent = λ none. absurd (cc (reads.absent none));
-  about = about-policy asks status concludes.about;
-  silent = concludes.silent;
-  asked = asks-only asks world status files_old files_new _ reads;
-  turns = turns-by asks world files_old files_new _ reads;
-  read = λ slot e. absurd (no-fault slot status concludes.about e);
-  wrote = concludes.wrote;
-  later = concludes.later;
+answers-fault asks world files_old files_new asked past sink faults unasked reads = record {
+  meets = λ contents tells. gains-none sink;
+  about = refl;
+  silent = gains-none sink;
+  asked = asked-unread asks world (ReadFault Policy) files_old files_new _ reads (untouched-map (name_in asks Map) (files_new Map ≡ files_old Map) (reads.others Map other-map));
+  turns = turns-unread asks world files_old files_new _ reads;
+  read = fault-at files_old files_new (reads.fault refl);
+  mapped = λ e. absurd (not-asked (files_old Map) (files_new Map) unasked (reads.others Map other-map) e);
+  patterns = untried (patterns_in asks) asked past (ReadFault Policy) refl;
+  wrote = λ e. absurd (cc e);
+  later = omega arith;
 }
 
 -- More was read than the limit.
-pub answers-large : (asks : Asks) (world : World) (files_old files_new : Slot → SlotState) (sink : Option (List ℕ)) (faults : ℕ)
+pub answers-large : (asks : Asks) (world : World) (files_old files_new : Slot → SlotState) (asked : Option (List (List ℕ))) (past : ℕ) (sink : Option (List ℕ)) (faults : ℕ) → (files_old Map).asked ≡ false
     → ReadsWhole world files_old files_new Policy (policy_of asks).text (file_limit Policy) (Err ends.TooLarge)
-    → Answers (Ok asks) world files_old files_new sink sink faults faults (TooLarge Policy)
+    → Answers (Ok asks) world files_old files_new asked asked past past sink sink faults faults (TooLarge Policy)
 unfolding Reads
-answers-large asks world files_old files_new sink faults reads = record {
-  meets = λ contents tells. rw (bytes-above asks (contents Policy) (reads.content (contents Policy) (tells Policy) refl)) (refl, gains-none sink);
-  absent = λ none. absurd (cc (reads.absent none));
+answers-large asks world files_old files_new asked past sink faults unasked reads = record {
+  meets = λ contents tells.
+      rw (by_file-large world files_old files_new Policy (policy_of asks).text (contents Policy) (λ bytes. policy_answer asks (accept bytes) contents) reads (tells Policy)) (refl, gains-none sink);
   about = refl;
   silent = gains-none sink;
-  asked = asks-only asks world (TooLarge Policy) files_old files_new _ reads;
-  turns = turns-by asks world files_old files_new _ reads;
+  asked = asked-unread asks world (TooLarge Policy) files_old files_new _ reads (untouched-map (name_in asks Map) (files_new Map ≡ files_old Map) (reads.others Map other-map));
+  turns = turns-unread asks world files_old files_new _ reads;
   read = λ slot e. absurd (cc e);
+  mapped = λ e. absurd (not-asked (files_old Map) (files_new Map) unasked (reads.others Map other-map) e);
+  patterns = untried (patterns_in asks) asked past (TooLarge Policy) refl;
   wrote = λ e. absurd (cc e);
   later = omega arith;
+}
+
+-- Memory ran out.
+pub answers-memory : (asks : Asks) (world : World) (files_old files_new : Slot → SlotState) (asked : Option (List (List ℕ))) (past : ℕ) (sink : Option (List ℕ)) (faults : ℕ) → (files_old Map).asked ≡ false
+    → ReadsWhole world files_old files_new Policy (policy_of asks).text (file_limit Policy) (Err ends.Memory)
+    → Answers (Ok asks) world files_old files_new asked asked past past sink sink faults faults Memory
+unfolding Reads
+answers-memory asks world files_old files_new asked past sink faults unasked reads = record {
+  meets = λ contents tells. part-none sink _;
+  about = tt;
+  silent = tt;
+  asked = asked-unread asks world Memory files_old files_new _ reads (rw (reads.others Map other-map) (unasked-memory world (name_in asks Map) Map (files_old Map) unasked));
+  turns = turns-unread asks world files_old files_new _ reads;
+  read = λ slot e. absurd (cc e);
+  mapped = λ e. absurd (not-asked (files_old Map) (files_new Map) unasked (reads.others Map other-map) e);
+  patterns = untried (patterns_in asks) asked past Memory tt;
+  wrote = λ e. absurd (cc e);
+  later = omega arith;
+}
+
+-- ---- the policy was read
+
+within-asked : (asks : Asks) (world : World) (files_old mid new : Slot → SlotState) (v : Vec ℕ Global) (status : Status) → Reads asks world files_old mid (Ok v) → AsksMap world (name_in asks Map) status mid new
+    → AsksOnly world (Ok asks) status files_old new
+unfolding Reads
+within-asked asks world files_old mid new v status reads files Policy =
+    rw files.policy (asked-policy world (policy_of asks).text status (files_old Policy) (mid Policy) reads.asked reads.named)
+within-asked asks world files_old mid new v status reads files Map = rw (reads.others Map other-map) at files.asked
+
+within-turns : (asks : Asks) (world : World) (files_old mid new : Slot → SlotState) (v : Vec ℕ Global) (status : Status) → Reads asks world files_old mid (Ok v) → AsksMap world (name_in asks Map) status mid new
+    → (slot : Slot) → (new slot).turns ≤ (files_old slot).turns + file_limit slot + 2
+unfolding Reads
+within-turns asks world files_old mid new v status reads files Policy = rw files.policy reads.turns
+within-turns asks world files_old mid new v status reads files Map = rw (reads.others Map other-map) at files.turns
+
+within-read : (asks : Asks) (world : World) (files_old mid new : Slot → SlotState) (v : Vec ℕ Global) (status : Status) → Reads asks world files_old mid (Ok v) → AsksMap world (name_in asks Map) status mid new → IsSettled asks status
+    → (slot : Slot) → status ≡ ReadFault slot → Rose (files_old slot).faults (new slot).faults
+unfolding Reads
+within-read asks world files_old mid new v status reads files about Policy e = absurd (not-policy asks status about e)
+within-read asks world files_old mid new v status reads files about Map e = let rose = files.read e in rw (reads.others Map other-map) at rose
+
+-- what is told of the bytes that were read, which are accepted
+holds-policy : (held : Option (Option (List ℕ))) (items : List ℕ) → (held ≡ Some None → ⊥) → ((bytes : List ℕ) → held ≡ Some (Some bytes) → items ≡ bytes) → length items ≤ file_limit Policy → IsOk (accept items)
+    → HoldsPolicy held
+holds-policy None items there same few ok = tt
+holds-policy (Some None) items there same few ok = there refl
+holds-policy (Some (Some bytes)) items there same few ok = rw (← same bytes refl) (few, ok)
+
+-- The answer about what was read.
+pub answers-within : (asks : Asks) (world : World) (files_old mid files_new : Slot → SlotState) (asked_old asked_new : Option (List (List ℕ))) (past refusals : ℕ) (old new : Option (List ℕ)) (before now : ℕ) (v : Vec ℕ Global) (status : Status)
+    → ReadsWhole world files_old mid Policy (policy_of asks).text (file_limit Policy) (Ok v)
+    → Settles asks (accept v.items) world mid files_new asked_old asked_new past refusals old new before now status
+    → Answers (Ok asks) world files_old files_new asked_old asked_new past refusals old new before now status
+unfolding Reads
+answers-within asks world files_old mid files_new asked_old asked_new past refusals old new before now v status reads settles = record {
+  meets = λ contents tells.
+      rw (by_file-read world files_old mid Policy (policy_of asks).text v (contents Policy) (λ bytes. policy_answer asks (accept bytes) contents) reads (tells Policy)) (settles.meets contents tells);
+  about = settled-about asks status settles.about;
+  silent = settles.silent;
+  asked = within-asked asks world files_old mid files_new v status reads settles.files;
+  turns = within-turns asks world files_old mid files_new v status reads settles.files;
+  read = within-read asks world files_old mid files_new v status reads settles.files settles.about;
+  mapped = λ e. holds-policy (told world Policy (policy_of asks).text) v.items (λ none. absurd (let e = reads.absent none in cc)) reads.content reads.within (settles.mapped e);
+  patterns = settles.patterns;
+  wrote = settles.wrote;
+  later = settles.later;
 }

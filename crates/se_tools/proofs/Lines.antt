@@ -4,10 +4,10 @@ use Rattle.std.specs.List.{flat_map}
 use Rattle.std.proofs.lemmas.List.{take_more, take-append-drop}
 use Rattle.info_lines.specs.Lines.{PushesLine}
 use Rattle.se_tools.specs.Listing.{PushesNext, line_text, front_text, indent_of, listing_text}
-use Rattle.se_tools.specs.Writing.{Moves, Emits, Sends, Wrote}
-use Rattle.se_tools.specs.declared.writing.WriteEnd.{WriteEnd}
-use Rattle.se_tools.specs.declared.writing.WriteEnd.TheVariants.{Fault, Memory}
-use Rattle.se_tools.proofs.Gains.{list-more, list-part, list-part-then, spilled, spilled-part, moved-whole, moved-part}
+use Rattle.se_items.specs.Writing.{Moves, Emits, Sends, Wrote}
+use Rattle.se_items.specs.declared.WriteEnd.{WriteEnd}
+use Rattle.se_items.specs.declared.WriteEnd.TheVariants.{Fault, Memory}
+use Rattle.se_items.proofs.Gains.{list-more, list-part, list-part-then, spilled, spilled-part, moved-whole, moved-part}
 
 -- The next line stands in the buffer as in a listing.
 pub pushes-next : (indent : List ℕ) (old new : List (List ℕ)) (had first second has : List ℕ) (u : Unit {0})

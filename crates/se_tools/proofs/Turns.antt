@@ -1,9 +1,9 @@
 -- What the turns of a reading loop keep.
 use Rattle.std.proofs.Common.{◌≡◌, ◌≢◌, ◌≤◌, ◌<◌, ◌+◌, ◌++◌, ◌∷◌, ℕ, zero, suc, List, [], length, take, drop, true, Some, Result, Ok, refl, sym, subst, ◌∙◌, ap, arith, append_assoc, length-append}
 use Rattle.std.proofs.lemmas.List.{take_all, take-append-drop, take-take, length-take-le}
-use Rattle.se_outside.specs.Outside.{SlotState, Reads}
+use Rattle.se_outside.specs.Outside.{SlotState, Reads, World}
 use Rattle.se_outside.specs.declared.Slot.{Slot}
-use Rattle.se_tools.proofs.Gains.{append_nil}
+use Rattle.se_items.proofs.Gains.{append_nil}
 
 -- Nothing but the slot's place changes.
 pub record Kept (start now : Slot → SlotState) (slot : Slot) : Type 0 where
@@ -13,7 +13,8 @@ pub record Kept (start now : Slot → SlotState) (slot : Slot) : Type 0 where
   pub later : (start slot).faults ≤ (now slot).faults
 
 -- What was read and what is left are what the slot had.
-pub record Turns (start now : Slot → SlotState) (slot : Slot) (turn : ℕ) (bytes : List ℕ) (limit : ℕ) : Type 0 where
+pub record Turns (first world : World) (start now : Slot → SlotState) (slot : Slot) (turn : ℕ) (bytes : List ℕ) (limit : ℕ) : Type 0 where
+  pub same : world ≡ first
   pub kept : Kept start now slot
   pub turned : (now slot).turns ≤ (start slot).turns + turn
   pub is_open : (now slot).is_open ≡ true
@@ -21,9 +22,9 @@ pub record Turns (start now : Slot → SlotState) (slot : Slot) (turn : ℕ) (by
   pub turns : turn ≤ length bytes
   pub size : length bytes ≤ limit
 
-pub turns-start : (start : Slot → SlotState) (slot : Slot) (bytes : List ℕ) (limit : ℕ) → bytes ≡ [] → (start slot).is_open ≡ true → Turns start start slot 0 bytes limit
-turns-start start slot bytes limit empty is_open =
-    record { kept = record { others = λ s ne. refl; asked = refl; named = refl; later = omega arith }; turned = omega arith; is_open = is_open; content = λ xs h. (xs, h, rw empty refl); turns = omega arith; size = rw empty (omega arith) }
+pub turns-start : (first world : World) (start : Slot → SlotState) (slot : Slot) (bytes : List ℕ) (limit : ℕ) → world ≡ first → bytes ≡ [] → (start slot).is_open ≡ true → Turns first world start start slot 0 bytes limit
+turns-start first world start slot bytes limit same empty is_open =
+    record { same = same; kept = record { others = λ s ne. refl; asked = refl; named = refl; later = omega arith }; turned = omega arith; is_open = is_open; content = λ xs h. (xs, h, rw empty refl); turns = omega arith; size = rw empty (omega arith) }
 
 pub kept-read : {E : Type 0} (start mid new : Slot → SlotState) (slot : Slot) (into : List ℕ) (r : Result ℕ E) → Kept start mid slot → Reads mid new slot into r → Kept start new slot
 kept-read start mid new slot into r kept reads =
@@ -40,10 +41,12 @@ read-on mid new slot into k bytes more xs rest reads grown left e =
 pub longer : (into bytes more : List ℕ) (k : ℕ) → k ≤ length into → more ≡ bytes ++ take k into → length more ≡ length bytes + k
 longer into bytes more k fits grown = rw (grown, length-append bytes (take k into), length-take-le k into fits) refl
 
-pub turns-more : {E : Type 0} (start mid new : Slot → SlotState) (slot : Slot) (turn k limit : ℕ) (bytes more into : List ℕ)
-    → Turns start mid slot turn bytes limit → Reads {E = E} mid new slot into (Ok k) → 0 < k → more ≡ bytes ++ take k into → length more ≤ limit → Turns start new slot (turn + 1) more limit
-turns-more {E} start mid new slot turn k limit bytes more into turns reads some grown size =
+pub turns-more : {E : Type 0} (first before world : World) (start mid new : Slot → SlotState) (slot : Slot) (turn k limit : ℕ) (bytes more into : List ℕ)
+    → Turns first before start mid slot turn bytes limit → world ≡ before → Reads {E = E} mid new slot into (Ok k) → 0 < k → more ≡ bytes ++ take k into → length more ≤ limit
+    → Turns first world start new slot (turn + 1) more limit
+turns-more {E} first before world start mid new slot turn k limit bytes more into turns same reads some grown size =
     record {
+      same = same ∙ turns.same;
       kept = kept-read start mid new slot into _ turns.kept reads;
       turned = omega (arith, turns.turned, reads.this.turned);
       is_open = reads.this.still;

@@ -1,13 +1,13 @@
 -- The answer of seinfo about a policy that was accepted.
-use Rattle.std.specs.Prelude.{ℕ, List, [], ◌∷◌, flat_map, min, Bool, true, false, is_some, option_map, unwrap_or, Option, Some, None}
+use Rattle.std.specs.Prelude.{ℕ, List, [], ◌∷◌, flat_map, Bool, true, false, is_some, option_map, unwrap_or, Option, None}
 use Rattle.pol_file.specs.declared.Parts.{Parts}
 use Rattle.info_lines.specs.Titles.{title_of}
 use Rattle.info_query.specs.Listings.{lines_of}
 use Rattle.info_summary.specs.Summary.{summary_lines}
 use Rattle.se_tools.specs.Listing.{line_text, listing_text}
-use Rattle.se_tools.specs.Meeting.{Answer, text_unless}
-use Rattle.se_words.specs.Options.{Named}
-use Rattle.se_words.specs.Request.{InfoAsks, Wanted}
+use Rattle.se_status.specs.Meeting.{Answer, least, text_unless}
+use Rattle.se_options.specs.Options.{Named}
+use Rattle.se_words.specs.InfoRequest.{InfoAsks, Wanted}
 
 -- the lines that are wanted, unless their name is unknown
 abbrev pub wanted_lines : Parts → Bool → Wanted → Option (List (List ℕ))
@@ -29,12 +29,6 @@ unknown_unless false name = option_map (λ name. name.word) name
 
 unfoldable pub unknown_in : Parts → Bool → Wanted → Option ℕ
 unknown_in policy expand wanted = unknown_unless (is_some (wanted_lines policy expand wanted)) wanted.name
-
--- the least of two numbers that may be there
-abbrev pub least : Option ℕ → Option ℕ → Option ℕ
-least None second = second
-least (Some first) None = Some first
-least (Some first) (Some second) = Some (min first second)
 
 -- the least of a number and those of the words with names that are unknown
 unfoldable pub unknown_from : Parts → Bool → Option ℕ → List Wanted → Option ℕ

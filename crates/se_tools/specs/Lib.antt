@@ -1,8 +1,6 @@
-pub mod Writing
 pub mod Reading
 pub mod Listing
-pub mod Status
-pub mod Message
-pub mod Meeting
 pub mod InfoAnswer
 pub mod Answer
+pub mod Answers
+pub mod Runs

@@ -1,20 +1,20 @@
 // The answer of seinfo about a policy.
 ghost use Rattle.std.specs.Prelude.{◌≡◌, [], flat_map, map};
 ghost use Rattle.info_summary.specs.Summary.{summary_lines};
-ghost use Rattle.se_words.specs.Request.{info_view, wanted_view};
+ghost use Rattle.se_words.specs.InfoRequest.{info_view, wanted_view};
 ghost use Rattle.se_tools.specs.InfoAnswer.{info_answer, info_text, wanted_text};
 ghost use Rattle.se_tools.specs.Listing.{listing_text, line_text};
-ghost use Rattle.se_tools.specs.Meeting.{Concludes};
-ghost use Rattle.se_tools.specs.Writing.{Sends};
+ghost use Rattle.se_status.specs.Meeting.{Concludes, IsPlain};
+ghost use Rattle.se_items.specs.Writing.{Sends};
 
-use crate::Status;
 use crate::listing::write_listing;
 use crate::unknown::first_unknown;
-use crate::writing::WriteEnd;
 use info_query::lines_of;
 use info_summary::summary;
 use pol_read::Policy;
+use se_items::WriteEnd;
 use se_outside::Sink;
+use se_status::{Status, status_written};
 use se_words::{InfoRequest, Wanted};
 use std::alloc::Global;
 
@@ -26,16 +26,13 @@ pub fn answer_info<S: Sink>(
     asks: &InfoRequest<'_>,
     out: &mut S,
 ) -> Status
-    ensures { Concludes (info_answer (info_view asks.now) policy.now)
+    ensures answers { Concludes (info_answer (info_view asks.now) policy.now)
         (S.written out.old) (S.written out.new) (S.faults out.old) (S.faults out.new) result }
+    ensures plain { IsPlain result }
 {
     match first_unknown(policy, &asks.listings) {
         Some(word) => Status::UnknownName(word),
-        None => match write_answer(alloc, policy, asks, out) {
-            Ok(()) => Status::Done,
-            Err(WriteEnd::Fault) => Status::WriteFault,
-            Err(WriteEnd::Memory) => Status::Memory,
-        },
+        None => status_written(write_answer(alloc, policy, asks, out)),
     }
 }
 
@@ -57,7 +54,7 @@ fn write_answer<S: Sink>(
 }
 
 // Writes the summary of a policy.
-#[tactic(auto, using(crate::proofs::Wrotes::nothing_sent))]
+#[tactic(auto, using(se_items::proofs::Wrotes::nothing_sent))]
 fn write_summary<S: Sink>(alloc: Global, policy: &Policy<'_>, out: &mut S) -> Result<(), WriteEnd>
     ensures { Sends (S.written out.old) (S.written out.new) (S.faults out.old) (S.faults out.new)
         (flat_map (line_text []) (summary_lines policy.now)) result }
@@ -87,7 +84,7 @@ fn write_listings<S: Sink>(
 }
 
 // Writes a listing of a policy.
-#[tactic(auto, using(crate::proofs::Wrotes::nothing_sent))]
+#[tactic(auto, using(se_items::proofs::Wrotes::nothing_sent))]
 fn write_wanted<S: Sink>(
     alloc: Global,
     policy: &Policy<'_>,

@@ -1,4 +1,4 @@
-//! The tools over words, files and sinks: a request is understood, its file is read whole, and the answer is written as it
+//! The tools over words, files, patterns and sinks: a request is understood, its files are read whole, and the answer is written as it
 //! is made.
 #![tactic(auto)]
 
@@ -6,10 +6,7 @@ mod answer;
 mod info;
 mod listing;
 mod reading;
-mod report;
-mod status;
 mod unknown;
-mod writing;
 
 pub use answer::run;
-pub use status::Status;
+pub use se_status::Status;

@@ -1,11 +1,11 @@
 // Listings, which are written as they are made.
 ghost use Rattle.std.specs.Prelude.{◌≡◌, ◌<◌, ◌++◌, OnOk, flat_map, length};
 ghost use Rattle.se_tools.specs.Listing.{PushesNext, front_text, heading_text, indent_of, line_text, listing_text};
-ghost use Rattle.se_tools.specs.Writing.{Emits, Sends};
+ghost use Rattle.se_items.specs.Writing.{Emits, Sends};
 
-use crate::writing::{WriteEnd, spill, write_all};
 use info_lines::Lines;
 use itoa::Buffer;
+use se_items::{WriteEnd, spill, write_all};
 use se_outside::Sink;
 use std::alloc::{AllocError, Global};
 

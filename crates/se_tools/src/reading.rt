@@ -30,8 +30,9 @@ pub fn read_whole<F: Files>(
 ) -> Result<Vec<u8>, ReadEnd>
     requires asked { (F.state files.old slot).asked ≡ false }
     requires limit { limit < 2 ^ 62 }
-    ensures { ReadsWhole (F.world files.old) (F.state files.old) (F.state files.new)
+    ensures reads { ReadsWhole (F.world files.old) (F.state files.old) (F.state files.new)
         slot name.now limit result }
+    ensures world { F.world files.new ≡ F.world files.old }
 {
     let Ok(()) = files.open(slot, name) else {
         return Err(ReadEnd::Fault);
@@ -66,7 +67,8 @@ fn read_on<F: Files>(
 ) -> Result<usize, ReadEnd>
     requires opened { (F.state files.old slot).is_open ≡ true }
     requires small { length bytes.old.items < 2 ^ 63 }
-    ensures { ReadsOn (F.state files.old) (F.state files.new) slot bytes.old.items bytes.new.items result }
+    ensures reads { ReadsOn (F.state files.old) (F.state files.new) slot bytes.old.items bytes.new.items result }
+    ensures world { F.world files.new ≡ F.world files.old }
 {
     let filled = bytes.len();
     let Ok(()) = bytes.resize(turn_end(filled, room), 0) else {

@@ -1,7 +1,8 @@
 // Names that a policy does not have.
 ghost use Rattle.std.specs.Prelude.{◌≡◌, Bool, None, map};
-ghost use Rattle.se_words.specs.Request.{wanted_view};
-ghost use Rattle.se_tools.specs.InfoAnswer.{least, unknown_from, unknown_in};
+ghost use Rattle.se_status.specs.Meeting.{least};
+ghost use Rattle.se_words.specs.InfoRequest.{wanted_view};
+ghost use Rattle.se_tools.specs.InfoAnswer.{unknown_from, unknown_in};
 
 use info_query::name_is_known;
 use pol_read::Policy;

@@ -5,7 +5,7 @@ use Rattle.std.proofs.lemmas.Iterator.Adapters.{position_from-zero}
 use Rattle.std.proofs.lemmas.List.{append-nil}
 use Rattle.std.proofs.lemmas.List.Sums.{fails_before_first}
 use Rattle.std.proofs.lemmas.List.Splits.{length-slice_split, slice_split_first, slice_split_none}
-use Rattle.se_words.specs.Word.{text_in}
+use Rattle.se_options.specs.Word.{text_in}
 use Rattle.se_words.specs.ProcessWords.{ended, is_zero, process_words}
 
 ended-none : (bytes : List ℕ) → length bytes ≤ position_or_len is_zero bytes → ended bytes ≡ []

@@ -1,3 +1,2 @@
-pub mod Cuts
 pub mod Ended
-pub mod Texts
+pub mod Parts

@@ -2,7 +2,7 @@
 -- program's name before all others, ends at a zero byte.
 use Rattle.std.specs.Prelude.{ℕ, List, ◌-◌, ◌==◌, Bool, Option, length, take, drop, map}
 use Rattle.std.specs.List.{slice_split}
-use Rattle.se_words.specs.Word.{text_in}
+use Rattle.se_options.specs.Word.{text_in}
 
 abbrev pub is_zero : ℕ → Bool
 is_zero byte = byte == 0

@@ -1,12 +1,24 @@
-//! What the words of a command line ask for.
+//! What the words of a command line ask for: one request a tool, by the tool's table of options.
 #![tactic(auto)]
 
-mod options;
+mod asked;
+mod flow_request;
+mod flow_words;
+mod info_request;
+mod info_words;
 mod process_words;
 mod request;
-mod words;
+mod search_criteria;
+mod search_request;
+mod search_words;
+mod walk_words;
+mod window;
+mod words_error;
 
-pub use options::Named;
+pub use flow_request::FlowRequest;
+pub use info_request::{InfoRequest, Wanted};
 pub use process_words::words_of_bytes;
-pub use request::{InfoRequest, Request, Wanted, WordsError, request_of};
-pub use words::{Word, Words};
+pub use request::{Request, request_of};
+pub use se_options::{Named, Word, Words};
+pub use search_request::SearchRequest;
+pub use words_error::WordsError;

@@ -3,7 +3,7 @@ ghost use Rattle.std.specs.Prelude.{◌≡◌, ◌<◌, [], ◌∷◌, IfOk, Mat
 ghost use Rattle.std.specs.List.{position_from};
 ghost use Rattle.se_words.specs.ProcessWords.{ended, is_zero, process_words};
 
-use crate::Words;
+use se_options::Words;
 use std::alloc::{AllocError, Global};
 
 /// The words after the program's name, from the bytes of `/proc/self/cmdline`: each word, the name before all others, ends at

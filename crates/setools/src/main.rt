@@ -1,7 +1,7 @@
 //! The program: words of the command line, the system's files and standard streams, and the status as exit code.
 #![tactic(auto)]
 
-use se_outside::{RealFiles, RealSink};
+use se_outside::{RealFiles, RealSink, RegexPatterns};
 use se_tools::run;
 use se_words::{Words, words_of_bytes};
 use std::alloc::{AllocError, Global};
@@ -54,6 +54,14 @@ fn main(rt: HostRuntime) -> ExitCode {
     let mut files = RealFiles::new(&rt);
     let mut out = RealSink::new(rt.stdout());
     let mut err = RealSink::new(rt.stderr());
-    let status = run(rt.alloc(), &words, &mut files, &mut out, &mut err);
+    let mut patterns = RegexPatterns::new();
+    let status = run(
+        rt.alloc(),
+        &words,
+        &mut files,
+        &mut patterns,
+        &mut out,
+        &mut err,
+    );
     ExitCode::from(status.code())
 }

@@ -1,8 +1,8 @@
 use Rattle.std.proofs.lemmas.Result.{err_from_is_err_and}
 use Rattle.std.proofs.lemmas.List.Folds.{flat_map-map}
 use Rattle.se_tools.specs.InfoAnswer.{wanted_text}
-use Rattle.se_words.specs.Request.{wanted_view}
-use Rattle.se_tools.proofs.Wrotes.{sends-all, sends-stop}
+use Rattle.se_words.specs.InfoRequest.{wanted_view}
+use Rattle.se_items.proofs.Wrotes.{sends-all, sends-stop}
 use Rattle.se_tools.proofs.info.write_listings.Goals as goal
 
 pub returns-in_err-write_wanted : goal.returns-in_err-write_wanted

@@ -1,7 +1,7 @@
 use Rattle.std.proofs.Common.{take}
 use Rattle.se_tools.specs.InfoAnswer.{wanted_text}
-use Rattle.se_words.specs.Request.{wanted_view}
-use Rattle.se_tools.proofs.Wrotes.{Texts}
+use Rattle.se_words.specs.InfoRequest.{wanted_view}
+use Rattle.se_items.proofs.Wrotes.{Texts}
 use Rattle.se_tools.proofs.info.write_listings.Given as goal
 
 abbrev pub invariant-loop-wanted : goal.invariant-loop-wanted

@@ -1,6 +1,6 @@
 use Rattle.std.proofs.Common.{◌≡◌, Bool, None, drop, map}
 use Rattle.se_tools.specs.InfoAnswer.{unknown_from}
-use Rattle.se_words.specs.Request.{wanted_view}
+use Rattle.se_words.specs.InfoRequest.{wanted_view}
 use Rattle.se_tools.proofs.unknown.first_unknown.Given as goal
 
 abbrev pub invariant-loop-wanted : goal.invariant-loop-wanted

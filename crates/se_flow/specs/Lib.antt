@@ -1,0 +1,2 @@
+pub mod FlowTexts
+pub mod FlowAnswer

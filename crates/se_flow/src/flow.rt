@@ -1,0 +1,127 @@
+// The answer of seinfoflow about a policy and a permission map.
+ghost use Rattle.std.specs.Prelude.{◌≡◌, ◌≤◌, IfSome, length};
+ghost use Rattle.std.specs.List.{concat};
+ghost use Rattle.se_items.specs.Paging.{page};
+ghost use Rattle.se_items.specs.Writing.{Sends};
+ghost use Rattle.se_status.specs.Meeting.{Concludes};
+ghost use Rattle.perm_map.specs.PermissionMap.{weights_of};
+ghost use Rattle.se_words.specs.FlowRequest.{flow_view};
+ghost use Rattle.se_flow.specs.FlowAnswer.{IsOfMap, flow_answer, flows_text, is_edge};
+ghost use Rattle.se_flow.specs.FlowTexts.{flow_words};
+ghost use Rattle.se_walks.specs.GraphItems.{items_to};
+ghost use Rattle.se_walks.specs.TypeNames.{is_excluded};
+
+use crate::flow_texts::FlowTexts;
+use flow_search::FlowGraph;
+use perm_map::{MapError, PermMap};
+use pol_expand::type_map;
+use pol_read::Policy;
+use se_items::WriteEnd;
+use se_outside::Sink;
+use se_status::{Status, status_written};
+use se_walks::{Ends, Window, excluded_set, first_unknown, target_named, type_named, write_items};
+use se_words::FlowRequest;
+use std::alloc::Global;
+
+/// Answers what seinfoflow is asked of a policy and the permission map with these bytes.
+#[tactic(auto, unfolding(crate::specs::FlowAnswer::flow_answer))]
+pub fn answer_flow<S: Sink>(
+    alloc: Global,
+    policy: &Policy<'_>,
+    bytes: &[u8],
+    asks: &FlowRequest<'_>,
+    out: &mut S,
+) -> Status
+    requires { length bytes.now ≤ 4194304 }
+    ensures answers { Concludes (flow_answer (flow_view asks.now) policy.now bytes.now)
+        (S.written out.old) (S.written out.new) (S.faults out.old) (S.faults out.new) result }
+    ensures about { IsOfMap result }
+{
+    let map = match PermMap::read(alloc, bytes) {
+        Ok(map) => map,
+        Err(MapError::Fault(fault)) => return Status::BadMap(fault),
+        Err(MapError::Memory) => return Status::Memory,
+    };
+    match first_unknown(policy, &asks.source, &asks.target, &asks.excluded) {
+        Some(word) => Status::UnknownName(word),
+        None => status_written(write_answer(alloc, policy, &map, asks, out)),
+    }
+}
+
+// Writes the flows of the source that is named, or the walks to the target.
+#[tactic(auto, unfolding(crate::specs::FlowAnswer::flows_text), using(se_walks::proofs::NoItems::no_items_sent))]
+fn write_answer<'q, S: Sink>(
+    alloc: Global,
+    policy: &'q Policy<'_>,
+    map: &'q PermMap<'_>,
+    asks: &FlowRequest<'_>,
+    out: &mut S,
+) -> Result<(), WriteEnd>
+    ensures { Sends (S.written out.old) (S.written out.new) (S.faults out.old) (S.faults out.new)
+        (flows_text (flow_view asks.now) policy.now (weights_of map.now)) result }
+{
+    let Some(source) = type_named(policy, asks.source.text.as_bytes()) else {
+        return Ok(());
+    };
+    let Some(target) = target_named(policy, &asks.target) else {
+        return Ok(());
+    };
+    let ends = Ends {
+        source,
+        target,
+        reverse: asks.reverse,
+    };
+    write_between(alloc, policy, map, asks, ends, out)
+}
+
+// Writes the flows of a type, or the walks to another.
+#[tactic(auto, using(se_items::proofs::Wrotes::nothing_sent))]
+fn write_between<'q, S: Sink>(
+    alloc: Global,
+    policy: &'q Policy<'_>,
+    map: &'q PermMap<'_>,
+    asks: &FlowRequest<'_>,
+    ends: Ends,
+    out: &mut S,
+) -> Result<(), WriteEnd>
+    requires reverse { ends.reverse ≡ asks.now.reverse }
+    requires source_low { 1 ≤ ends.source }
+    requires source_high { ends.source ≤ policy.now.symbols.types.nprim }
+    requires target_low { IfSome ends.target (λ target. 1 ≤ target) }
+    requires target_high { IfSome ends.target (λ target. target ≤ policy.now.symbols.types.nprim) }
+    ensures { Sends (S.written out.old) (S.written out.new) (S.faults out.old) (S.faults out.new)
+        (concat (page asks.now.from asks.now.limit (items_to (flow_words (weights_of map.now) policy.now asks.now.least)
+        (is_edge (flow_view asks.now) policy.now (weights_of map.now)) policy.now
+        (is_excluded policy.now.symbols (flow_view asks.now).excluded) ends.reverse ends.source ends.target))) result }
+{
+    let Ok(excluded) = excluded_set(alloc, policy.symbols(), &asks.excluded) else {
+        return Err(WriteEnd::Memory);
+    };
+    let Ok(types) = type_map(alloc, policy) else {
+        return Err(WriteEnd::Memory);
+    };
+    let Ok(graph) = FlowGraph::new(
+        alloc,
+        policy,
+        &types,
+        map,
+        asks.least,
+        &excluded,
+        asks.reverse,
+    ) else {
+        return Err(WriteEnd::Memory);
+    };
+    let window = Window {
+        from: asks.from,
+        limit: asks.limit,
+    };
+    write_items(
+        alloc,
+        &graph,
+        &FlowTexts { graph: &graph },
+        &excluded,
+        ends,
+        window,
+        out,
+    )
+}

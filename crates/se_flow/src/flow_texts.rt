@@ -1,0 +1,99 @@
+// How seinfoflow writes flows.
+ghost use Rattle.std.specs.Prelude.{◌≡◌, ◌<◌, ◌++◌, OnOk, length};
+ghost use Rattle.std.specs.List.{flat_map};
+ghost use Rattle.pol_rules.specs.StoredRules.{stored_rules};
+ghost use Rattle.rule_order.specs.ListedOrder.{AreRules};
+ghost use Rattle.perm_map.specs.PermissionMap.{weights_of};
+ghost use Rattle.se_flow.specs.FlowTexts.{flow_text, rule_line};
+
+use flow_search::FlowGraph;
+use pol_read::Policy;
+use pol_texts::push_decimal;
+use rule_text::push_rule;
+use se_walks::{EdgeTexts, push_ends};
+use std::alloc::AllocError;
+
+/// The texts of the flows of a graph.
+#[derive(Drop)]
+pub struct FlowTexts<'g, 'p> {
+    pub graph: &'g FlowGraph<'p>,
+}
+
+impl EdgeTexts for FlowTexts<'_, '_> {
+    ghost use Rattle.se_flow.specs.FlowTexts.{flow_words};
+
+    ghost words = { λ t. flow_words (weights_of t.graph.now.entries) t.graph.now.policy t.graph.now.least };
+
+    #[tactic(auto, unfolding(crate::specs::FlowTexts::flow_words))]
+    fn word(&self) -> &'static [u8] {
+        b"Flow"
+    }
+
+    #[tactic(auto, unfolding(crate::specs::FlowTexts::flow_words))]
+    fn push_ends(&self, from: u32, to: u32, buffer: &mut Vec<u8>) -> Result<(), AllocError> {
+        push_ends(self.graph.policy().symbols(), from, to, buffer)
+    }
+
+    #[tactic(auto, unfolding(crate::specs::FlowTexts::flow_words))]
+    fn push_edge(
+        &self,
+        indent: &[u8],
+        from: u32,
+        to: u32,
+        buffer: &mut Vec<u8>,
+    ) -> Result<(), AllocError> {
+        push_flow(self.graph, indent, from, to, buffer)
+    }
+}
+
+// Adds the ends of a flow, its weight, and the rules that give it.
+#[tactic(auto, unfolding(crate::specs::FlowTexts::flow_text))]
+fn push_flow(
+    graph: &FlowGraph<'_>,
+    indent: &[u8],
+    from: u32,
+    to: u32,
+    buffer: &mut Vec<u8>,
+) -> Result<(), AllocError>
+    ensures { OnOk result (buffer.new.items ≡ buffer.old.items ++ flow_text (weights_of graph.now.entries) graph.now.policy graph.now.least indent.now from to) }
+{
+    let rules = graph.rules(*buffer.allocator(), from, to)?;
+    let policy = graph.policy();
+    push_ends(policy.symbols(), from, to, buffer)?;
+    buffer.extend_from_slice(b", weight ")?;
+    push_decimal(buffer, u64::from(graph.weight(&rules, from, to)))?;
+    buffer.extend_from_slice(b"\n")?;
+    push_rules(policy, indent, &rules, buffer)
+}
+
+// Adds the lines of rules.
+fn push_rules(
+    policy: &Policy<'_>,
+    indent: &[u8],
+    numbers: &[u32],
+    buffer: &mut Vec<u8>,
+) -> Result<(), AllocError>
+    requires { AreRules policy.now numbers.now }
+    ensures { OnOk result (buffer.new.items ≡ buffer.old.items ++ flat_map (rule_line policy.now indent.now) numbers.now) }
+{
+    for number in numbers {
+        push_line(policy, indent, *number, buffer)?;
+    }
+    Ok(())
+}
+
+// Adds the line of a rule.
+#[tactic(auto, unfolding(crate::specs::FlowTexts::rule_line))]
+fn push_line(
+    policy: &Policy<'_>,
+    indent: &[u8],
+    number: u32,
+    buffer: &mut Vec<u8>,
+) -> Result<(), AllocError>
+    requires { number < length (stored_rules policy.now) }
+    ensures { OnOk result (buffer.new.items ≡ buffer.old.items ++ rule_line policy.now indent.now number) }
+{
+    buffer.extend_from_slice(indent)?;
+    push_rule(policy, number, buffer)?;
+    buffer.extend_from_slice(b"\n")
+}

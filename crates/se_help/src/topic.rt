@@ -1,0 +1,16 @@
+// What can be asked of the program itself.
+
+/// What can be asked of the program itself.
+#[derive(Clone, Copy, Debug, PartialEq, Eq)]
+pub enum Topic {
+    /// How the program is used, and which tools there are.
+    All,
+    /// How `seinfo` is used.
+    Info,
+    /// How `sesearch` is used.
+    Search,
+    /// How `seinfoflow` is used.
+    Flow,
+    /// The version of the program, and those of the policies that it reads.
+    Version,
+}

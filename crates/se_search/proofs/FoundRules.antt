@@ -1,0 +1,54 @@
+-- The rules that are found, and their lines.
+use Rattle.std.proofs.Common.{◌≡◌, ◌∙◌, ◌≤◌, ◌<◌, ◌+◌, ◌++◌, ℕ, zero, suc, List, [], ◌∷◌, Option, length, map, take, drop, refl, sym, ap, arith, subst}
+use Rattle.std.specs.List.{All, concat, range_with_len}
+use Rattle.std.proofs.lemmas.List.Elements.{All-filter, All-cons}
+use Rattle.pol_file.specs.declared.Parts.{Parts}
+use Rattle.pol_rules.specs.StoredRules.{stored_rules}
+use Rattle.rule_order.specs.ListedOrder.{AreRules, in_rule_order}
+use Rattle.rule_query.specs.Meeting.{meeting, meets}
+use Rattle.rule_criteria.specs.declared.Criteria.{Criteria}
+use Rattle.se_items.specs.Paging.{limited, most_items, page}
+use Rattle.se_words.specs.SearchRequest.{SearchAsks}
+use Rattle.se_search.specs.SearchAnswer.{found_rules, rule_line, search_text}
+use Rattle.std.proofs.lemmas.List.Elements.{All-head, All-nil, All-tail}
+use Rattle.se_search.proofs.OrderedRules.{all-rules, ordered-rules}
+
+take-mapped : {A B : Type 0} (f : A → B) (k : ℕ) (xs : List A) → take k (map f xs) ≡ map f (take k xs)
+take-mapped f zero xs = refl
+take-mapped f (suc k) [] = refl
+take-mapped f (suc k) (x ∷ xs) = ap (λ rest. f x ∷ rest) (take-mapped f k xs)
+
+All-taken : {A : Type 0} (P : A → Type 0) (k : ℕ) (xs : List A) → All P xs → All P (take k xs)
+All-taken P zero xs h = All-nil P
+All-taken P (suc k) [] h = All-nil P
+All-taken P (suc k) (x ∷ xs) h = All-cons P x (take k xs) (All-head P x xs h) (All-taken P k xs (All-tail P x xs h))
+
+-- each is the number of a rule
+pub found-are-rules : (policy : Parts) (criteria : Criteria) (most : ℕ) (numbers : List ℕ) → numbers ≡ take most (in_rule_order policy (meeting policy criteria)) → AreRules policy numbers
+found-are-rules policy criteria most numbers is =
+    let P : ℕ → Type 0 = λ number. number < length (stored_rules policy) in
+    let met : AreRules policy (meeting policy criteria) = All-filter (meets policy criteria) P (range_with_len 0 (length (stored_rules policy))) (all-rules policy) in
+    subst (All P) (sym is) (All-taken P most (in_rule_order policy (meeting policy criteria)) (ordered-rules policy (meeting policy criteria) met))
+
+listed-page : {A : Type 0} (f : A → List ℕ) (from : ℕ) (limit : Option ℕ) (xs : List A) → limited limit (drop from (map f (take most_items xs))) ≡ page from limit (map f xs)
+unfolding page
+listed-page f from limit xs = ap (λ ys. limited limit (drop from ys)) (sym (take-mapped f most_items xs))
+
+-- the lines that are asked for
+pub text-found : (asks : SearchAsks) (policy : Parts) (lines : List (List ℕ)) (numbers : List ℕ) → lines ≡ map (rule_line policy) numbers → numbers ≡ take most_items (found_rules asks policy)
+    → concat (limited asks.limit (drop asks.from lines)) ≡ search_text asks policy
+unfolding search_text
+text-found asks policy lines numbers is are =
+    ap concat (ap (λ ys. limited asks.limit (drop asks.from ys)) (is ∙ ap (map (rule_line policy)) are) ∙ listed-page (rule_line policy) asks.from asks.limit (found_rules asks policy))
+
+-- a line that is passed over
+pub line-passed : (policy : Parts) (number : ℕ) (numbers others : List ℕ) → numbers ≡ number ∷ others → (text : List ℕ) × (map (rule_line policy) numbers ≡ text ∷ map (rule_line policy) others)
+line-passed policy number numbers others e = (rule_line policy number, ap (map (rule_line policy)) e)
+
+short : (policy : Parts) (k : ℕ) (xs : List ℕ) → length (map (rule_line policy) (take k xs)) ≤ k
+short policy zero xs = omega arith
+short policy (suc k) [] = omega arith
+short policy (suc k) (x ∷ xs) = let le = short policy k xs in omega (arith, le)
+
+pub few-lines : (policy : Parts) (lines : List (List ℕ)) (numbers xs : List ℕ) → lines ≡ map (rule_line policy) numbers → numbers ≡ take most_items xs → length lines ≤ most_items
+few-lines policy lines numbers xs is are = rw (is, are) (short policy most_items xs)

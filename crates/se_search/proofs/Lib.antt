@@ -1,0 +1,5 @@
+pub mod OrderedRules
+pub mod WordsRise
+pub mod Refused
+pub mod Tried
+pub mod FoundRules

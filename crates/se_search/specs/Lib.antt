@@ -1,0 +1,3 @@
+pub mod SearchAnswer
+pub mod SearchPatterns
+pub mod RuleLines

@@ -1,0 +1,42 @@
+-- The answer of sesearch about a policy that was accepted: the rules that meet what is asked, a line each, in the order in which rules
+-- are listed.
+use Rattle.std.specs.Prelude.{ℕ, List, ◌++◌, codes, map, Option, Some, None}
+use Rattle.std.specs.List.{concat}
+use Rattle.pol_file.specs.declared.Parts.{Parts}
+use Rattle.rule_order.specs.ListedOrder.{in_rule_order}
+use Rattle.rule_query.specs.declared.Refusal.{Refusal}
+use Rattle.rule_query.specs.declared.Refusal.TheVariants.{NotThere, NoNumber}
+use Rattle.rule_query.specs.Given.{in_word_order}
+use Rattle.rule_query.specs.Meeting.{meeting}
+use Rattle.rule_query.specs.Refusals.{RefusedWord, first_refused}
+use Rattle.rule_text.specs.RuleTexts.{text_of_rule}
+use Rattle.se_items.specs.Paging.{page}
+use Rattle.se_status.specs.declared.Status.{Status}
+use Rattle.se_status.specs.declared.Status.TheVariants.{UnknownName, BadNumber}
+use Rattle.se_status.specs.Meeting.{Answer, done, refusal}
+use Rattle.se_words.specs.SearchRequest.{SearchAsks}
+
+-- the line of the rule of a number
+unfoldable pub rule_line : Parts → ℕ → List ℕ
+rule_line policy number = text_of_rule policy number ++ codes "\n"
+
+-- the numbers of the rules that meet what is asked, in the order in which rules are listed
+abbrev pub found_rules : SearchAsks → Parts → List ℕ
+found_rules asks policy = in_rule_order policy (meeting policy asks.criteria)
+
+-- the lines that are asked for, of those of all these rules
+unfoldable pub search_text : SearchAsks → Parts → List ℕ
+search_text asks policy = concat (page asks.from asks.limit (map (rule_line policy) (found_rules asks policy)))
+
+-- how a run ends of which a word is refused
+abbrev pub status_for : Refusal → ℕ → Status
+status_for NotThere word = UnknownName word
+status_for NoNumber word = BadNumber word
+
+-- the lines, unless a word is refused by its names or numbers
+abbrev pub lines_unless : Option RefusedWord → List ℕ → Answer
+lines_unless None text = done text
+lines_unless (Some refused) text = refusal (status_for refused.refusal refused.word)
+
+unfoldable pub search_answer : SearchAsks → Parts → Answer
+search_answer asks policy = lines_unless (first_refused policy.symbols asks.criteria.kinds (in_word_order asks.criteria)) (search_text asks policy)

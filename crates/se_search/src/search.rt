@@ -1,0 +1,87 @@
+// The answer of sesearch about a policy.
+ghost use Rattle.std.specs.Prelude.{◌≡◌};
+ghost use Rattle.rule_criteria.specs.declared.Criteria.{Criteria};
+ghost use Rattle.rule_query.specs.Resolved.{IsQueryOf};
+ghost use Rattle.rule_query.specs.Resolving.{Resolves};
+ghost use Rattle.se_status.specs.Meeting.{Concludes, IsWritten, done};
+ghost use Rattle.se_words.specs.SearchRequest.{search_view};
+ghost use Rattle.se_search.specs.SearchAnswer.{search_answer, search_text};
+ghost use Rattle.se_search.specs.SearchPatterns.{IsOfSearch, TriesPatterns, pattern_words, status_of};
+
+use crate::rule_lines::RuleLines;
+use pol_expand::type_map;
+use pol_read::Policy;
+use rule_query::{Query, QueryError, resolve};
+use se_items::{WriteEnd, listed, write_page};
+use se_outside::{Patterns, Sink};
+use se_status::{Status, status_written};
+use se_words::SearchRequest;
+use std::alloc::Global;
+
+/// Answers what sesearch is asked of a policy.
+pub fn answer_search<P: Patterns, S: Sink>(
+    alloc: Global,
+    policy: &Policy<'_>,
+    asks: &SearchRequest<'_>,
+    patterns: &mut P,
+    out: &mut S,
+) -> Status
+    ensures answers { Concludes (search_answer (search_view asks.now) policy.now)
+        (S.written out.old) (S.written out.new) (S.faults out.old) (S.faults out.new) result }
+    ensures about { IsOfSearch result }
+    ensures patterns { TriesPatterns (pattern_words (search_view asks.now).criteria)
+        (P.asked patterns.old) (P.asked patterns.new) (P.refusals patterns.old) (P.refusals patterns.new) result }
+{
+    match look_up(alloc, policy, asks, patterns) {
+        Ok(query) => write_rules(alloc, policy, asks, &query, out),
+        Err(error) => status_of(error),
+    }
+}
+
+// How a run ends whose criteria were not looked up.
+fn status_of(error: QueryError) -> Status
+    ensures { result ≡ status_of error }
+{
+    match error {
+        QueryError::UnknownName(word) => Status::UnknownName(word),
+        QueryError::BadNumber(word) => Status::BadNumber(word),
+        QueryError::BadPattern(word, kind) => Status::BadPattern(word, kind),
+        QueryError::Memory => Status::Memory,
+    }
+}
+
+// Looks up what is asked.
+fn look_up<P: Patterns>(
+    alloc: Global,
+    policy: &Policy<'_>,
+    asks: &SearchRequest<'_>,
+    patterns: &mut P,
+) -> Result<Query, QueryError>
+    ensures { Resolves policy.now asks.now.criteria
+        (P.asked patterns.old) (P.asked patterns.new) (P.refusals patterns.old) (P.refusals patterns.new) result }
+{
+    let Ok(types) = type_map(alloc, policy) else {
+        return Err(QueryError::Memory);
+    };
+    resolve(alloc, &asks.criteria, policy, &types, patterns)
+}
+
+// Writes the lines of the rules that meet a query.
+fn write_rules<S: Sink>(
+    alloc: Global,
+    policy: &Policy<'_>,
+    asks: &SearchRequest<'_>,
+    query: &Query,
+    out: &mut S,
+) -> Status
+    requires { IsQueryOf policy.now asks.now.criteria query.now }
+    ensures writes { Concludes (done (search_text (search_view asks.now) policy.now))
+        (S.written out.old) (S.written out.new) (S.faults out.old) (S.faults out.new) result }
+    ensures plain { IsWritten result }
+{
+    let Ok(numbers) = query.sorted(alloc, policy) else {
+        return status_written(Err(WriteEnd::Memory));
+    };
+    let mut lines = RuleLines::new(policy, listed(&numbers));
+    status_written(write_page(alloc, &mut lines, asks.from, asks.limit, out))
+}

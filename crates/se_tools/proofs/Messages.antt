@@ -1,0 +1,7 @@
+-- A message that was written, or not.
+use Rattle.std.proofs.Common.{[], ℕ, List, Option, Result, Ok, Err, append-nil, sym}
+use Rattle.se_items.specs.Writing.{Said, Wrote}
+
+pub said-of : {T E : Type 0} (old new : Option (List ℕ)) (before now : ℕ) (text : List ℕ) (r : Result T E) → Wrote old new before now text r → Said old new before now text
+said-of old new before now text (Ok u) wrote = record { later = wrote.later; part = (text, [], sym (append-nil text), wrote.whole); whole = λ none. wrote.whole }
+said-of old new before now text (Err e) wrote = record { later = wrote.later; part = wrote.part; whole = λ none. absurd (none wrote.failed) }

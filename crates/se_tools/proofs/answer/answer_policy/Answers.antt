@@ -1,0 +1,15 @@
+use Rattle.se_words.specs.FlowRequest.{flow_view}
+use Rattle.se_words.specs.InfoRequest.{info_view}
+use Rattle.se_words.specs.SearchRequest.{search_view}
+use Rattle.se_tools.proofs.Settled.{flow-settles, info-settles, search-settles}
+use Rattle.se_tools.proofs.answer.answer_policy.Goals as goal
+
+pub returns-in-Info : goal.returns-in-Info
+returns-in-Info g c = rw c.in-Info.is (info-settles (info_view c.in-Info.asks) c.args.policy.now _ _ _ _ _ _ _ _ _ c.answer_info.ensures.answers c.answer_info.ensures.plain)
+
+pub returns-in-Search : goal.returns-in-Search
+returns-in-Search g c =
+    rw c.in-Search.is (search-settles (search_view c.in-Search.asks) c.args.policy.now _ _ _ _ _ _ _ _ _ _ _ c.answer_search.ensures.answers c.answer_search.ensures.about c.answer_search.ensures.patterns)
+
+pub returns-in-Flow : goal.returns-in-Flow
+returns-in-Flow g c = rw c.in-Flow.is (flow-settles (flow_view c.in-Flow.asks) c.args.policy.now _ _ _ _ _ _ _ _ _ _ c.answer_mapped.ensures)

@@ -1,0 +1,3 @@
+pub mod WalkSteps
+pub mod NumberedTexts
+pub mod NoItems

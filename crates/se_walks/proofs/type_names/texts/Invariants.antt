@@ -1,0 +1,6 @@
+use Rattle.std.proofs.Common.{◌≡◌, ℕ, List, map, take}
+use Rattle.se_options.specs.Options.{named_view}
+use Rattle.se_walks.proofs.type_names.texts.Given as goal
+
+abbrev pub invariant-loop-named : goal.invariant-loop-named
+invariant-loop-named l = map (λ text. text.now) l.texts.items ≡ map (λ named. named.text) (map named_view (take l.named-index l.names))

@@ -1,0 +1,51 @@
+-- Types that words name.
+use Rattle.std.specs.Prelude.{ℕ, Bool, List, [], ◌∷◌, ◌++◌, map, option_map, Option, Some, None, if◌then◌else◌}
+use Rattle.std.specs.List.{fold}
+use Rattle.std.specs.Option.{option_to_list}
+use Rattle.pol_cursor.specs.declared.TableKind.TheVariants.{Types}
+use Rattle.pol_file.specs.declared.Parts.{Parts}
+use Rattle.pol_symbols.specs.PolicySymbols.{value_in}
+use Rattle.pol_symbols.specs.declared.Symbols.{Symbols}
+use Rattle.rule_ends.specs.EndTables.{is_type_value}
+use Rattle.named_values.specs.Named.{is_named}
+use Rattle.se_options.specs.Options.{Named}
+use Rattle.se_status.specs.Meeting.{least}
+
+-- a value that is a type's, and no attribute's
+abbrev pub plain_value : Parts → Option ℕ → Option ℕ
+plain_value policy None = None
+plain_value policy (Some value) = if is_type_value policy value then Some value else None
+
+-- the value of the type that has a name or an alias; an attribute's name names none
+unfoldable pub type_named : Parts → List ℕ → Option ℕ
+type_named policy name = plain_value policy (value_in policy.symbols Types name)
+
+-- a target that may be asked for: none, or the value that its word names; nothing where that names no type
+abbrev pub known : Option (Option ℕ) → Option (Option ℕ)
+known None = Some None
+known (Some None) = None
+known (Some (Some value)) = Some (Some value)
+
+abbrev pub target_named : Parts → Option Named → Option (Option ℕ)
+target_named policy target = known (option_map (λ named. type_named policy named.text) target)
+
+-- the number of a word that names no type
+abbrev pub word_unless : Option ℕ → ℕ → Option ℕ
+word_unless None word = Some word
+word_unless (Some value) word = None
+
+-- the least of a number and that of a word, if it names no type
+abbrev pub with_unknown : Parts → Option ℕ → Named → Option ℕ
+with_unknown policy found named = least found (word_unless (type_named policy named.text) named.word)
+
+-- the least number of a word that names no type
+abbrev pub first_unknown : Parts → List Named → Option ℕ
+first_unknown policy names = fold (with_unknown policy) None names
+
+-- the words that name types: a source, a target, and types that are excluded
+abbrev pub type_words : Named → Option Named → List Named → List Named
+type_words source target excluded = source ∷ (option_to_list target ++ excluded)
+
+-- a type is one of those that are excluded
+abbrev pub is_excluded : Symbols → List Named → ℕ → Bool
+is_excluded symbols excluded type = is_named symbols Types (map (λ named. named.text) excluded) type

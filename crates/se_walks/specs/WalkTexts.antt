@@ -1,0 +1,40 @@
+-- The texts of edges and walks. They are this project's own.
+use Rattle.std.specs.Prelude.{ℕ, ◌+◌, ◌-◌, Bool, List, ◌++◌, codes, decimal, length, slice_index, if◌then◌else◌}
+use Rattle.std.specs.List.{flat_map, range_with_len}
+use Rattle.pol_cursor.specs.declared.TableKind.TheVariants.{Types}
+use Rattle.pol_mls.specs.MlsTexts.{name_of}
+use Rattle.pol_symbols.specs.PolicySymbols.{name_in}
+use Rattle.pol_symbols.specs.declared.Symbols.{Symbols}
+
+-- `A -> B`
+unfoldable pub ends_text : Symbols → ℕ → ℕ → List ℕ
+ends_text symbols from to = name_of (name_in symbols) Types from ++ codes " -> " ++ name_of (name_in symbols) Types to
+
+-- A tool's texts: what an edge is called, and what stands behind its number, where its further lines have this indent.
+pub record EdgeWords : Type 0 where
+  pub word : List ℕ
+  pub symbols : Symbols
+  pub edge : List ℕ → ℕ → ℕ → List ℕ
+
+-- `WORD N: ` and what stands behind it
+unfoldable pub edge_item : EdgeWords → ℕ → ℕ → ℕ → List ℕ
+edge_item words number from to = words.word ++ codes " " ++ decimal number ++ codes ": " ++ words.edge (codes "   ") from to
+
+-- the same of an edge to a node or, in the reverse, from it; it is written forward
+abbrev pub end_item : EdgeWords → ℕ → Bool → ℕ → ℕ → List ℕ
+end_item words node reverse number end = if reverse then edge_item words number end node else edge_item words number node end
+
+-- `   Step I: ` and what stands behind it, for the step after so many
+unfoldable pub step_text : EdgeWords → List ℕ → ℕ → List ℕ
+step_text words walk before =
+    codes "   Step " ++ decimal (before + 1) ++ codes ": " ++ words.edge (codes "      ") (slice_index walk before) (slice_index walk (before + 1))
+
+-- `Path N: A -> B, steps K`
+unfoldable pub heading_text : EdgeWords → ℕ → List ℕ → List ℕ
+heading_text words number walk =
+    codes "Path " ++ decimal number ++ codes ": " ++ ends_text words.symbols (slice_index walk 0) (slice_index walk (length walk - 1))
+    ++ codes ", steps " ++ decimal (length walk - 1) ++ codes "\n"
+
+-- and its steps
+unfoldable pub walk_item : EdgeWords → ℕ → List ℕ → List ℕ
+walk_item words number walk = heading_text words number walk ++ flat_map (step_text words walk) (range_with_len 0 (length walk - 1))

@@ -1,0 +1,139 @@
+// Types that words name.
+ghost use Rattle.std.specs.Prelude.{◌≡◌, ◌≤◌, ℕ, IfOk, IfSome, Some, map, option_map};
+ghost use Rattle.std.specs.List.{fold};
+ghost use Rattle.std.specs.Option.{option_to_list};
+ghost use Rattle.pol_bitmap.specs.Nodes.{has_bit};
+ghost use Rattle.se_options.specs.Options.{named_view};
+ghost use Rattle.se_status.specs.Meeting.{least};
+ghost use Rattle.se_walks.specs.TypeNames.{first_unknown, is_excluded, plain_value, target_named, type_named, type_words, with_unknown};
+
+use named_values::values_named;
+use pol_bitmap::Set;
+use pol_cursor::TableKind;
+use pol_datums::Flavour;
+use pol_expand::is_flavour;
+use pol_read::Policy;
+use pol_symbols::Symbols;
+use se_options::Named;
+use std::alloc::{AllocError, Global};
+
+/// The value of the type that has a name or an alias. `None` where the name is an attribute's, or none.
+#[tactic(auto, unfolding(crate::specs::TypeNames::type_named))]
+pub fn type_named(policy: &Policy<'_>, name: &[u8]) -> Option<u32>
+    ensures value { result ≡ type_named policy.now name.now }
+    ensures low { IfSome result (λ value. 1 ≤ value) }
+    ensures high { IfSome result (λ value. value ≤ policy.now.symbols.types.nprim) }
+{
+    match policy.symbols().by_name(TableKind::Types, name) {
+        Some(value) => plain_value(policy, value),
+        None => None,
+    }
+}
+
+/// The value of a target, if one is asked for. `None` where its word names no type.
+pub fn target_named(policy: &Policy<'_>, target: &Option<Named<'_>>) -> Option<Option<u32>>
+    ensures value { result ≡ target_named policy.now (option_map named_view target.now) }
+    ensures low { IfSome result (λ target. IfSome target (λ value. 1 ≤ value)) }
+    ensures high { IfSome result (λ target. IfSome target (λ value. value ≤ policy.now.symbols.types.nprim)) }
+{
+    let Some(target) = target else {
+        return Some(None);
+    };
+    match type_named(policy, target.text.as_bytes()) {
+        Some(value) => Some(Some(value)),
+        None => None,
+    }
+}
+
+// The value, if it is that of a type, and of no attribute.
+fn plain_value(policy: &Policy<'_>, value: u32) -> Option<u32>
+    ensures value { result ≡ plain_value policy.now (Some value) }
+    ensures low { IfSome result (λ value. 1 ≤ value) }
+    ensures high { IfSome result (λ value. value ≤ policy.now.symbols.types.nprim) }
+{
+    if 1 <= value
+        && value <= policy.type_count()
+        && is_flavour(Flavour::Plain, policy.symbols().flavour(value))
+    {
+        Some(value)
+    } else {
+        None
+    }
+}
+
+/// The least number of a word, of a source, a target and excluded types, that names no type. It takes no memory.
+pub fn first_unknown(
+    policy: &Policy<'_>,
+    source: &Named<'_>,
+    target: &Option<Named<'_>>,
+    excluded: &[Named<'_>],
+) -> Option<u64>
+    ensures { result ≡ first_unknown policy.now (type_words (named_view source.now) (option_map named_view target.now) (map named_view excluded.now)) }
+{
+    let found = with_unknown(policy, None, source);
+    let found = with_target(policy, found, target);
+    with_all(policy, found, excluded)
+}
+
+// The least of a number and that of the word of a target, if there is one that names no type.
+fn with_target(policy: &Policy<'_>, found: Option<u64>, target: &Option<Named<'_>>) -> Option<u64>
+    ensures { result ≡ fold (with_unknown policy.now) found (option_to_list (option_map named_view target.now)) }
+{
+    match target {
+        Some(target) => with_unknown(policy, found, target),
+        None => found,
+    }
+}
+
+// The least of a number and those of words that name no type.
+fn with_all(policy: &Policy<'_>, found: Option<u64>, names: &[Named<'_>]) -> Option<u64>
+    ensures { result ≡ fold (with_unknown policy.now) found (map named_view names.now) }
+{
+    let mut least = found;
+    for named in names {
+        least = with_unknown(policy, least, named);
+    }
+    least
+}
+
+// The least of a number and that of a word, if it names no type.
+fn with_unknown(policy: &Policy<'_>, found: Option<u64>, named: &Named<'_>) -> Option<u64>
+    ensures { result ≡ with_unknown policy.now found (named_view named.now) }
+{
+    match type_named(policy, named.text.as_bytes()) {
+        None => least(found, named.word),
+        Some(_) => found,
+    }
+}
+
+fn least(found: Option<u64>, word: u64) -> Option<u64>
+    ensures { result ≡ least found (Some word) }
+{
+    match found {
+        None => Some(word),
+        Some(other) => Some(other.min(word)),
+    }
+}
+
+/// The set of the types that are excluded.
+pub fn excluded_set(
+    alloc: Global,
+    symbols: &Symbols<'_>,
+    excluded: &[Named<'_>],
+) -> Result<Set, AllocError>
+    ensures { IfOk result (λ set. (type : ℕ) → has_bit set type ≡ is_excluded symbols.now (map named_view excluded.now) type) }
+{
+    let names = texts(alloc, excluded)?;
+    values_named(alloc, symbols, TableKind::Types, &names)
+}
+
+// The texts of names.
+fn texts<'w>(alloc: Global, names: &[Named<'w>]) -> Result<Vec<&'w [u8]>, AllocError>
+    ensures { IfOk result (λ texts. map (λ text. text.now) texts.items ≡ map (λ named. named.text) (map named_view names.now)) }
+{
+    let mut texts = Vec::with_capacity(alloc, names.len())?;
+    for named in names {
+        texts.push(named.text.as_bytes())?;
+    }
+    Ok(texts)
+}

@@ -1,0 +1,25 @@
+-- Which items of a listing are wanted: those after the first so many, and at most so many of them.
+use Rattle.std.specs.Prelude.{ℕ, List, codes, unwrap_or, Option}
+use Rattle.se_options.specs.Options.{ValueKind, Number, Row, valued, Group}
+use Rattle.se_options.specs.Given.{given_number}
+use Rattle.std.specs.Prelude.{None}
+
+-- the greatest number of 18 digits
+abbrev pub most_items : ℕ
+most_items = 999999999999999999
+
+-- the value of an option that limits how many items are listed
+abbrev pub limit_kind : ValueKind
+limit_kind = Number 1 most_items
+
+-- the option that says after how many items the listing begins
+abbrev pub from_option : Row
+from_option = valued None (codes "--from") (Number 0 most_items)
+
+-- the limit that the option of that name gives
+abbrev pub limit_in : List ℕ → List Group → Option ℕ
+limit_in option groups = given_number 1 most_items option groups
+
+-- after how many items the listing begins
+abbrev pub from_in : List Group → ℕ
+from_in groups = unwrap_or (given_number 0 most_items from_option.name groups) 0

@@ -1,0 +1,31 @@
+// What seinfoflow is asked.
+ghost use Rattle.std.specs.Prelude.{◌≤◌};
+
+use se_options::Named;
+
+/// What `seinfoflow` is asked of a policy and a permission map: the flows of a source, or all shortest walks of flows from it to a
+/// target.
+#[derive(Debug, Drop)]
+pub struct FlowRequest<'w> {
+    /// The policy's name.
+    pub policy: Named<'w>,
+    /// The map's name.
+    pub map: Named<'w>,
+    pub source: Named<'w>,
+    /// With [`FlowRequest::shortest`], and without [`FlowRequest::reverse`].
+    pub target: Option<Named<'w>>,
+    /// All shortest walks to the target.
+    pub shortest: bool,
+    /// The least weight of a flow, from 1 to 10.
+    pub least: u8,
+    /// The flows into the source, in place of those out of it.
+    pub reverse: bool,
+    /// The types at which no flow begins or ends, in the order of words.
+    pub excluded: Vec<Named<'w>>,
+    /// So many items are left out first.
+    pub from: u64,
+    /// At most so many items, 1 or more.
+    pub limit: Option<u64>,
+    pub ghost at_least_one: { 1 ≤ least },
+    pub ghost at_most_ten: { least ≤ 10 },
+}

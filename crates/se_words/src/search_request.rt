@@ -1,0 +1,16 @@
+// What sesearch is asked.
+use rule_criteria::Criteria;
+use se_options::Named;
+
+/// What `sesearch` is asked of a policy: the rules that meet some criteria.
+#[derive(Drop)]
+pub struct SearchRequest<'w> {
+    /// The policy's name.
+    pub policy: Named<'w>,
+    /// At least one kind of rules is asked for.
+    pub criteria: Criteria,
+    /// So many rules are left out first.
+    pub from: u64,
+    /// At most so many rules, 1 or more.
+    pub limit: Option<u64>,
+}
