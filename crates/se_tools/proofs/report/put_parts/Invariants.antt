@@ -1,8 +1,0 @@
-use Rattle.std.proofs.Common.{take}
-use Rattle.se_tools.specs.Message.{part_text}
-use Rattle.se_tools.proofs.Puts.{PutsAll}
-use Rattle.se_tools.proofs.report.put_parts.Given as goal
-
-abbrev pub invariant-loop-part : goal.invariant-loop-part
-invariant-loop-part g l =
-    PutsAll part_text (take l.part-index l.parts) (g.E.Sink.written l.initial.err) (g.E.Sink.written l.err) (g.E.Sink.faults l.initial.err) (g.E.Sink.faults l.err) l.initial.line.bytes l.line.bytes
