@@ -1,3 +1,4 @@
+pub mod OrderedRules
 pub mod Ordered
 pub mod KeyOrder
 pub mod SortedNumbers

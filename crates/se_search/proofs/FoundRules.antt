@@ -11,7 +11,7 @@ use Rattle.se_items.specs.Paging.{limited, most_items, page}
 use Rattle.se_words.specs.SearchRequest.{SearchAsks}
 use Rattle.se_search.specs.SearchAnswer.{found_rules, rule_line, search_text}
 use Rattle.std.proofs.lemmas.List.Elements.{All-head, All-nil, All-tail}
-use Rattle.se_search.proofs.OrderedRules.{all-rules, ordered-rules}
+use Rattle.rule_order.proofs.OrderedRules.{all-rules, ordered-rules}
 
 take-mapped : {A B : Type 0} (f : A → B) (k : ℕ) (xs : List A) → take k (map f xs) ≡ map f (take k xs)
 take-mapped f zero xs = refl

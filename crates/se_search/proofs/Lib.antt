@@ -1,4 +1,3 @@
-pub mod OrderedRules
 pub mod WordsRise
 pub mod Refused
 pub mod Tried
