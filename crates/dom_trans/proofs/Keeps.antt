@@ -11,13 +11,13 @@ use Rattle.pol_rules.specs.declared.RuleKind.TheVariants.{Allow, TypeTransition}
 use Rattle.pol_rules.specs.declared.RulePart.{RulePart}
 use Rattle.pol_rules.specs.StoredRules.{StoredRule, stored_rules}
 use Rattle.value_groups.proofs.Ranges.{filter_range_one}
-use Rattle.rule_ends.specs.ChosenRules.{ChosenRules, passes, rule_passes, has_type_ends, is_between_types}
+use Rattle.rule_ends.specs.ChosenRules.{passes, rule_passes, has_type_ends, is_between_types}
 use Rattle.dom_trans.specs.declared.permission.Permission.{Permission}
 use Rattle.dom_trans.specs.declared.keeping.Wanted.{Wanted}
 use Rattle.dom_trans.specs.declared.keeping.Kept.{Kept}
 use Rattle.dom_trans.specs.Grants.{counts, rules_that, part_gives, gives, kind_sets_default, sets_default}
 use Rattle.dom_trans.specs.Keeping.{kept_of, AreKept, GainsWhere, AddsRule}
-use Rattle.dom_trans.specs.RuleLists.{HaveTypeEnds, chosen}
+use Rattle.dom_trans.specs.RuleLists.{HaveTypeEnds}
 
 -- one rule more
 more : (policy : Parts) (test : StoredRule → Bool) (n : ℕ) (rule : StoredRule) (old new : List ℕ) → slice_get (stored_rules policy) n ≡ Some rule → old ≡ kept_of policy n test → GainsWhere n (counts rule && test rule) old new → new ≡ kept_of policy (n + 1) test
@@ -88,8 +88,8 @@ kept_ends policy test numbers types few is = record {
   few = kept_few policy (length (stored_rules policy)) test numbers few is;
 }
 
--- ---- as chosen rules
+-- ---- all rules that pass a test
 
-pub chosen_are : (policy : Parts) (test : StoredRule → Bool) (numbers : List ℕ) (ends : ChosenRules) → ends ≡ record { policy = policy; rules = numbers } → numbers ≡ kept_of policy (length (stored_rules policy)) test → ends ≡ chosen policy (rules_that policy test)
+pub kept_all : (policy : Parts) (test : StoredRule → Bool) (numbers : List ℕ) → numbers ≡ kept_of policy (length (stored_rules policy)) test → numbers ≡ rules_that policy test
 unfolding rules_that
-chosen_are policy test numbers ends is kept = is ∙ ap (λ (xs : List ℕ). chosen policy xs) kept
+kept_all policy test numbers is = is

@@ -1,10 +1,12 @@
 -- The rules that transitions rest on, each list as chosen rules. It serves the code alone.
-use Rattle.std.specs.Prelude.{◌≡◌, ℕ, ◌<◌, ◌^◌, Bool, true, ◌&&◌, ◌||◌, List, length}
+use Rattle.std.specs.Prelude.{◌≡◌, ℕ, ◌<◌, ◌^◌, Bool, true, ◌&&◌, ◌||◌, List, [], ◌∷◌, length, map}
 use Rattle.std.specs.List.{All}
 use Rattle.pol_bitmap.specs.declared.Node.{Node}
 use Rattle.pol_bitmap.specs.Nodes.{bits_of, has_bit}
 use Rattle.pol_file.specs.declared.Parts.{Parts}
 use Rattle.rule_ends.specs.ChosenRules.{ChosenRules, is_between_types, targets_from}
+use Rattle.dom_trans.specs.declared.grant.Grant.{Grant}
+use Rattle.dom_trans.specs.declared.grant.Grant.TheVariants.{Transition, Dyntransition, Setexec, Setcurrent, Execute, Entrypoint, Default}
 use Rattle.dom_trans.specs.Grants.{granting_rules, grants, default_rules, process, file, transition, dyntransition, setexec, setcurrent, execute, entrypoint}
 use Rattle.dom_trans.specs.Transitions.{is_default}
 
@@ -17,14 +19,30 @@ pub record HaveTypeEnds (policy : Parts) (numbers : List ℕ) : Type 0 where
   pub types : All (λ number. is_between_types policy number ≡ true) numbers
   pub few : length numbers < 2 ^ 32
 
-pub record AreRuleLists (policy : Parts) (transitions dyntransitions setexecs setcurrents executes entrypoints defaults : ChosenRules) : Type 0 where
-  pub transitions_are : transitions ≡ chosen policy (granting_rules policy process transition)
-  pub dyntransitions_are : dyntransitions ≡ chosen policy (granting_rules policy process dyntransition)
-  pub setexecs_are : setexecs ≡ chosen policy (granting_rules policy process setexec)
-  pub setcurrents_are : setcurrents ≡ chosen policy (granting_rules policy process setcurrent)
-  pub executes_are : executes ≡ chosen policy (granting_rules policy file execute)
-  pub entrypoints_are : entrypoints ≡ chosen policy (granting_rules policy file entrypoint)
-  pub defaults_are : defaults ≡ chosen policy (default_rules policy)
+-- the rules of each list
+abbrev pub rules_of : Parts → Grant → List ℕ
+rules_of policy Transition = granting_rules policy process transition
+rules_of policy Dyntransition = granting_rules policy process dyntransition
+rules_of policy Setexec = granting_rules policy process setexec
+rules_of policy Setcurrent = granting_rules policy process setcurrent
+rules_of policy Execute = granting_rules policy file execute
+rules_of policy Entrypoint = granting_rules policy file entrypoint
+rules_of policy Default = default_rules policy
+
+-- the place of a list among all
+abbrev pub place_of : Grant → ℕ
+place_of Transition = 0
+place_of Dyntransition = 1
+place_of Setexec = 2
+place_of Setcurrent = 3
+place_of Execute = 4
+place_of Entrypoint = 5
+place_of Default = 6
+
+-- all lists
+abbrev pub rule_lists : Parts → List ChosenRules
+rule_lists policy =
+    map (λ grant. chosen policy (rules_of policy grant)) (Transition ∷ Dyntransition ∷ Setexec ∷ Setcurrent ∷ Execute ∷ Entrypoint ∷ Default ∷ [])
 
 -- What a type may do, whatever the other domain is.
 pub record IsSourceOf (policy : Parts) (a : ℕ) (executable : List Node) (sets_exec sets_current : Bool) : Type 0 where

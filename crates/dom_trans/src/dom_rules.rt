@@ -1,4 +1,4 @@
-ghost use Rattle.std.specs.Prelude.{◌≡◌, ℕ, true, [], IfOk, map, if◌then◌else◌};
+ghost use Rattle.std.specs.Prelude.{◌≡◌, ℕ, true, [], ◌∷◌, ◌++◌, IfOk, OnOk, map, if◌then◌else◌};
 ghost use Rattle.std.specs.List.{Contains, list_any, range_with_len};
 ghost use Rattle.pol_bitmap.specs.Nodes.{bits_of};
 ghost use Rattle.pol_bitmap.specs.Sets.{IsSet};
@@ -8,8 +8,9 @@ ghost use Rattle.rule_ends.specs.EndTables.{is_type_value};
 ghost use Rattle.dom_trans.specs.Grants.{granting_rules, file, entrypoint};
 ghost use Rattle.dom_trans.specs.Transitions.{are_two_types, is_default, is_entry, entries, is_standard, is_dynamic, is_transition, defaults_between};
 ghost use Rattle.dom_trans.specs.ReasonLists.{entry_reason, reasons_between};
-ghost use Rattle.dom_trans.specs.RuleLists.{HaveTypeEnds, IsSourceOf, chosen, leads};
+ghost use Rattle.dom_trans.specs.RuleLists.{HaveTypeEnds, IsSourceOf, chosen, leads, rules_of};
 
+use crate::grant::Grant;
 use crate::keeping::{kept_rules, push_if};
 use crate::permission::has_default;
 use crate::reasons::{EntryReason, EntryReasonList, Reasons};
@@ -26,24 +27,20 @@ use std::marker::Model;
 #[derive(Drop)]
 pub struct DomRules<'p> {
     policy: &'p Policy<'p>,
-    transition: RuleEnds<'p>,
-    dyntransition: RuleEnds<'p>,
-    setexec: RuleEnds<'p>,
-    setcurrent: RuleEnds<'p>,
-    execute: RuleEnds<'p>,
-    entrypoint: RuleEnds<'p>,
-    defaults: RuleEnds<'p>,
+    // One for each grant, in their order.
+    lists: Vec<RuleEnds<'p>>,
 }
 
 impl<'p> Model for DomRules<'p> {
     ghost use Rattle.pol_file.specs.declared.Parts.{Parts};
-    ghost use Rattle.dom_trans.specs.RuleLists.{AreRuleLists};
+    ghost use Rattle.std.specs.Prelude.{◌≡◌};
+    ghost use Rattle.dom_trans.specs.RuleLists.{rule_lists};
 
     ghost Value = { Parts };
 
     ghost view = { λ r. r.policy.now };
 
-    ghost invariant = { λ r. AreRuleLists r.policy.now r.transition r.dyntransition r.setexec r.setcurrent r.execute r.entrypoint r.defaults };
+    ghost invariant = { λ r. r.lists.items ≡ rule_lists r.policy.now };
 }
 
 /// What a type may do, whatever the other domain is.
@@ -68,20 +65,15 @@ impl<'p> DomRules<'p> {
         ensures { IfOk result (λ rules. rules ≡ policy.now) }
     {
         let kept = kept_rules(alloc, policy)?;
-        let moves = two_ends(alloc, policy, types, kept.transition, kept.dyntransition)?;
-        let asks = two_ends(alloc, policy, types, kept.setexec, kept.setcurrent)?;
-        let files = two_ends(alloc, policy, types, kept.execute, kept.entrypoint)?;
-        let defaults = RuleEnds::build(alloc, policy, types, kept.defaults)?;
-        Ok(DomRules {
-            policy,
-            transition: moves.0,
-            dyntransition: moves.1,
-            setexec: asks.0,
-            setcurrent: asks.1,
-            execute: files.0,
-            entrypoint: files.1,
-            defaults,
-        })
+        let mut lists = Vec::with_capacity(alloc, 7)?;
+        push_ends(&mut lists, policy, types, kept.transition)?;
+        push_ends(&mut lists, policy, types, kept.dyntransition)?;
+        push_ends(&mut lists, policy, types, kept.setexec)?;
+        push_ends(&mut lists, policy, types, kept.setcurrent)?;
+        push_ends(&mut lists, policy, types, kept.execute)?;
+        push_ends(&mut lists, policy, types, kept.entrypoint)?;
+        push_ends(&mut lists, policy, types, kept.defaults)?;
+        Ok(DomRules { policy, lists })
     }
 
     /// The policy.
@@ -89,6 +81,13 @@ impl<'p> DomRules<'p> {
         ensures { result.now ≡ self.now }
     {
         self.policy
+    }
+
+    // The rules of a grant.
+    fn list(&self, grant: Grant) -> &RuleEnds<'p>
+        ensures { result.now ≡ chosen self.now (rules_of self.now grant) }
+    {
+        &self.lists[grant.place()]
     }
 
     /// Whether a value is that of a type, and of no attribute.
@@ -105,9 +104,9 @@ impl<'p> DomRules<'p> {
         ensures { IfOk result (λ source. IsSourceOf self.now a source.executable source.setexec source.setcurrent) }
     {
         Ok(Source {
-            executable: self.execute.targets_of(alloc, a)?,
-            setexec: self.setexec.has_between(alloc, a, a)?,
-            setcurrent: self.setcurrent.has_between(alloc, a, a)?,
+            executable: self.list(Grant::Execute).targets_of(alloc, a)?,
+            setexec: self.list(Grant::Setexec).has_between(alloc, a, a)?,
+            setcurrent: self.list(Grant::Setcurrent).has_between(alloc, a, a)?,
         })
     }
 }
@@ -117,14 +116,14 @@ impl<'p> DomRules<'p> {
     fn points(&self, alloc: Global, b: u32) -> Result<Set, AllocError>
         ensures { IfOk result (λ points. bits_of points ≡ targets_from self.now (granting_rules self.now file entrypoint) b) }
     {
-        self.entrypoint.targets_of(alloc, b)
+        self.list(Grant::Entrypoint).targets_of(alloc, b)
     }
 
     // Whether the one type is the default domain of a process that the other starts from an entry type.
     fn is_default(&self, alloc: Global, a: u32, b: u32, entry: u32) -> Result<bool, AllocError>
         ensures { IfOk result (λ found. found ≡ is_default self.now a b entry) }
     {
-        let numbers = self.defaults.between(alloc, a, entry)?;
+        let numbers = self.list(Grant::Default).between(alloc, a, entry)?;
         for number in &numbers {
             if has_default(b, &self.policy.rule(*number)) {
                 return Ok(true);
@@ -143,7 +142,7 @@ impl<'p> DomRules<'p> {
     ) -> Result<NumberList, AllocError>
         ensures { IfOk result (λ found. found ≡ defaults_between self.now a b entry) }
     {
-        let numbers = self.defaults.between(alloc, a, entry)?;
+        let numbers = self.list(Grant::Default).between(alloc, a, entry)?;
         let mut found = Vec::new(alloc);
         for number in &numbers {
             let holds = has_default(b, &self.policy.rule(*number));
@@ -228,7 +227,7 @@ impl<'p> DomRules<'p> {
         if !self.are_two_types(a, b) {
             return Ok(false);
         }
-        if !self.transition.has_between(alloc, a, b)? {
+        if !self.list(Grant::Transition).has_between(alloc, a, b)? {
             return Ok(false);
         }
         self.has_entry(alloc, a, source, b)
@@ -245,7 +244,7 @@ impl<'p> DomRules<'p> {
         if !source.setcurrent {
             return Ok(false);
         }
-        self.dyntransition.has_between(alloc, a, b)
+        self.list(Grant::Dyntransition).has_between(alloc, a, b)
     }
 
     /// Whether there is a transition from a type, of which this is known, to another.
@@ -270,8 +269,8 @@ impl<'p> DomRules<'p> {
         ensures form { IfOk result IsSet }
         ensures all { IfOk result (λ set. (b : ℕ) → is_transition self.now a b ≡ true → Contains (bits_of set) b) }
     {
-        let standard = self.transition.targets_of(alloc, a)?;
-        let dynamic = self.dyntransition.targets_of(alloc, a)?;
+        let standard = self.list(Grant::Transition).targets_of(alloc, a)?;
+        let dynamic = self.list(Grant::Dyntransition).targets_of(alloc, a)?;
         standard.union(alloc, &dynamic)
     }
 
@@ -280,8 +279,8 @@ impl<'p> DomRules<'p> {
         ensures form { IfOk result IsSet }
         ensures all { IfOk result (λ set. (a : ℕ) → is_transition self.now a b ≡ true → Contains (bits_of set) a) }
     {
-        let standard = self.transition.sources_of(alloc, b)?;
-        let dynamic = self.dyntransition.sources_of(alloc, b)?;
+        let standard = self.list(Grant::Transition).sources_of(alloc, b)?;
+        let dynamic = self.list(Grant::Dyntransition).sources_of(alloc, b)?;
         standard.union(alloc, &dynamic)
     }
 }
@@ -299,8 +298,8 @@ impl<'p> DomRules<'p> {
     {
         Ok(EntryReason {
             entry,
-            entrypoint: OwnedList::from_vec(self.entrypoint.between(alloc, b, entry)?),
-            execute: OwnedList::from_vec(self.execute.between(alloc, a, entry)?),
+            entrypoint: OwnedList::from_vec(self.list(Grant::Entrypoint).between(alloc, b, entry)?),
+            execute: OwnedList::from_vec(self.list(Grant::Execute).between(alloc, a, entry)?),
             default: self.defaults_between(alloc, a, b, entry)?,
         })
     }
@@ -331,11 +330,11 @@ impl<'p> DomRules<'p> {
         let standard = self.is_standard(alloc, a, &source, b)?;
         let dynamic = self.is_dynamic(alloc, a, &source, b)?;
         Ok(Reasons {
-            transition: between_where(alloc, standard, &self.transition, a, b)?,
-            setexec: between_where(alloc, standard, &self.setexec, a, a)?,
+            transition: between_where(alloc, standard, self.list(Grant::Transition), a, b)?,
+            setexec: between_where(alloc, standard, self.list(Grant::Setexec), a, a)?,
             entries: self.entries_where(alloc, standard, a, &source, b)?,
-            dyntransition: between_where(alloc, dynamic, &self.dyntransition, a, b)?,
-            setcurrent: between_where(alloc, dynamic, &self.setcurrent, a, a)?,
+            dyntransition: between_where(alloc, dynamic, self.list(Grant::Dyntransition), a, b)?,
+            setcurrent: between_where(alloc, dynamic, self.list(Grant::Setcurrent), a, a)?,
         })
     }
 
@@ -359,23 +358,20 @@ impl<'p> DomRules<'p> {
     }
 }
 
-// Two lists of rules with their ends.
-fn two_ends<'p>(
-    alloc: Global,
+// Adds rules with their ends to lists.
+fn push_ends<'p>(
+    lists: &mut Vec<RuleEnds<'p>>,
     policy: &'p Policy<'p>,
     types: &'p TypeMap,
-    first: Vec<u32>,
-    second: Vec<u32>,
-) -> Result<(RuleEnds<'p>, RuleEnds<'p>), AllocError>
+    numbers: Vec<u32>,
+) -> Result<(), AllocError>
     requires map { IsPolicyMap policy.now types.now }
-    requires first { HaveTypeEnds policy.now first.items }
-    requires second { HaveTypeEnds policy.now second.items }
-    ensures first { IfOk result (λ ends. ends.0 ≡ chosen policy.now first.items) }
-    ensures second { IfOk result (λ ends. ends.1 ≡ chosen policy.now second.items) }
+    requires numbers { HaveTypeEnds policy.now numbers.items }
+    ensures { OnOk result (lists.new.items ≡ lists.old.items ++ chosen policy.now numbers.items ∷ []) }
 {
-    let one = RuleEnds::build(alloc, policy, types, first)?;
-    let other = RuleEnds::build(alloc, policy, types, second)?;
-    Ok((one, other))
+    let alloc = *lists.allocator();
+    lists.push(RuleEnds::build(alloc, policy, types, numbers)?)?;
+    Ok(())
 }
 
 // Those of some rules that join two types, where a test holds.

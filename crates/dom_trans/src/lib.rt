@@ -3,6 +3,7 @@
 
 mod dom_graph;
 mod dom_rules;
+mod grant;
 mod keeping;
 mod permission;
 mod reasons;

@@ -14,7 +14,7 @@ returns-then-has_default c =
     let numbers = c.deref-number-items.result.now in
     let x = get_or numbers c.loop-number.number-index 0 in
     let is : numbers ≡ rules_between policy (default_rules policy) c.args.a c.args.entry =
-    c.deref-number-items.ensures.value ∙ c.in_ok-numbers.ensures.found ∙ ap (λ (r : ChosenRules). rules_between r.policy r.rules c.args.a c.args.entry) c.self.invariant.defaults_are ∙ ap (λ (p : Parts). rules_between p (default_rules p) c.args.a c.args.entry) c.self.view_is in
+    c.deref-number-items.ensures.value ∙ c.in_ok-numbers.ensures.found ∙ ap (λ (r : ChosenRules). rules_between r.policy r.rules c.args.a c.args.entry) c.list.ensures in
     let tested = c.has_default.ensures ∙ default_of c.self.inside.policy.now c.args.b x (stored c.rule.result) c.rule.ensures.is ∙ ap (λ (p : Parts). has_default p c.args.b x) c.self.view_is in
     sym (ap (list_any (has_default policy c.args.b)) (sym is) ∙ any_at (has_default policy c.args.b) numbers c.loop-number.number-index 0 c.loop-number-test.true (sym tested ∙ c.if-has_default.true))
 

@@ -1,6 +1,5 @@
 use Rattle.std.proofs.Common.{◌≡◌, Bool, IfOk, subst, sym, ◌∙◌}
 use Rattle.rule_ends.specs.ChosenRules.{ChosenRules, any_joins}
-use Rattle.dom_trans.proofs.Chosen.{lists_seen}
 use Rattle.dom_trans.proofs.Ways.{dynamic_of_others, dynamic_refused, dynamic_by_grant}
 use Rattle.dom_trans.proofs.dom_rules.DomRules.is_dynamic.Goals as goal
 
@@ -14,7 +13,6 @@ returns-then-not-source c =
 
 pub returns : goal.returns
 returns c =
-    let lists = lists_seen c.self.view_is c.self.invariant in
     let policy = c.args.self.now in
     subst (λ (v : Bool). IfOk c.has_between.result (λ holds. holds ≡ v)) (dynamic_by_grant policy c.args.a c.args.b (sym c.are_two_types.ensures ∙ c.if-not-are_two_types.false) (sym c.requires.changes ∙ c.if-not-source.false))
-    (subst (λ (ends : ChosenRules). IfOk c.has_between.result (λ found. found ≡ any_joins ends.policy ends.rules c.args.a c.args.b)) lists.dyntransitions_are c.has_between.ensures)
+    (subst (λ (ends : ChosenRules). IfOk c.has_between.result (λ found. found ≡ any_joins ends.policy ends.rules c.args.a c.args.b)) c.list.ensures c.has_between.ensures)

@@ -1,58 +1,55 @@
 use Rattle.dom_trans.specs.Grants.{gives, sets_default}
 use Rattle.dom_trans.specs.Keeping.{wanted_in}
-use Rattle.dom_trans.proofs.Keeps.{kept_ends, chosen_are, gives_types, defaults_types}
+use Rattle.dom_trans.proofs.Chosen.{one_more}
+use Rattle.dom_trans.proofs.Keeps.{kept_ends, kept_all, gives_types, defaults_types}
 use Rattle.dom_trans.proofs.dom_rules.DomRules.new.Goals as goal
 
-pub two_ends-requires-clause-first : goal.two_ends-requires-clause-first
-two_ends-requires-clause-first c =
+pub push_ends-requires-clause-numbers : goal.push_ends-requires-clause-numbers
+push_ends-requires-clause-numbers c =
     let test = (wanted_in c.args.policy.now.symbols).transition in
     kept_ends c.args.policy.now (gives test) c.in_ok-kept.kept.transition.items (gives_types test) c.in_ok-kept.ensures.few c.in_ok-kept.ensures.kept.transition
 
-pub two_ends-requires-clause-second : goal.two_ends-requires-clause-second
-two_ends-requires-clause-second c =
+pub push_ends-requires-2-clause-numbers : goal.push_ends-requires-2-clause-numbers
+push_ends-requires-2-clause-numbers c =
     let test = (wanted_in c.args.policy.now.symbols).dyntransition in
     kept_ends c.args.policy.now (gives test) c.in_ok-kept.kept.dyntransition.items (gives_types test) c.in_ok-kept.ensures.few c.in_ok-kept.ensures.kept.dyntransition
 
-pub two_ends-requires-2-clause-first : goal.two_ends-requires-2-clause-first
-two_ends-requires-2-clause-first c =
+pub push_ends-requires-3-clause-numbers : goal.push_ends-requires-3-clause-numbers
+push_ends-requires-3-clause-numbers c =
     let test = (wanted_in c.args.policy.now.symbols).setexec in
     kept_ends c.args.policy.now (gives test) c.in_ok-kept.kept.setexec.items (gives_types test) c.in_ok-kept.ensures.few c.in_ok-kept.ensures.kept.setexec
 
-pub two_ends-requires-2-clause-second : goal.two_ends-requires-2-clause-second
-two_ends-requires-2-clause-second c =
+pub push_ends-requires-4-clause-numbers : goal.push_ends-requires-4-clause-numbers
+push_ends-requires-4-clause-numbers c =
     let test = (wanted_in c.args.policy.now.symbols).setcurrent in
     kept_ends c.args.policy.now (gives test) c.in_ok-kept.kept.setcurrent.items (gives_types test) c.in_ok-kept.ensures.few c.in_ok-kept.ensures.kept.setcurrent
 
-pub two_ends-requires-3-clause-first : goal.two_ends-requires-3-clause-first
-two_ends-requires-3-clause-first c =
+pub push_ends-requires-5-clause-numbers : goal.push_ends-requires-5-clause-numbers
+push_ends-requires-5-clause-numbers c =
     let test = (wanted_in c.args.policy.now.symbols).execute in
     kept_ends c.args.policy.now (gives test) c.in_ok-kept.kept.execute.items (gives_types test) c.in_ok-kept.ensures.few c.in_ok-kept.ensures.kept.execute
 
-pub two_ends-requires-3-clause-second : goal.two_ends-requires-3-clause-second
-two_ends-requires-3-clause-second c =
+pub push_ends-requires-6-clause-numbers : goal.push_ends-requires-6-clause-numbers
+push_ends-requires-6-clause-numbers c =
     let test = (wanted_in c.args.policy.now.symbols).entrypoint in
     kept_ends c.args.policy.now (gives test) c.in_ok-kept.kept.entrypoint.items (gives_types test) c.in_ok-kept.ensures.few c.in_ok-kept.ensures.kept.entrypoint
 
-pub build-requires-clause-rules : goal.build-requires-clause-rules
-build-requires-clause-rules c =
-    let class = (wanted_in c.args.policy.now.symbols).process in
-    (kept_ends c.args.policy.now (sets_default class) c.in_ok-kept.kept.defaults.items (defaults_types class) c.in_ok-kept.ensures.few c.in_ok-kept.ensures.kept.defaults).types
-
-pub build-requires-clause-few : goal.build-requires-clause-few
-build-requires-clause-few c =
-    let class = (wanted_in c.args.policy.now.symbols).process in
-    (kept_ends c.args.policy.now (sets_default class) c.in_ok-kept.kept.defaults.items (defaults_types class) c.in_ok-kept.ensures.few c.in_ok-kept.ensures.kept.defaults).few
+pub push_ends-requires-7-clause-numbers : goal.push_ends-requires-7-clause-numbers
+push_ends-requires-7-clause-numbers c =
+    let test = (wanted_in c.args.policy.now.symbols).process in
+    kept_ends c.args.policy.now (sets_default test) c.in_ok-kept.kept.defaults.items (defaults_types test) c.in_ok-kept.ensures.few c.in_ok-kept.ensures.kept.defaults
 
 pub invariant_of-result : goal.invariant_of-result
 invariant_of-result c =
     let policy = c.args.policy.now in
-    let wanted = wanted_in c.args.policy.now.symbols in
-    record {
-      transitions_are = chosen_are policy (gives wanted.transition) c.in_ok-kept.kept.transition.items _ c.in_ok-moves.ensures.first c.in_ok-kept.ensures.kept.transition;
-      dyntransitions_are = chosen_are policy (gives wanted.dyntransition) c.in_ok-kept.kept.dyntransition.items _ c.in_ok-moves.ensures.second c.in_ok-kept.ensures.kept.dyntransition;
-      setexecs_are = chosen_are policy (gives wanted.setexec) c.in_ok-kept.kept.setexec.items _ c.in_ok-asks.ensures.first c.in_ok-kept.ensures.kept.setexec;
-      setcurrents_are = chosen_are policy (gives wanted.setcurrent) c.in_ok-kept.kept.setcurrent.items _ c.in_ok-asks.ensures.second c.in_ok-kept.ensures.kept.setcurrent;
-      executes_are = chosen_are policy (gives wanted.execute) c.in_ok-kept.kept.execute.items _ c.in_ok-files.ensures.first c.in_ok-kept.ensures.kept.execute;
-      entrypoints_are = chosen_are policy (gives wanted.entrypoint) c.in_ok-kept.kept.entrypoint.items _ c.in_ok-files.ensures.second c.in_ok-kept.ensures.kept.entrypoint;
-      defaults_are = chosen_are policy (sets_default wanted.process) c.in_ok-kept.kept.defaults.items _ c.in_ok-defaults.ensures c.in_ok-kept.ensures.kept.defaults;
-    }
+    let wanted = wanted_in policy.symbols in
+    let kept = c.in_ok-kept.kept in
+    let are = c.in_ok-kept.ensures.kept in
+    let with_transition = one_more policy _ _ _ _ _ c.in_ok-push_ends.ensures c.in_ok-lists.ensures.items (kept_all policy (gives wanted.transition) kept.transition.items are.transition) in
+    let with_dyntransition = one_more policy _ _ _ _ _ c.in_ok-push_ends-2.ensures with_transition (kept_all policy (gives wanted.dyntransition) kept.dyntransition.items are.dyntransition) in
+    let with_setexec = one_more policy _ _ _ _ _ c.in_ok-push_ends-3.ensures with_dyntransition (kept_all policy (gives wanted.setexec) kept.setexec.items are.setexec) in
+    let with_setcurrent = one_more policy _ _ _ _ _ c.in_ok-push_ends-4.ensures with_setexec (kept_all policy (gives wanted.setcurrent) kept.setcurrent.items are.setcurrent) in
+    let with_execute = one_more policy _ _ _ _ _ c.in_ok-push_ends-5.ensures with_setcurrent (kept_all policy (gives wanted.execute) kept.execute.items are.execute) in
+    let with_entrypoint = one_more policy _ _ _ _ _ c.in_ok-push_ends-6.ensures with_execute (kept_all policy (gives wanted.entrypoint) kept.entrypoint.items are.entrypoint) in
+    let with_defaults = one_more policy _ _ _ _ _ c.in_ok-push_ends-7.ensures with_entrypoint (kept_all policy (sets_default wanted.process) kept.defaults.items are.defaults) in
+    with_defaults

@@ -1,0 +1,4 @@
+pub mod ReasonLemmas
+pub mod Texts
+pub mod Edges
+pub mod Answered

@@ -1,0 +1,3 @@
+pub mod DomTexts
+pub mod ReasonRules
+pub mod DomAnswer

@@ -1,0 +1,78 @@
+// How sedta writes transitions.
+ghost use Rattle.std.specs.Prelude.{◌≡◌, ◌++◌, OnOk};
+ghost use Rattle.se_dom.specs.DomTexts.{transition_text};
+ghost use Rattle.se_walks.specs.WalkTexts.{ends_text};
+
+use crate::reason_texts::push_reasons;
+use dom_trans::DomGraph;
+use rule_text::RuleTexts;
+use se_walks::{EdgeTexts, push_ends};
+use std::alloc::AllocError;
+
+/// The texts of the transitions of a graph.
+#[derive(Drop)]
+pub struct DomTexts<'g, 'p> {
+    pub graph: &'g DomGraph<'p>,
+    /// The texts of the rules of its policy.
+    pub rules: &'g RuleTexts<'p, 'p>,
+    ghost same: { rules.now ≡ graph.now.policy },
+}
+
+impl EdgeTexts for DomTexts<'_, '_> {
+    ghost use Rattle.se_dom.specs.DomTexts.{dom_words};
+
+    ghost words = { λ t. dom_words t.graph.now.policy };
+
+    #[tactic(auto, unfolding(crate::specs::DomTexts::dom_words))]
+    fn word(&self) -> &'static [u8] {
+        b"Transition"
+    }
+
+    #[tactic(auto, unfolding(crate::specs::DomTexts::dom_words))]
+    fn push_ends(&self, from: u32, to: u32, buffer: &mut Vec<u8>) -> Result<(), AllocError> {
+        push_graph_ends(self.graph, from, to, buffer)
+    }
+
+    #[tactic(auto, unfolding(crate::specs::DomTexts::dom_words))]
+    fn push_edge(
+        &self,
+        indent: &[u8],
+        from: u32,
+        to: u32,
+        buffer: &mut Vec<u8>,
+    ) -> Result<(), AllocError> {
+        push_transition(self.graph, self.rules, indent, from, to, buffer)
+    }
+}
+
+// Adds the ends of a transition of a graph.
+fn push_graph_ends(
+    graph: &DomGraph<'_>,
+    from: u32,
+    to: u32,
+    buffer: &mut Vec<u8>,
+) -> Result<(), AllocError>
+    ensures { OnOk result (buffer.new.items ≡ buffer.old.items ++ ends_text graph.now.policy.symbols from to) }
+{
+    push_ends(graph.policy().symbols(), from, to, buffer)
+}
+
+// Adds the ends of a transition, and the rules behind it.
+#[tactic(auto, unfolding(crate::specs::DomTexts::transition_text))]
+fn push_transition(
+    graph: &DomGraph<'_>,
+    rules: &RuleTexts<'_, '_>,
+    indent: &[u8],
+    from: u32,
+    to: u32,
+    buffer: &mut Vec<u8>,
+) -> Result<(), AllocError>
+    requires { rules.now ≡ graph.now.policy }
+    ensures { OnOk result (buffer.new.items ≡ buffer.old.items ++ transition_text graph.now.policy indent.now from to) }
+{
+    let reasons = graph.reasons(*buffer.allocator(), from, to)?;
+    let symbols = graph.policy().symbols();
+    push_ends(symbols, from, to, buffer)?;
+    buffer.extend_from_slice(b"\n")?;
+    push_reasons(rules, symbols, indent, &reasons, buffer)
+}
