@@ -11,6 +11,8 @@ pub mod ClassPermissions
 pub mod ClassesMade
 pub mod PermissionTests
 pub mod TestsRight
+pub mod AskedEnds
 pub mod Passing
 pub mod Resolvings
 pub mod Asking
+pub mod FoundRules

@@ -10,17 +10,20 @@ use Rattle.pol_rules.specs.StoredRules.{StoredRule, stored_rules}
 use Rattle.rule_criteria.specs.declared.Criteria.{Criteria}
 use Rattle.rule_query.specs.declared.tests.Test.{Test}
 use Rattle.rule_query.specs.declared.query.Query.{Query}
-use Rattle.rule_query.specs.Given.{Given, in_word_order}
+use Rattle.rule_query.specs.Given.{Given, in_word_order, source_given, target_given}
 use Rattle.rule_query.specs.Meeting.{meets, meets_found, meets_given, meets_rule}
-use Rattle.rule_query.specs.Tests.{passes, rule_test}
-use Rattle.rule_query.specs.Resolved.{IsQueryOf, Gains}
+use Rattle.rule_query.specs.Tests.{first_of, passes, rule_test, sources_of, targets_of}
+use Rattle.rule_query.specs.Resolved.{AreTypesOf, IsQueryOf, Gains}
+use Rattle.rule_query.proofs.AskedEnds.{asked_more, source_in_order, target_in_order}
 
--- tests pass the declared rules that meet these criteria
+-- tests pass the declared rules that meet these criteria, and have the types that they ask for
 pub record PassAlike (policy : Parts) (done : List Given) (tests : List Test) : Type 0 where
   pub tells : (rule : StoredRule) → IsDeclaredRule policy rule → list_all (rule_test policy.symbols rule) tests ≡ list_all (meets_given policy rule) done
+  pub sources : AreTypesOf policy (first_of source_given done) (first_of sources_of tests)
+  pub targets : AreTypesOf policy (first_of target_given done) (first_of targets_of tests)
 
 pub no_tests : (policy : Parts) → PassAlike policy [] []
-no_tests policy = record { tells = λ rule declared. refl }
+no_tests policy = record { tells = λ rule declared. refl; sources = tt; targets = tt }
 
 -- one more
 pub one_test : (policy : Parts) (done : List Given) (given : Given) (old new : List Test) → PassAlike policy done old → Gains policy given old new → PassAlike policy (done ++ given ∷ []) new
@@ -31,12 +34,18 @@ one_test policy done given old new alike gains = record {
       ap (list_all p) gains.added ∙ list_all-append p old (gains.test ∷ [])
       ∙ rw (alike.tells rule declared, gains.right.tells rule declared) refl
       ∙ sym (list_all-append q done (given ∷ []));
+  sources = rw (gains.added) (asked_more policy source_given sources_of done old given gains.test alike.sources gains.right.sources);
+  targets = rw (gains.added) (asked_more policy target_given targets_of done old given gains.test alike.targets gains.right.targets);
 }
 
 -- all of them
 pub query_is : (policy : Parts) (criteria : Criteria) (query : Query) → query.kinds ≡ criteria.kinds → PassAlike policy (in_word_order criteria) query.tests.items → IsQueryOf policy criteria query
 unfolding meets_rule
-query_is policy criteria query kinds alike = record { tells = λ rule declared. rw (kinds, alike.tells rule declared) refl }
+query_is policy criteria query kinds alike = record {
+  tells = λ rule declared. rw (kinds, alike.tells rule declared) refl;
+  sources = rw (source_in_order criteria) at alike.sources;
+  targets = rw (target_in_order criteria) at alike.targets;
+}
 
 -- ---- by numbers of rules
 

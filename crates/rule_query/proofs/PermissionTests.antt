@@ -98,4 +98,4 @@ parts_are symbols criterion test is class (parts.Range range) = sym (no_permissi
 parts_are symbols criterion test is class parts.Nothing = sym (no_permissions criterion.mode criterion.text)
 
 pub permissions_right : (policy : Parts) (criterion : Criterion) (test : PermissionTest) → IsPermissionTest policy.symbols criterion test → IsTestOf policy (record { aspect = aspects.Permissions; criterion = criterion }) (tests.Permissions test)
-permissions_right policy criterion test is = record { tells = λ rule declared. parts_are policy.symbols criterion test is rule.class rule.part }
+permissions_right policy criterion test is = record { tells = λ rule declared. parts_are policy.symbols criterion test is rule.class rule.part; sources = tt; targets = tt }

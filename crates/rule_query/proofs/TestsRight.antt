@@ -55,10 +55,10 @@ module _ (policy : Parts) (criterion : Criterion) (ends : Ends) (are : AreEnds p
   targets_right RangeTransition declared = are.types value declared
 
 pub source_right : (policy : Parts) (criterion : Criterion) (ends : Ends) → AreEnds policy criterion ends → IsTestOf policy (record { aspect = aspects.Source; criterion = criterion }) (tests.Source ends)
-source_right policy criterion ends are = record { tells = λ rule declared. sources_right policy criterion ends are rule.source rule.kind declared.source }
+source_right policy criterion ends are = record { tells = λ rule declared. sources_right policy criterion ends are rule.source rule.kind declared.source; sources = are.types; targets = tt }
 
 pub target_right : (policy : Parts) (criterion : Criterion) (ends : Ends) → AreEnds policy criterion ends → IsTestOf policy (record { aspect = aspects.Target; criterion = criterion }) (tests.Target ends)
-target_right policy criterion ends are = record { tells = λ rule declared. targets_right policy criterion ends are rule.target rule.kind declared.target }
+target_right policy criterion ends are = record { tells = λ rule declared. targets_right policy criterion ends are rule.target rule.kind declared.target; sources = tt; targets = are.types }
 
 -- ---- classes
 
@@ -78,7 +78,7 @@ module _ (symbols : Symbols) (criterion : Criterion) (set : List Node) (same : (
   classes_right RangeTransition = same class
 
 pub class_right : (policy : Parts) (criterion : Criterion) (set : List Node) → ((value : ℕ) → has_bit set value ≡ is_listed policy.symbols Classes criterion value) → IsTestOf policy (record { aspect = aspects.Class; criterion = criterion }) (tests.Class set)
-class_right policy criterion set same = record { tells = λ rule declared. classes_right policy.symbols criterion set same rule.class rule.kind }
+class_right policy criterion set same = record { tells = λ rule declared. classes_right policy.symbols criterion set same rule.class rule.kind; sources = tt; targets = tt }
 
 -- ---- numbers
 
@@ -90,7 +90,7 @@ numbers_are criterion test (parts.Range range) is = refl
 numbers_are criterion test parts.Nothing is = refl
 
 pub numbers_right : (policy : Parts) (criterion : Criterion) (test : NumberTest) → IsNumberTest criterion test → IsTestOf policy (record { aspect = aspects.Numbers; criterion = criterion }) (tests.Numbers test)
-numbers_right policy criterion test is = record { tells = λ rule declared. numbers_are criterion test rule.part is }
+numbers_right policy criterion test is = record { tells = λ rule declared. numbers_are criterion test rule.part is; sources = tt; targets = tt }
 
 -- ---- defaults
 
@@ -117,7 +117,7 @@ module _ (symbols : Symbols) (criterion : Criterion) (ends : Ends) (are : AreMea
   defaults_are kind parts.Nothing = refl
 
 pub default_right : (policy : Parts) (criterion : Criterion) (ends : Ends) → AreMeant policy.symbols criterion ends → IsTestOf policy (record { aspect = aspects.Default; criterion = criterion }) (tests.Default ends)
-default_right policy criterion ends are = record { tells = λ rule declared. defaults_are policy.symbols criterion ends are rule.kind rule.part }
+default_right policy criterion ends are = record { tells = λ rule declared. defaults_are policy.symbols criterion ends are rule.kind rule.part; sources = tt; targets = tt }
 
 -- ---- conditions
 
@@ -128,4 +128,4 @@ conditions_are policy criterion set same (Some condition) there = same condition
 
 pub condition_right : (policy : Parts) (criterion : Criterion) (set : List Node) → ((node : ℕ) → node < length policy.rules.conditionals → has_bit set node ≡ meets_node policy criterion node)
     → IsTestOf policy (record { aspect = aspects.Booleans; criterion = criterion }) (tests.Condition set)
-condition_right policy criterion set same = record { tells = λ rule declared. conditions_are policy criterion set same rule.condition declared.condition }
+condition_right policy criterion set same = record { tells = λ rule declared. conditions_are policy criterion set same rule.condition declared.condition; sources = tt; targets = tt }

@@ -2,6 +2,7 @@
 use Rattle.std.specs.Prelude.{◌≡◌, ℕ, Bool, true, false, not, ◌&&◌, ◌==◌, nat_eq, bit_and, bit_or, Option, Some, None, List, [], ◌∷◌, map, codes, slice_get, if◌then◌else◌}
 use Rattle.std.specs.Str.{bytes_eq}
 use Rattle.std.specs.List.{filter, fold, list_any, list_all}
+use Rattle.std.specs.Option.{option_or}
 use Rattle.pol_cursor.specs.References.{Placed}
 use Rattle.pol_cursor.specs.declared.TableKind.{TableKind}
 use Rattle.pol_cursor.specs.declared.TableKind.TheVariants.{Classes, Roles, Types}
@@ -171,3 +172,26 @@ rule_test symbols rule (tests.Condition nodes) = condition_test nodes rule.condi
 -- a rule is of a kind that is asked, and passes all tests
 abbrev pub passes : Symbols → Query → StoredRule → Bool
 passes symbols query rule = is_kind_asked query.kinds rule.kind && list_all (rule_test symbols rule) query.tests.items
+
+-- ---- the ends that are asked
+
+-- the types of a test of sources, and those of a test of targets
+abbrev pub sources_of : Test → Option (List Node)
+sources_of (tests.Source ends) = Some ends.types
+sources_of other = None
+
+abbrev pub targets_of : Test → Option (List Node)
+targets_of (tests.Target ends) = Some ends.types
+targets_of other = None
+
+-- what the first of some things has that has any
+abbrev pub first_of : {A B : Type 0} → (A → Option B) → List A → Option B
+first_of f [] = None
+first_of f (x ∷ xs) = option_or (f x) (first_of f xs)
+
+-- the types that may be sources by the tests of a query, and those that may be targets
+abbrev pub source_types : Query → Option (List Node)
+source_types query = first_of sources_of query.tests.items
+
+abbrev pub target_types : Query → Option (List Node)
+target_types query = first_of targets_of query.tests.items

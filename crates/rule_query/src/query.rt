@@ -1,15 +1,16 @@
-ghost use Rattle.std.specs.Prelude.{◌≡◌, ◌<◌, ◌-◌, IfOk, length, ℕ};
+ghost use Rattle.std.specs.Prelude.{◌≡◌, ◌<◌, ◌-◌, IfOk, length, option_map, ℕ};
 ghost use Rattle.std.specs.List.{find, list_all, range_with_len};
 ghost use Rattle.pol_rules.specs.StoredRules.{stored, stored_rules};
 ghost use Rattle.rule_order.specs.ListedOrder.{AreRules, in_rule_order};
 ghost use Rattle.rule_criteria.specs.declared.Criteria.{Criteria};
 ghost use Rattle.rule_query.specs.Meeting.{meets, meeting};
 ghost use Rattle.rule_query.specs.Resolved.{IsQueryOf};
-ghost use Rattle.rule_query.specs.Tests.{passes, rule_test};
+ghost use Rattle.rule_query.specs.Tests.{passes, rule_test, source_types, target_types};
 
 use crate::kinds::is_kind_asked;
 use crate::pushing::push_if;
 use crate::tests::Test;
+use pol_bitmap::Set;
 use pol_read::{Policy, Rule};
 use pol_symbols::Symbols;
 use rule_order::sort_by_rule_order;
@@ -48,6 +49,30 @@ impl Query {
         for n in from..policy.rule_count() {
             if self.meets(policy, n) {
                 return Some(n);
+            }
+        }
+        None
+    }
+
+    /// The types and attributes that may be the source of a rule, where a criterion asks for some. Takes no memory.
+    pub fn sources(&self) -> Option<&Set>
+        ensures { option_map (λ set. set.now) result ≡ source_types self.now }
+    {
+        for test in &self.tests {
+            if let Test::Source(ends) = test {
+                return Some(&ends.types);
+            }
+        }
+        None
+    }
+
+    /// The types and attributes that may be the target of a rule, where a criterion asks for some. Takes no memory.
+    pub fn targets(&self) -> Option<&Set>
+        ensures { option_map (λ set. set.now) result ≡ target_types self.now }
+    {
+        for test in &self.tests {
+            if let Test::Target(ends) = test {
+                return Some(&ends.types);
             }
         }
         None

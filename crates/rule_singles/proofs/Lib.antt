@@ -1,0 +1,5 @@
+pub mod SetCuts
+pub mod DeclaredMembers
+pub mod AskedSets
+pub mod Pools
+pub mod Made
