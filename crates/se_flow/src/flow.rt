@@ -16,6 +16,7 @@ use flow_search::FlowGraph;
 use perm_map::{MapError, PermMap};
 use pol_expand::type_map;
 use pol_read::Policy;
+use rule_text::RuleTexts;
 use se_items::WriteEnd;
 use se_outside::Sink;
 use se_status::{Status, status_written};
@@ -115,13 +116,12 @@ fn write_between<'q, S: Sink>(
         from: asks.from,
         limit: asks.limit,
     };
-    write_items(
-        alloc,
-        &graph,
-        &FlowTexts { graph: &graph },
-        &excluded,
-        ends,
-        window,
-        out,
-    )
+    let Ok(rules) = RuleTexts::new(alloc, graph.policy()) else {
+        return Err(WriteEnd::Memory);
+    };
+    let texts = FlowTexts {
+        graph: &graph,
+        rules: &rules,
+    };
+    write_items(alloc, &graph, &texts, &excluded, ends, window, out)
 }

@@ -7,19 +7,20 @@ ghost use Rattle.perm_map.specs.PermissionMap.{weights_of};
 ghost use Rattle.se_flow.specs.FlowTexts.{flow_text, rule_line};
 
 use flow_search::FlowGraph;
-use pol_read::Policy;
 use pol_texts::push_decimal;
-use rule_text::push_rule;
+use rule_text::RuleTexts;
 use se_walks::{EdgeTexts, push_ends};
 use std::alloc::AllocError;
 
-/// The texts of the flows of a graph.
+/// The texts of the flows of a graph, with those of the rules of its policy.
 #[derive(Drop)]
-pub struct FlowTexts<'g, 'p> {
+pub struct FlowTexts<'g, 'p, 'a> {
     pub graph: &'g FlowGraph<'p>,
+    pub rules: &'g RuleTexts<'p, 'a>,
+    ghost of_policy: { rules.now ≡ graph.now.policy },
 }
 
-impl EdgeTexts for FlowTexts<'_, '_> {
+impl EdgeTexts for FlowTexts<'_, '_, '_> {
     ghost use Rattle.se_flow.specs.FlowTexts.{flow_words};
 
     ghost words = { λ t. flow_words (weights_of t.graph.now.entries) t.graph.now.policy t.graph.now.least };
@@ -42,7 +43,7 @@ impl EdgeTexts for FlowTexts<'_, '_> {
         to: u32,
         buffer: &mut Vec<u8>,
     ) -> Result<(), AllocError> {
-        push_flow(self.graph, indent, from, to, buffer)
+        push_flow(self.graph, self.rules, indent, from, to, buffer)
     }
 }
 
@@ -50,34 +51,35 @@ impl EdgeTexts for FlowTexts<'_, '_> {
 #[tactic(auto, unfolding(crate::specs::FlowTexts::flow_text))]
 fn push_flow(
     graph: &FlowGraph<'_>,
+    texts: &RuleTexts<'_, '_>,
     indent: &[u8],
     from: u32,
     to: u32,
     buffer: &mut Vec<u8>,
 ) -> Result<(), AllocError>
+    requires { texts.now ≡ graph.now.policy }
     ensures { OnOk result (buffer.new.items ≡ buffer.old.items ++ flow_text (weights_of graph.now.entries) graph.now.policy graph.now.least indent.now from to) }
 {
     let rules = graph.rules(*buffer.allocator(), from, to)?;
-    let policy = graph.policy();
-    push_ends(policy.symbols(), from, to, buffer)?;
+    push_ends(graph.policy().symbols(), from, to, buffer)?;
     buffer.extend_from_slice(b", weight ")?;
     push_decimal(buffer, u64::from(graph.weight(&rules, from, to)))?;
     buffer.extend_from_slice(b"\n")?;
-    push_rules(policy, indent, &rules, buffer)
+    push_rules(texts, indent, &rules, buffer)
 }
 
 // Adds the lines of rules.
 fn push_rules(
-    policy: &Policy<'_>,
+    texts: &RuleTexts<'_, '_>,
     indent: &[u8],
     numbers: &[u32],
     buffer: &mut Vec<u8>,
 ) -> Result<(), AllocError>
-    requires { AreRules policy.now numbers.now }
-    ensures { OnOk result (buffer.new.items ≡ buffer.old.items ++ flat_map (rule_line policy.now indent.now) numbers.now) }
+    requires { AreRules texts.now numbers.now }
+    ensures { OnOk result (buffer.new.items ≡ buffer.old.items ++ flat_map (rule_line texts.now indent.now) numbers.now) }
 {
     for number in numbers {
-        push_line(policy, indent, *number, buffer)?;
+        push_line(texts, indent, *number, buffer)?;
     }
     Ok(())
 }
@@ -85,15 +87,15 @@ fn push_rules(
 // Adds the line of a rule.
 #[tactic(auto, unfolding(crate::specs::FlowTexts::rule_line))]
 fn push_line(
-    policy: &Policy<'_>,
+    texts: &RuleTexts<'_, '_>,
     indent: &[u8],
     number: u32,
     buffer: &mut Vec<u8>,
 ) -> Result<(), AllocError>
-    requires { number < length (stored_rules policy.now) }
-    ensures { OnOk result (buffer.new.items ≡ buffer.old.items ++ rule_line policy.now indent.now number) }
+    requires { number < length (stored_rules texts.now) }
+    ensures { OnOk result (buffer.new.items ≡ buffer.old.items ++ rule_line texts.now indent.now number) }
 {
     buffer.extend_from_slice(indent)?;
-    push_rule(policy, number, buffer)?;
+    texts.push_rule(number, buffer)?;
     buffer.extend_from_slice(b"\n")
 }

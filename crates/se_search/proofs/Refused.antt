@@ -1,5 +1,5 @@
 -- The first word that is refused.
-use Rattle.std.proofs.Common.{◌≡◌, ◌∙◌, ℕ, ◌≤◌, Bool, true, false, cond, Option, Some, None, List, [], ◌∷◌, ◌++◌, refl, sym, ap, arith}
+use Rattle.std.proofs.Common.{◌≡◌, ◌∙◌, ℕ, Bool, true, false, cond, Option, Some, None, List, [], ◌∷◌, ◌++◌, refl, ap}
 use Rattle.std.specs.List.{All, filter}
 use Rattle.std.proofs.lemmas.List.Elements.{All-cons}
 use Rattle.pol_file.specs.declared.Parts.{Parts}

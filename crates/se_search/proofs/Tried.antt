@@ -1,5 +1,5 @@
 -- From how criteria were looked up to what was asked of patterns, and to the answer.
-use Rattle.std.proofs.Common.{◌≡◌, ◌∙◌, ℕ, ◌≤◌, Bool, true, false, cond, Option, Some, None, List, [], ◌∷◌, ◌++◌, map, refl, sym, ap, subst, arith, append-nil, append_assoc}
+use Rattle.std.proofs.Common.{◌≡◌, ◌∙◌, ℕ, ◌≤◌, true, cond, Option, Some, None, List, [], ◌∷◌, ◌++◌, refl, sym, ap, subst, arith, append-nil, append_assoc}
 use Rattle.std.specs.List.{All, filter}
 use Rattle.std.proofs.lemmas.List.Elements.{All-cons, All-filter, filter-append}
 use Rattle.std.proofs.lemmas.List.{map-append}
@@ -11,15 +11,15 @@ use Rattle.rule_query.specs.declared.QueryError.TheVariants as errors
 use Rattle.rule_query.specs.declared.Refusal.{Refusal}
 use Rattle.rule_query.specs.declared.Refusal.TheVariants.{NotThere, NoNumber}
 use Rattle.rule_query.specs.Given.{Given, in_word_order}
-use Rattle.rule_query.specs.Refusals.{first_refused, is_pattern_word, pattern_texts}
-use Rattle.rule_query.specs.Resolving.{AllPass, AskedFor, AsksSome, Ends, HasBadPattern, IsRefused}
+use Rattle.rule_query.specs.Refusals.{first_refused, is_pattern_word}
+use Rattle.rule_query.specs.Resolving.{AllPass, AsksSome, Ends, HasBadPattern, IsRefused}
 use Rattle.se_items.proofs.Gains.{gains-none}
 use Rattle.se_status.specs.declared.Status.{Status}
 use Rattle.se_status.specs.declared.Status.TheVariants.{Done, Usage, ReadFault, TooLarge, BadPolicy, BadMap, UnknownName, BadNumber, BadPattern, WriteFault, Memory}
 use Rattle.se_status.specs.Meeting.{Concludes, IsWritten, done, refusal}
 use Rattle.se_words.specs.SearchRequest.{SearchAsks}
-use Rattle.se_search.specs.SearchAnswer.{lines_unless, search_answer, search_text, status_for}
-use Rattle.se_search.specs.SearchPatterns.{ComesAfter, IsRead, IsOfSearch, LastIsFaulty, TriedUntil, TriesPatterns, pattern_words, status_of}
+use Rattle.se_search.specs.SearchAnswer.{search_answer, search_text, status_for}
+use Rattle.se_search.specs.SearchPatterns.{ComesAfter, IsRead, IsOfSearch, TriedUntil, TriesPatterns, pattern_words, status_of}
 use Rattle.se_search.proofs.WordsRise.{Rises, after-rises, order-rises}
 use Rattle.se_search.proofs.Refused.{comes-to, passed-here, passed-read, passes-skip, pattern-passes, refused-here}
 

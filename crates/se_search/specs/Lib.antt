@@ -1,3 +1,4 @@
 pub mod SearchAnswer
 pub mod SearchPatterns
 pub mod RuleLines
+pub mod SingleLines

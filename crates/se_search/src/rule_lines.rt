@@ -4,32 +4,31 @@ ghost use Rattle.pol_rules.specs.StoredRules.{stored_rules};
 ghost use Rattle.rule_order.specs.ListedOrder.{AreRules};
 ghost use Rattle.se_search.specs.SearchAnswer.{rule_line};
 
-use pol_read::Policy;
-use rule_text::push_rule;
+use rule_text::RuleTexts;
 use se_items::Items;
 use std::alloc::AllocError;
 
 /// The lines of the stored rules of these numbers.
 #[derive(Drop)]
-pub struct RuleLines<'q, 'p> {
-    policy: &'q Policy<'p>,
+pub struct RuleLines<'q, 'p, 'a> {
+    texts: &'q RuleTexts<'p, 'a>,
     numbers: &'q [u32],
-    ghost are_rules: { AreRules policy.now numbers.now },
+    ghost are_rules: { AreRules texts.now numbers.now },
 }
 
-impl<'q, 'p> RuleLines<'q, 'p> {
+impl<'q, 'p, 'a> RuleLines<'q, 'p, 'a> {
     ghost use Rattle.se_search.specs.RuleLines.{lines_left};
 
     /// Those of the rules of a policy.
-    pub fn new(policy: &'q Policy<'p>, numbers: &'q [u32]) -> RuleLines<'q, 'p>
-        requires { AreRules policy.now numbers.now }
-        ensures { lines_left result ≡ map (rule_line policy.now) numbers.now }
+    pub fn new(texts: &'q RuleTexts<'p, 'a>, numbers: &'q [u32]) -> RuleLines<'q, 'p, 'a>
+        requires { AreRules texts.now numbers.now }
+        ensures { lines_left result ≡ map (rule_line texts.now) numbers.now }
     {
-        RuleLines { policy, numbers }
+        RuleLines { texts, numbers }
     }
 }
 
-impl Items for RuleLines<'_, '_> {
+impl Items for RuleLines<'_, '_, '_> {
     ghost use Rattle.se_search.specs.RuleLines.{lines_left};
 
     ghost left = { lines_left };
@@ -46,7 +45,7 @@ impl Items for RuleLines<'_, '_> {
         let Some((number, others)) = self.numbers.split_first() else {
             return Ok(false);
         };
-        push_line(self.policy, *number, buffer)?;
+        push_line(self.texts, *number, buffer)?;
         self.numbers = others;
         Ok(true)
     }
@@ -54,10 +53,10 @@ impl Items for RuleLines<'_, '_> {
 
 // Adds the line of the rule of a number.
 #[tactic(auto, unfolding(crate::specs::SearchAnswer::rule_line))]
-fn push_line(policy: &Policy<'_>, number: u32, buffer: &mut Vec<u8>) -> Result<(), AllocError>
-    requires { number < length (stored_rules policy.now) }
-    ensures { OnOk result (buffer.new.items ≡ buffer.old.items ++ rule_line policy.now number) }
+fn push_line(texts: &RuleTexts<'_, '_>, number: u32, buffer: &mut Vec<u8>) -> Result<(), AllocError>
+    requires { number < length (stored_rules texts.now) }
+    ensures { OnOk result (buffer.new.items ≡ buffer.old.items ++ rule_line texts.now number) }
 {
-    push_rule(policy, number, buffer)?;
+    texts.push_rule(number, buffer)?;
     Ok(buffer.push(b'\n')?)
 }

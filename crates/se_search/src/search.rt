@@ -1,22 +1,27 @@
 // The answer of sesearch about a policy.
-ghost use Rattle.std.specs.Prelude.{◌≡◌};
+ghost use Rattle.std.specs.Prelude.{◌≡◌, IfOk, map};
 ghost use Rattle.rule_criteria.specs.declared.Criteria.{Criteria};
 ghost use Rattle.rule_query.specs.Resolved.{IsQueryOf};
 ghost use Rattle.rule_query.specs.Resolving.{Resolves};
 ghost use Rattle.se_status.specs.Meeting.{Concludes, IsWritten, done};
 ghost use Rattle.se_words.specs.SearchRequest.{search_view};
-ghost use Rattle.se_search.specs.SearchAnswer.{search_answer, search_text};
+ghost use Rattle.se_items.specs.Writing.{Sends};
+ghost use Rattle.rule_singles.specs.Singles.{ends_of_rule};
+ghost use Rattle.se_search.specs.SearchAnswer.{found_rules, rules_text, search_answer, search_text, singles_text};
 ghost use Rattle.se_search.specs.SearchPatterns.{IsOfSearch, TriesPatterns, pattern_words, status_of};
 
 use crate::rule_lines::RuleLines;
+use crate::single_lines::SingleLines;
 use pol_expand::type_map;
 use pol_read::Policy;
 use rule_query::{Query, QueryError, resolve};
+use rule_singles::SingleRules;
+use rule_text::RuleTexts;
 use se_items::{WriteEnd, listed, write_page};
 use se_outside::{Patterns, Sink};
 use se_status::{Status, status_written};
 use se_words::SearchRequest;
-use std::alloc::Global;
+use std::alloc::{AllocError, Global};
 
 /// Answers what sesearch is asked of a policy.
 pub fn answer_search<P: Patterns, S: Sink>(
@@ -33,7 +38,7 @@ pub fn answer_search<P: Patterns, S: Sink>(
         (P.asked patterns.old) (P.asked patterns.new) (P.refusals patterns.old) (P.refusals patterns.new) result }
 {
     match look_up(alloc, policy, asks, patterns) {
-        Ok(query) => write_rules(alloc, policy, asks, &query, out),
+        Ok(query) => write_found(alloc, policy, asks, &query, out),
         Err(error) => status_of(error),
     }
 }
@@ -66,8 +71,8 @@ fn look_up<P: Patterns>(
     resolve(alloc, &asks.criteria, policy, &types, patterns)
 }
 
-// Writes the lines of the rules that meet a query.
-fn write_rules<S: Sink>(
+// Writes the lines of the rules that meet a query, or of those between single types.
+fn write_found<S: Sink>(
     alloc: Global,
     policy: &Policy<'_>,
     asks: &SearchRequest<'_>,
@@ -79,9 +84,70 @@ fn write_rules<S: Sink>(
         (S.written out.old) (S.written out.new) (S.faults out.old) (S.faults out.new) result }
     ensures plain { IsWritten result }
 {
+    if asks.singles {
+        status_written(write_singles(alloc, policy, asks, query, out))
+    } else {
+        status_written(write_rules(alloc, policy, asks, query, out))
+    }
+}
+
+// Writes the lines of the rules that meet a query.
+#[tactic(auto, using(se_items::proofs::Wrotes::nothing_sent))]
+fn write_rules<S: Sink>(
+    alloc: Global,
+    policy: &Policy<'_>,
+    asks: &SearchRequest<'_>,
+    query: &Query,
+    out: &mut S,
+) -> Result<(), WriteEnd>
+    requires { IsQueryOf policy.now asks.now.criteria query.now }
+    ensures { Sends (S.written out.old) (S.written out.new) (S.faults out.old) (S.faults out.new)
+        (rules_text (search_view asks.now) policy.now) result }
+{
     let Ok(numbers) = query.sorted(alloc, policy) else {
-        return status_written(Err(WriteEnd::Memory));
+        return Err(WriteEnd::Memory);
     };
-    let mut lines = RuleLines::new(policy, listed(&numbers));
-    status_written(write_page(alloc, &mut lines, asks.from, asks.limit, out))
+    let Ok(texts) = RuleTexts::new(alloc, policy) else {
+        return Err(WriteEnd::Memory);
+    };
+    let mut lines = RuleLines::new(&texts, listed(&numbers));
+    write_page(alloc, &mut lines, asks.from, asks.limit, out)
+}
+
+// Writes the lines of the rules between single types.
+#[tactic(auto, using(se_items::proofs::Wrotes::nothing_sent))]
+fn write_singles<S: Sink>(
+    alloc: Global,
+    policy: &Policy<'_>,
+    asks: &SearchRequest<'_>,
+    query: &Query,
+    out: &mut S,
+) -> Result<(), WriteEnd>
+    requires { IsQueryOf policy.now asks.now.criteria query.now }
+    ensures { Sends (S.written out.old) (S.written out.new) (S.faults out.old) (S.faults out.new)
+        (singles_text (search_view asks.now) policy.now) result }
+{
+    let Ok(rules) = single_rules(alloc, policy, asks, query) else {
+        return Err(WriteEnd::Memory);
+    };
+    let Ok(texts) = RuleTexts::new(alloc, policy) else {
+        return Err(WriteEnd::Memory);
+    };
+    let mut lines = SingleLines::new(&texts, rules.places(), asks.from);
+    write_page(alloc, &mut lines, 0, asks.limit, out)
+}
+
+// The rules that meet a query, in the order in which rules are listed, each with the types that are listed of its ends.
+fn single_rules(
+    alloc: Global,
+    policy: &Policy<'_>,
+    asks: &SearchRequest<'_>,
+    query: &Query,
+) -> Result<SingleRules, AllocError>
+    requires { IsQueryOf policy.now asks.now.criteria query.now }
+    ensures { IfOk result (λ rules. rules ≡ map (ends_of_rule policy.now asks.now.criteria) (found_rules (search_view asks.now) policy.now)) }
+{
+    let numbers = query.sorted(alloc, policy)?;
+    let types = type_map(alloc, policy)?;
+    SingleRules::of(alloc, policy, &types, &asks.criteria, query, &numbers)
 }
