@@ -2,7 +2,7 @@
 use Rattle.std.specs.Prelude.{ℕ, List, [], ◌∷◌, ◌++◌, codes, flat_map}
 use Prim.Native.String.{String}
 use Rattle.se_help.specs.declared.topic.Topic.{Topic}
-use Rattle.se_help.specs.declared.topic.Topic.TheVariants.{All, Info, Search, Flow, Version}
+use Rattle.se_help.specs.declared.topic.Topic.TheVariants.{All, Info, Search, Dom, Flow, Version}
 
 -- lines as they are written, each with a line feed
 abbrev pub lines_text : List String → List ℕ
@@ -20,6 +20,7 @@ general_usage = lines_text
     ∷ "Tools:"
     ∷ "  seinfo         lists what a policy declares, or counts it"
     ∷ "  sesearch       searches the rules of a policy"
+    ∷ "  sedta          finds domain transitions"
     ∷ "  seinfoflow     finds information flows, by a permission map"
     ∷ ""
     ∷ "Options, each of them alone or behind a tool:"
@@ -156,6 +157,7 @@ search_usage = lines_text
     ∷ "  -eb                    exactly these booleans; not with -rb"
     ∷ ""
     ∷ "Output:"
+    ∷ "      --singles          a line for each source type with each target type"
     ∷ "  -l N                   at most N lines"
     ∷ "      --from N           leave out the first N lines"
     ∷ ""
@@ -169,6 +171,43 @@ search_usage = lines_text
     ∷ "Examples:"
     ∷ "  setools sesearch policy.33 -A -t shadow_t -c file -p write"
     ∷ "  setools sesearch policy.33 -A -b httpd_can_network_connect"
+    ∷ [])
+
+-- the usage of sedta
+unfoldable pub dom_usage : List ℕ
+dom_usage = lines_text
+    ("Usage: setools sedta -p POLICY -s TYPE [options] [EXCLUDED]..."
+    ∷ "       setools sedta -p POLICY -s TYPE -t TYPE -S [options] [EXCLUDED]..."
+    ∷ ""
+    ∷ "Finds the domain transitions of a compiled SELinux policy: those from a type,"
+    ∷ "those into it, or all shortest paths to another type, with their rules."
+    ∷ ""
+    ∷ "Policy:"
+    ∷ "  -p, --policy POLICY    the file of the policy"
+    ∷ ""
+    ∷ "Types, of which none is an attribute:"
+    ∷ "  -s, --source TYPE      the source"
+    ∷ "  -t, --target TYPE      the target; needs -S"
+    ∷ "  EXCLUDED               at this type no step begins or ends"
+    ∷ ""
+    ∷ "Search:"
+    ∷ "  -S, --shortest_path    all shortest paths to the target; needs -t"
+    ∷ "  -r, --reverse          the transitions into the source; not with -t"
+    ∷ ""
+    ∷ "Output:"
+    ∷ "  -l, --limit_trans N    at most N transitions or paths"
+    ∷ "      --from N           leave out the first N transitions or paths"
+    ∷ ""
+    ∷ "Exit codes:"
+    ∷ "  0  the transitions or paths were written, also where there are none"
+    ∷ "  1  the policy is refused, or a type is unknown or an attribute"
+    ∷ "  2  the words do not fit"
+    ∷ "  3  the policy could not be read, or the output not written"
+    ∷ "  5  out of memory"
+    ∷ ""
+    ∷ "Examples:"
+    ∷ "  setools sedta -p policy.33 -s sshd_t -r"
+    ∷ "  setools sedta -p policy.33 -s user_t -t sysadm_t -S"
     ∷ [])
 
 -- the usage of seinfoflow
@@ -224,5 +263,6 @@ abbrev pub topic_text : Topic → List ℕ
 topic_text All = general_usage
 topic_text Info = info_usage
 topic_text Search = search_usage
+topic_text Dom = dom_usage
 topic_text Flow = flow_usage
 topic_text Version = versions

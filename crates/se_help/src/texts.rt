@@ -1,6 +1,6 @@
 // The texts of the topics, as they are written.
 ghost use Rattle.std.specs.Prelude.{◌≡◌};
-ghost use Rattle.se_help.specs.Texts.{flow_usage, general_usage, info_usage, search_usage, topic_text, versions};
+ghost use Rattle.se_help.specs.Texts.{dom_usage, flow_usage, general_usage, info_usage, search_usage, topic_text, versions};
 
 use crate::Topic;
 
@@ -12,6 +12,7 @@ pub fn text_of(topic: Topic) -> &'static [u8]
         Topic::All => general_usage(),
         Topic::Info => info_usage(),
         Topic::Search => search_usage(),
+        Topic::Dom => dom_usage(),
         Topic::Flow => flow_usage(),
         Topic::Version => versions(),
     }
@@ -32,6 +33,7 @@ Answers questions about a compiled SELinux policy.
 Tools:
   seinfo         lists what a policy declares, or counts it
   sesearch       searches the rules of a policy
+  sedta          finds domain transitions
   seinfoflow     finds information flows, by a permission map
 
 Options, each of them alone or behind a tool:
@@ -176,6 +178,7 @@ How they are compared:
   -eb                    exactly these booleans; not with -rb
 
 Output:
+      --singles          a line for each source type with each target type
   -l N                   at most N lines
       --from N           leave out the first N lines
 
@@ -189,6 +192,47 @@ Exit codes:
 Examples:
   setools sesearch policy.33 -A -t shadow_t -c file -p write
   setools sesearch policy.33 -A -b httpd_can_network_connect
+"
+}
+
+// How `sedta` is used.
+#[tactic(auto, unfolding(crate::specs::Texts::dom_usage))]
+fn dom_usage() -> &'static [u8]
+    ensures { result.now ≡ dom_usage }
+{
+    b"\
+Usage: setools sedta -p POLICY -s TYPE [options] [EXCLUDED]...
+       setools sedta -p POLICY -s TYPE -t TYPE -S [options] [EXCLUDED]...
+
+Finds the domain transitions of a compiled SELinux policy: those from a type,
+those into it, or all shortest paths to another type, with their rules.
+
+Policy:
+  -p, --policy POLICY    the file of the policy
+
+Types, of which none is an attribute:
+  -s, --source TYPE      the source
+  -t, --target TYPE      the target; needs -S
+  EXCLUDED               at this type no step begins or ends
+
+Search:
+  -S, --shortest_path    all shortest paths to the target; needs -t
+  -r, --reverse          the transitions into the source; not with -t
+
+Output:
+  -l, --limit_trans N    at most N transitions or paths
+      --from N           leave out the first N transitions or paths
+
+Exit codes:
+  0  the transitions or paths were written, also where there are none
+  1  the policy is refused, or a type is unknown or an attribute
+  2  the words do not fit
+  3  the policy could not be read, or the output not written
+  5  out of memory
+
+Examples:
+  setools sedta -p policy.33 -s sshd_t -r
+  setools sedta -p policy.33 -s user_t -t sysadm_t -S
 "
 }
 

@@ -9,6 +9,8 @@ pub enum Topic {
     Info,
     /// How `sesearch` is used.
     Search,
+    /// How `sedta` is used.
+    Dom,
     /// How `seinfoflow` is used.
     Flow,
     /// The version of the program, and those of the policies that it reads.

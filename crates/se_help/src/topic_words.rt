@@ -14,6 +14,7 @@ pub fn topic_of(words: &Words) -> Option<Topic>
         [word] => asked_by(word, Topic::All),
         [tool, word] if tool.is("seinfo") => asked_by(word, Topic::Info),
         [tool, word] if tool.is("sesearch") => asked_by(word, Topic::Search),
+        [tool, word] if tool.is("sedta") => asked_by(word, Topic::Dom),
         [tool, word] if tool.is("seinfoflow") => asked_by(word, Topic::Flow),
         _ => None,
     }

@@ -8,11 +8,13 @@ use Rattle.se_outside.specs.declared.Slot.{Slot}
 use Rattle.se_outside.specs.declared.Slot.TheVariants.{Policy, Map}
 use Rattle.se_words.specs.InfoRequest.{InfoAsks}
 use Rattle.se_words.specs.SearchRequest.{SearchAsks}
+use Rattle.se_words.specs.DomRequest.{DomAsks}
 use Rattle.se_words.specs.FlowRequest.{FlowAsks}
-use Rattle.se_words.specs.Request.{Asks, Info, Search, Flow}
+use Rattle.se_words.specs.Request.{Asks, Info, Search, Dom, Flow}
 use Rattle.se_items.proofs.Gains.{gains-none}
 use Rattle.se_search.specs.SearchAnswer.{search_answer}
 use Rattle.se_search.specs.SearchPatterns.{IsOfSearch, TriedUntil, TriesPatterns, pattern_words}
+use Rattle.se_dom.specs.DomAnswer.{dom_answer}
 use Rattle.se_flow.specs.FlowAnswer.{IsOfMap, flow_answer}
 use Rattle.se_status.specs.declared.Status.{Status}
 use Rattle.se_status.specs.declared.Status.TheVariants.{Done, Usage, ReadFault, TooLarge, BadPolicy, BadMap, UnknownName, BadNumber, BadPattern, WriteFault, Memory}
@@ -64,6 +66,19 @@ pub info-settles : (asks : InfoAsks) (policy : Parts) (world : World) (files : S
 info-settles asks policy world files asked past old new before now status concludes plain = record {
   meets = λ contents tells. concludes.meets;
   about = plain-settled (Info asks) status plain;
+  silent = concludes.silent;
+  files = no-map world status files (plain-no-fault status Map plain);
+  mapped = λ e. refl;
+  patterns = untried [] asked past status (plain-until status past plain);
+  wrote = concludes.wrote;
+  later = concludes.later;
+}
+
+pub dom-settles : (asks : DomAsks) (policy : Parts) (world : World) (files : Slot → SlotState) (asked : Option (List (List ℕ))) (past : ℕ) (old new : Option (List ℕ)) (before now : ℕ) (status : Status)
+    → Concludes (dom_answer asks policy) old new before now status → IsPlain status → Settles (Dom asks) (Ok policy) world files files asked asked past past old new before now status
+dom-settles asks policy world files asked past old new before now status concludes plain = record {
+  meets = λ contents tells. concludes.meets;
+  about = plain-settled (Dom asks) status plain;
   silent = concludes.silent;
   files = no-map world status files (plain-no-fault status Map plain);
   mapped = λ e. refl;

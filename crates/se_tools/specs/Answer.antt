@@ -6,9 +6,10 @@ use Rattle.pol_file.specs.declared.Parts.{Parts}
 use Rattle.rule_query.specs.Given.{Given}
 use Rattle.se_outside.specs.declared.Slot.{Slot}
 use Rattle.se_outside.specs.declared.Slot.TheVariants.{Policy, Map}
-use Rattle.se_words.specs.Request.{Asks, Info, Search, Flow, policy_of}
+use Rattle.se_words.specs.Request.{Asks, Info, Search, Dom, Flow, policy_of}
 use Rattle.se_search.specs.SearchAnswer.{search_answer}
 use Rattle.se_search.specs.SearchPatterns.{pattern_words}
+use Rattle.se_dom.specs.DomAnswer.{dom_answer}
 use Rattle.se_flow.specs.FlowAnswer.{flow_answer}
 use Rattle.se_status.specs.declared.Status.TheVariants.{Usage, ReadFault, TooLarge, BadPolicy}
 use Rattle.se_status.specs.Meeting.{Answer, refusal}
@@ -32,6 +33,7 @@ by_file slot (Some bytes) answer = if nat_lt (file_limit slot) (length bytes) th
 abbrev pub answer_about : Asks → Parts → Contents → Answer
 answer_about (Info asks) policy contents = info_answer asks policy
 answer_about (Search asks) policy contents = search_answer asks policy
+answer_about (Dom asks) policy contents = dom_answer asks policy
 answer_about (Flow asks) policy contents = by_file Map (contents Map) (flow_answer asks policy)
 
 -- the answer about a policy, if it was accepted

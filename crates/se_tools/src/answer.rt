@@ -16,6 +16,7 @@ use crate::info::answer_info;
 use crate::reading::{ReadEnd, read_whole};
 use pol_cursor::ReadError;
 use pol_read::{Policy, read};
+use se_dom::answer_dom;
 use se_flow::answer_flow;
 use se_help::{topic_of, write_topic};
 use se_outside::{Files, Patterns, Sink, Slot};
@@ -146,6 +147,7 @@ fn answer_policy<F: Files, P: Patterns, S: Sink>(
     match request {
         Request::Info(asks) => answer_info(alloc, policy, asks, out),
         Request::Search(asks) => answer_search(alloc, policy, asks, patterns, out),
+        Request::Dom(asks) => answer_dom(alloc, policy, asks, out),
         Request::Flow(asks) => answer_mapped(alloc, policy, asks, files, out),
     }
 }

@@ -1,6 +1,7 @@
 -- Lists and records that are equal part by part.
 use Rattle.std.proofs.Common.{◌≡◌, ◌∷◌, ℕ, List, Bool, Option, refl}
 use Rattle.se_options.specs.Options.{Named}
+use Rattle.se_words.specs.DomRequest.{DomAsks}
 use Rattle.se_words.specs.FlowRequest.{FlowAsks}
 use Rattle.rule_criteria.specs.declared.criteria.Criteria.{Criteria}
 use Rattle.rule_criteria.specs.declared.criteria.Criterion.{Criterion}
@@ -16,6 +17,15 @@ pub same-criteria : {kinds kinds' : List Bool} {source source' target target' cl
     → kinds ≡ kinds' → source ≡ source' → target ≡ target' → class ≡ class' → perms ≡ perms' → xperms ≡ xperms' → default ≡ default' → bools ≡ bools'
     → criteria kinds source target class perms xperms default bools ≡ criteria kinds' source' target' class' perms' xperms' default' bools'
 same-criteria a b c d e f g h = rw (a, b, c, d, e, f, g, h) refl
+
+abbrev pub dom : Named → Named → Option Named → Bool → Bool → List Named → ℕ → Option ℕ → DomAsks
+dom policy source target shortest reverse excluded from limit =
+    record { policy = policy; source = source; target = target; shortest = shortest; reverse = reverse; excluded = excluded; from = from; limit = limit }
+
+pub same-dom : (policy source : Named) {target target' : Option Named} {shortest shortest' reverse reverse' : Bool} {excluded excluded' : List Named} {from from' : ℕ} {limit limit' : Option ℕ}
+    → target ≡ target' → shortest ≡ shortest' → reverse ≡ reverse' → excluded ≡ excluded' → from ≡ from' → limit ≡ limit'
+    → dom policy source target shortest reverse excluded from limit ≡ dom policy source target' shortest' reverse' excluded' from' limit'
+same-dom policy source a b c d e f = rw (a, b, c, d, e, f) refl
 
 abbrev pub flow : Named → Named → Named → Option Named → Bool → ℕ → Bool → List Named → ℕ → Option ℕ → FlowAsks
 flow policy map_file source target shortest least reverse excluded from limit = record {

@@ -3,6 +3,7 @@ pub mod Window
 pub mod InfoRequest
 pub mod SearchRequest
 pub mod WalkWords
+pub mod DomRequest
 pub mod FlowRequest
 pub mod Request
 pub mod ProcessWords

@@ -1,5 +1,5 @@
--- What sesearch is asked. Its options are those of the manual page sesearch(1) of SETools, with `-l` and `--from`, which are this
--- project's own.
+-- What sesearch is asked. Its options are those of the manual page sesearch(1) of SETools, with `--singles`, `-l` and
+-- `--from`, which are this project's own.
 use Rattle.std.specs.Prelude.{ℕ, List, [], ◌∷◌, ◌++◌, codes, option_map, Bool, true, false, not, ◌&&◌, ◌||◌, Option, Some, None}
 use Rattle.std.specs.List.{list_any}
 use Rattle.se_options.specs.Options.{Row, Named, Group, Text, CommaList, CommaListUnless, switch, valued, named_view}
@@ -34,13 +34,17 @@ mode_options =
     switch None (codes "-rd") ∷ switch None (codes "-rb") ∷ switch None (codes "-ep") ∷ switch None (codes "-ex") ∷ switch None (codes "-eb") ∷
     switch None (codes "-Sp") ∷ []
 
--- the option that limits how many rules are listed
+-- the option that asks for the rules between single types
+abbrev pub singles_option : Row
+singles_option = switch None (codes "--singles")
+
+-- the option that limits how many lines are listed
 abbrev pub limit_option : Row
 limit_option = valued None (codes "-l") limit_kind
 
 -- the options of sesearch
 unfoldable pub search_options : List Row
-search_options = kind_options ++ criterion_options ++ mode_options ++ limit_option ∷ from_option ∷ []
+search_options = kind_options ++ criterion_options ++ mode_options ++ singles_option ∷ limit_option ∷ from_option ∷ []
 
 -- the allow rules of an option are asked for, by it or by `-A`
 abbrev pub asks_for_allow : List ℕ → List Group → Bool
@@ -122,11 +126,12 @@ criteria_in groups = record {
   bools = boolean_criterion groups;
 }
 
--- what sesearch is asked: of the policy of that name, the rules that meet the criteria; those after the first so many, and at most so
--- many of them
+-- what sesearch is asked: of the policy of that name, the rules that meet the criteria, each between single types where that is asked;
+-- the lines after the first so many, and at most so many of them
 pub record SearchAsks : Type 0 where
   pub policy : Named
   pub criteria : Criteria
+  pub singles : Bool
   pub from : ℕ
   pub limit : Option ℕ
 
@@ -141,7 +146,7 @@ modes_agree groups =
 
 -- what is asked of a policy
 abbrev pub search_asks : Named → List Group → SearchAsks
-search_asks policy groups = record { policy = policy; criteria = criteria_in groups; from = from_in groups; limit = limit_in limit_option.name groups }
+search_asks policy groups = record { policy = policy; criteria = criteria_in groups; singles = is_given (codes "--singles") groups; from = from_in groups; limit = limit_in limit_option.name groups }
 
 -- that, if the words name one, ask for rules, and agree
 abbrev pub search_by : Option Named → Bool → List Group → Option SearchAsks
@@ -154,4 +159,4 @@ search_in groups = search_by (first_positional groups) (asks_for_rules groups &&
 
 -- what a request of the code says
 abbrev pub search_view : SearchRequest → SearchAsks
-search_view asks = record { policy = named_view asks.policy; criteria = asks.criteria; from = asks.from; limit = asks.limit }
+search_view asks = record { policy = named_view asks.policy; criteria = asks.criteria; singles = asks.singles; from = asks.from; limit = asks.limit }

@@ -2,6 +2,8 @@
 #![tactic(auto)]
 
 mod asked;
+mod dom_request;
+mod dom_words;
 mod flow_request;
 mod flow_words;
 mod info_request;
@@ -15,6 +17,7 @@ mod walk_words;
 mod window;
 mod words_error;
 
+pub use dom_request::DomRequest;
 pub use flow_request::FlowRequest;
 pub use info_request::{InfoRequest, Wanted};
 pub use process_words::words_of_bytes;

@@ -1,10 +1,11 @@
 // What the words of a command line ask for.
 ghost use Rattle.se_words.specs.Request.{Understands, request_of};
 
+use crate::dom_words::dom_request;
 use crate::flow_words::flow_request;
 use crate::info_words::info_request;
 use crate::search_words::search_request;
-use crate::{FlowRequest, InfoRequest, SearchRequest, WordsError};
+use crate::{DomRequest, FlowRequest, InfoRequest, SearchRequest, WordsError};
 use se_options::Words;
 use std::alloc::Global;
 
@@ -15,6 +16,8 @@ pub enum Request<'w> {
     Info(InfoRequest<'w>),
     /// `sesearch`
     Search(SearchRequest<'w>),
+    /// `sedta`
+    Dom(DomRequest<'w>),
     /// `seinfoflow`
     Flow(FlowRequest<'w>),
 }
@@ -30,6 +33,7 @@ impl<'w> Request<'w> {
         match self {
             Request::Info(asks) => asks.policy.text,
             Request::Search(asks) => asks.policy.text,
+            Request::Dom(asks) => asks.policy.text,
             Request::Flow(asks) => asks.policy.text,
         }
     }
@@ -44,6 +48,7 @@ pub fn request_of(alloc: Global, words: &Words) -> Result<Request<'_>, WordsErro
         [tool, rest @ ..] if tool.is("sesearch") => {
             Ok(Request::Search(search_request(alloc, rest)?))
         }
+        [tool, rest @ ..] if tool.is("sedta") => Ok(Request::Dom(dom_request(alloc, rest)?)),
         [tool, rest @ ..] if tool.is("seinfoflow") => Ok(Request::Flow(flow_request(alloc, rest)?)),
         _ => Err(WordsError::Usage(1)),
     }

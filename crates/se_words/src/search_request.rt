@@ -9,8 +9,10 @@ pub struct SearchRequest<'w> {
     pub policy: Named<'w>,
     /// At least one kind of rules is asked for.
     pub criteria: Criteria,
-    /// So many rules are left out first.
+    /// Whether each rule is listed between single types.
+    pub singles: bool,
+    /// So many lines are left out first.
     pub from: u64,
-    /// At most so many rules, 1 or more.
+    /// At most so many lines, 1 or more.
     pub limit: Option<u64>,
 }

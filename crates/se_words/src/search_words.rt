@@ -39,6 +39,7 @@ fn search_asks<'w>(
     Ok(SearchRequest {
         policy,
         criteria: criteria_in(alloc, groups)?,
+        singles: is_given(groups, "--singles"),
         from: from_in(groups),
         limit: limit_in(groups, "-l"),
     })
@@ -61,7 +62,7 @@ fn modes_agree(groups: &[Group<'_>]) -> bool
 
 // The options of sesearch.
 #[tactic(auto, unfolding(crate::specs::SearchRequest::search_options))]
-fn search_options() -> [OptionRow; 33]
+fn search_options() -> [OptionRow; 34]
     ensures { map row_view result ≡ search_options }
 {
     [
@@ -96,6 +97,7 @@ fn search_options() -> [OptionRow; 33]
         switch(None, "-ex"),
         switch(None, "-eb"),
         switch(None, "-Sp"),
+        switch(None, "--singles"),
         valued(None, "-l", limit_kind()),
         from_option(),
     ]

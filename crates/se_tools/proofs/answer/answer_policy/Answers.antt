@@ -1,7 +1,8 @@
+use Rattle.se_words.specs.DomRequest.{dom_view}
 use Rattle.se_words.specs.FlowRequest.{flow_view}
 use Rattle.se_words.specs.InfoRequest.{info_view}
 use Rattle.se_words.specs.SearchRequest.{search_view}
-use Rattle.se_tools.proofs.Settled.{flow-settles, info-settles, search-settles}
+use Rattle.se_tools.proofs.Settled.{dom-settles, flow-settles, info-settles, search-settles}
 use Rattle.se_tools.proofs.answer.answer_policy.Goals as goal
 
 pub returns-in-Info : goal.returns-in-Info
@@ -10,6 +11,9 @@ returns-in-Info g c = rw c.in-Info.is (info-settles (info_view c.in-Info.asks) c
 pub returns-in-Search : goal.returns-in-Search
 returns-in-Search g c =
     rw c.in-Search.is (search-settles (search_view c.in-Search.asks) c.args.policy.now _ _ _ _ _ _ _ _ _ _ _ c.answer_search.ensures.answers c.answer_search.ensures.about c.answer_search.ensures.patterns)
+
+pub returns-in-Dom : goal.returns-in-Dom
+returns-in-Dom g c = rw c.in-Dom.is (dom-settles (dom_view c.in-Dom.asks) c.args.policy.now _ _ _ _ _ _ _ _ _ c.answer_dom.ensures.answers c.answer_dom.ensures.plain)
 
 pub returns-in-Flow : goal.returns-in-Flow
 returns-in-Flow g c = rw c.in-Flow.is (flow-settles (flow_view c.in-Flow.asks) c.args.policy.now _ _ _ _ _ _ _ _ _ _ c.answer_mapped.ensures)

@@ -13,4 +13,4 @@ returns c =
     first-rest c.valued-4.ensures (first-rest c.valued-5.ensures (first-rest c.valued-6.ensures (first-rest c.valued-7.ensures (
     first-rest c.switch-14.ensures (first-rest c.switch-15.ensures (first-rest c.switch-16.ensures (first-rest c.switch-17.ensures (
     first-rest c.switch-18.ensures (first-rest c.switch-19.ensures (first-rest c.switch-20.ensures (first-rest c.switch-21.ensures (
-    first-rest c.switch-22.ensures (first-rest c.switch-23.ensures (first-rest c.switch-24.ensures (first-rest (rw (← c.limit_kind.ensures) c.valued-8.ensures) (first-rest c.from_option.ensures refl))))))))))))))))))))))))))))))))
+    first-rest c.switch-22.ensures (first-rest c.switch-23.ensures (first-rest c.switch-24.ensures (first-rest c.switch-25.ensures (first-rest (rw (← c.limit_kind.ensures) c.valued-8.ensures) (first-rest c.from_option.ensures refl)))))))))))))))))))))))))))))))))

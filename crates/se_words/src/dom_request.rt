@@ -1,0 +1,22 @@
+// What sedta is asked.
+use se_options::Named;
+
+/// What `sedta` is asked of a policy: the transitions of a source, or all shortest walks of transitions from it to a target.
+#[derive(Debug, Drop)]
+pub struct DomRequest<'w> {
+    /// The policy's name.
+    pub policy: Named<'w>,
+    pub source: Named<'w>,
+    /// With [`DomRequest::shortest`], and without [`DomRequest::reverse`].
+    pub target: Option<Named<'w>>,
+    /// All shortest walks to the target.
+    pub shortest: bool,
+    /// The transitions into the source, in place of those out of it.
+    pub reverse: bool,
+    /// The types at which no transition begins or ends, in the order of words.
+    pub excluded: Vec<Named<'w>>,
+    /// So many items are left out first.
+    pub from: u64,
+    /// At most so many items, 1 or more.
+    pub limit: Option<u64>,
+}
