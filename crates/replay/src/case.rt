@@ -3,6 +3,7 @@ ghost use Rattle.std.specs.Prelude.{◌<◌};
 
 use crate::answer::Answer;
 use crate::edit::Edit;
+use crate::sweep::Sweep;
 use se_words::Words;
 use std::alloc::{AllocError, Global};
 
@@ -25,6 +26,16 @@ pub struct Orders {
     ghost takes: { 0 < most },
 }
 
+/// What all that stands outside of a run is told.
+#[derive(Clone, Copy, Debug, PartialEq, Eq)]
+pub struct Outside {
+    pub files: Orders,
+    /// The pattern that is refused, counted from 1, or 0 where none is.
+    pub patterns: u64,
+    pub out: Orders,
+    pub err: Orders,
+}
+
 /// A run of the tools, and the answer that it has to give.
 #[derive(Drop)]
 pub struct Case {
@@ -37,11 +48,9 @@ pub struct Case {
     pub policy: Option<Source>,
     /// The permission map, where the files have one. Its name is `map`.
     pub map: Option<Source>,
-    pub files: Orders,
-    /// The pattern that is refused, counted from 1, or 0 where none is.
-    pub patterns: u64,
-    pub out: Orders,
-    pub err: Orders,
+    pub outside: Outside,
+    /// What goes wrong in turn, where the case is run many times. The answer is then that of its last run.
+    pub sweep: Option<Sweep>,
     pub wanted: Answer,
 }
 
@@ -52,6 +61,37 @@ impl Orders {
             fail: 0,
             most: usize::MAX,
             room: 1_048_576,
+        }
+    }
+
+    /// With that call failing.
+    pub fn failing(self, call: u64) -> Orders {
+        let Orders {
+            fail: _,
+            most,
+            room,
+        } = self;
+        Orders {
+            fail: call,
+            most,
+            room,
+        }
+    }
+
+    /// How many calls at least move so many bytes.
+    pub fn turns(&self, length: usize) -> u64 {
+        length.div_ceil(self.most) as u64
+    }
+}
+
+impl Outside {
+    /// No call fails.
+    pub fn new() -> Outside {
+        Outside {
+            files: Orders::new(),
+            patterns: 0,
+            out: Orders::new(),
+            err: Orders::new(),
         }
     }
 }
@@ -65,10 +105,8 @@ impl Case {
             name: String::from_str(alloc, "pol")?,
             policy: None,
             map: None,
-            files: Orders::new(),
-            patterns: 0,
-            out: Orders::new(),
-            err: Orders::new(),
+            outside: Outside::new(),
+            sweep: None,
             wanted: Answer::new(alloc),
         })
     }

@@ -22,6 +22,8 @@ pub enum Cause {
     EmptyWord,
     #[error("no such edit")]
     BadEdit,
+    #[error("no such sweep")]
+    BadSweep,
     #[error("not text")]
     NotText,
     #[error("out of memory")]

@@ -8,14 +8,16 @@ mod answer;
 mod case;
 mod cause;
 mod edit;
+mod failing;
 mod play;
+mod sweep;
 mod table;
 mod text;
 mod value;
 
-use answer::{Answer, differences};
 use anyhow::{Context, Result};
 use case::{Case, Source};
+use play::Contents;
 use std::alloc::Global;
 use std::rt::{Env, Files};
 use std::{env, fs};
@@ -52,17 +54,20 @@ fn bytes_if(rt: &(impl Files + AllocGlobal), source: &Option<Source>) -> Result<
     }
 }
 
-// What the run of a case gives.
-fn answer_of(rt: &(impl Files + AllocGlobal), case: &Case) -> Result<Answer> {
+// What differs in the runs of a case.
+fn lines_of(rt: &(impl Files + AllocGlobal), case: &Case) -> Result<Vec<String>> {
     let policy = bytes_if(rt, &case.policy)?;
     let map = bytes_if(rt, &case.map)?;
-    Ok(play::play(rt.alloc(), case, policy.as_deref(), map.as_deref())?)
+    let contents = Contents {
+        policy: policy.as_deref(),
+        map: map.as_deref(),
+    };
+    Ok(sweep::case_differences(rt.alloc(), case, contents)?)
 }
 
 // Runs a case, prints what differs, and answers whether anything does.
 fn differs(rt: &(impl Files + Print + AllocGlobal), table: &str, case: &Case) -> Result<bool> {
-    let got = answer_of(rt, case).context(format_args!("{table}, line {}", case.line))?;
-    let lines = differences(rt.alloc(), &case.wanted, &got)?;
+    let lines = lines_of(rt, case).context(format_args!("{table}, line {}", case.line))?;
     for line in &lines {
         println!(rt; "{table}, line {}: {line}", case.line)?;
     }

@@ -3,27 +3,34 @@ ghost use Rattle.se_outside.specs.Outside.{NoneAsked};
 ghost use Rattle.se_outside.specs.MemFiles.{mem_state};
 
 use crate::answer::Answer;
-use crate::case::{Case, Orders};
+use crate::case::{Case, Orders, Outside};
 use se_outside::{MemFiles, MemPatterns, MemSink};
 use se_tools::run;
 use std::alloc::{AllocError, Global};
 
-/// What the run of a case gives, where its policy and its map hold these bytes.
+/// What a case's policy and its map hold, where they are there.
+#[derive(Clone, Copy)]
+pub struct Contents<'a> {
+    pub policy: Option<&'a [u8]>,
+    pub map: Option<&'a [u8]>,
+}
+
+/// What the run of a case gives.
 pub fn play(
     alloc: Global,
     case: &Case,
-    policy: Option<&[u8]>,
-    map: Option<&[u8]>,
+    contents: Contents<'_>,
+    outside: &Outside,
 ) -> Result<Answer, AllocError> {
     let mut files = MemFiles::new(alloc);
-    add_if(&mut files, case.name.as_str(), policy)?;
-    add_if(&mut files, "map", map)?;
-    files.fail(case.files.fail)?;
-    files.most(case.files.most);
-    let mut out = sink_of(alloc, &case.out)?;
-    let mut err = sink_of(alloc, &case.err)?;
+    add_if(&mut files, case.name.as_str(), contents.policy)?;
+    add_if(&mut files, "map", contents.map)?;
+    files.fail(outside.files.fail)?;
+    files.most(outside.files.most);
+    let mut out = sink_of(alloc, &outside.out)?;
+    let mut err = sink_of(alloc, &outside.err)?;
     let mut patterns = MemPatterns::new(alloc);
-    patterns.fail(case.patterns)?;
+    patterns.fail(outside.patterns)?;
     let status = run(
         alloc,
         &case.words,

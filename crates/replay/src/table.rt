@@ -5,7 +5,7 @@
 use crate::case::{Case, Orders};
 use crate::cause::{Cause, TableError};
 use crate::text::unescaped;
-use crate::value::{code_of, most_of, name_of, number_of, size_of, source_of, words_of};
+use crate::value::{code_of, most_of, name_of, number_of, size_of, source_of, sweep_of, words_of};
 use std::alloc::Global;
 
 /// What a line is about.
@@ -24,6 +24,7 @@ enum Key {
     ErrFail,
     ErrMost,
     ErrRoom,
+    Sweep,
     Code,
     Out,
     OutPart,
@@ -31,7 +32,7 @@ enum Key {
     ErrPart,
 }
 
-const KEYS: [(&str, Key); 18] = [
+const KEYS: [(&str, Key); 19] = [
     ("words", Key::Words),
     ("named", Key::Named),
     ("policy", Key::Policy),
@@ -45,6 +46,7 @@ const KEYS: [(&str, Key); 18] = [
     ("err-fail", Key::ErrFail),
     ("err-most", Key::ErrMost),
     ("err-room", Key::ErrRoom),
+    ("sweep", Key::Sweep),
     ("code", Key::Code),
     ("out", Key::Out),
     ("out-part", Key::OutPart),
@@ -159,15 +161,16 @@ fn set(alloc: Global, key: Key, value: &str, case: &mut Case) -> Result<(), Caus
         Key::Named => case.name = name_of(alloc, value)?,
         Key::Policy => case.policy = Some(source_of(alloc, value)?),
         Key::Map => case.map = Some(source_of(alloc, value)?),
-        Key::FilesFail => case.files = with_fail(case.files, value)?,
-        Key::FilesMost => case.files = with_most(case.files, value)?,
-        Key::PatternsFail => case.patterns = number_of(value)?,
-        Key::OutFail => case.out = with_fail(case.out, value)?,
-        Key::OutMost => case.out = with_most(case.out, value)?,
-        Key::OutRoom => case.out = with_room(case.out, value)?,
-        Key::ErrFail => case.err = with_fail(case.err, value)?,
-        Key::ErrMost => case.err = with_most(case.err, value)?,
-        Key::ErrRoom => case.err = with_room(case.err, value)?,
+        Key::FilesFail => case.outside.files = with_fail(case.outside.files, value)?,
+        Key::FilesMost => case.outside.files = with_most(case.outside.files, value)?,
+        Key::PatternsFail => case.outside.patterns = number_of(value)?,
+        Key::OutFail => case.outside.out = with_fail(case.outside.out, value)?,
+        Key::OutMost => case.outside.out = with_most(case.outside.out, value)?,
+        Key::OutRoom => case.outside.out = with_room(case.outside.out, value)?,
+        Key::ErrFail => case.outside.err = with_fail(case.outside.err, value)?,
+        Key::ErrMost => case.outside.err = with_most(case.outside.err, value)?,
+        Key::ErrRoom => case.outside.err = with_room(case.outside.err, value)?,
+        Key::Sweep => case.sweep = Some(sweep_of(value)?),
         Key::Code => case.wanted.code = code_of(value)?,
         Key::Out => push_line(alloc, value, &mut case.wanted.out)?,
         Key::OutPart => push_part(alloc, value, &mut case.wanted.out)?,
@@ -178,16 +181,7 @@ fn set(alloc: Global, key: Key, value: &str, case: &mut Case) -> Result<(), Caus
 }
 
 fn with_fail(orders: Orders, value: &str) -> Result<Orders, Cause> {
-    let Orders {
-        fail: _,
-        most,
-        room,
-    } = orders;
-    Ok(Orders {
-        fail: number_of(value)?,
-        most,
-        room,
-    })
+    Ok(orders.failing(number_of(value)?))
 }
 
 fn with_most(orders: Orders, value: &str) -> Result<Orders, Cause> {

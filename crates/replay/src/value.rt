@@ -4,6 +4,7 @@ ghost use Rattle.std.specs.Prelude.{◌<◌, IfOk};
 use crate::case::Source;
 use crate::cause::Cause;
 use crate::edit::Edit;
+use crate::sweep::Sweep;
 use crate::text::unescaped;
 use se_words::Words;
 use std::alloc::Global;
@@ -31,6 +32,11 @@ pub fn most_of(text: &str) -> Result<usize, Cause>
 /// A status in decimal digits.
 pub fn code_of(text: &str) -> Result<u8, Cause> {
     text.parse::<u8>().map_err(|_| Cause::NotNumber)
+}
+
+/// What goes wrong in the runs of a case, by its word.
+pub fn sweep_of(text: &str) -> Result<Sweep, Cause> {
+    Sweep::of(text).ok_or(Cause::BadSweep)
 }
 
 /// Words with one space between them, each with escapes.
