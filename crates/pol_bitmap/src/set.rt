@@ -116,7 +116,8 @@ impl Set {
         Set::from_nodes(alloc, nodes)
     }
 
-    fn from_nodes(alloc: Global, nodes: Vec<Node>) -> Result<Set, AllocError>
+    /// The set of these nodes.
+    pub fn from_nodes(alloc: Global, nodes: Vec<Node>) -> Result<Set, AllocError>
         requires { IsSet nodes.items }
         ensures { IfOk result (λ s. s ≡ nodes.items) }
     {
@@ -197,7 +198,7 @@ impl Set {
     }
 
     /// The nodes.
-    pub(crate) fn nodes(&self) -> &[Node]
+    pub fn nodes(&self) -> &[Node]
         ensures nodes { result.now ≡ self.now }
         ensures form { IsSet self.now }
     {
