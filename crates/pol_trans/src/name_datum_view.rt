@@ -38,6 +38,13 @@ impl<'a> Model for NameDatumView<'a> {
 }
 
 impl<'a> NameDatumView<'a> {
+    /// The place of its first byte.
+    pub fn place(&self) -> u32
+        ensures { result ≡ self.now.place }
+    {
+        self.place
+    }
+
     /// The types that make the object: bit v - 1 stands for the value v.
     pub fn sources(&self) -> BitmapView<'a>
         ensures { result ≡ self.now.value.sources }
