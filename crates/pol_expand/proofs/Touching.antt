@@ -1,5 +1,6 @@
 -- The declared values whose expansion shares a type with given ones.
-use Rattle.std.proofs.Common.{◌≡◌, inl, inr, ℕ, true, false, List, [], ◌∷◌, length, sym, ap, subst, ◌∙◌, Result, Ok, Err, IfOk, arith}
+use Rattle.std.proofs.Common.{◌≡◌, ◌↔◌, inl, inr, ℕ, Bool, true, false, List, [], ◌∷◌, length, sym, ap, subst, ◌∙◌, Result, Ok, Err, IfOk, arith}
+use Rattle.std.specs.Prelude.{IsTrue}
 use Rattle.std.specs.List.{Contains, filter, list_any, range_with_len}
 use Rattle.std.proofs.lemmas.Bool.{and_from, and_parts, or_cases, or_left, or_right, false_from_ne_true}
 use Rattle.std.proofs.lemmas.List.Elements.{All-contains, Contains-append_right, Contains-append_cases, filter_passes}
@@ -11,6 +12,7 @@ use Rattle.pol_bitmap.proofs.Elements.{contains_nothing, contains_one, contains_
 use Rattle.pol_expand.specs.Expansion.{expansion_of, IsDeclared, IsTouching}
 use Rattle.pol_expand.specs.Inverting.{listed_all, touches, IsInversion}
 use Rattle.pol_expand.proofs.Listing.{listed_at, type_listed}
+use Rattle.pol_expand.proofs.Values.{same_tests}
 
 -- ---- some value of a set
 
@@ -31,51 +33,55 @@ any_from_bit (x ∷ xs) given bit h e = elim (Contains-append_cases (x ∷ []) x
 any_from_share : (xs : List ℕ) (given : List Node) → ShareBit xs (bits_of given) → list_any (has_bit given) xs ≡ true
 any_from_share xs given s = any_from_bit xs given s.bit s.left (has_bit-from_bits given s.bit s.right)
 
+-- whether a set meets the given one, by a test of its bits
+pub meets_is : (r : Bool) (xs : List ℕ) (given : List Node) → IsTrue r ↔ ShareBit xs (bits_of given) → r ≡ list_any (has_bit given) xs
+meets_is r xs given h = same_tests r (list_any (has_bit given) xs) (λ t. any_from_share xs given (h.0 t)) (λ t. h.1 (share_from_any xs given t))
+
 -- ---- types and attributes
 
 -- a type expands to itself
-type_expands : (lists : List (List ℕ)) (attributes types : List Node) (value : ℕ) → IsInversion lists attributes types → Contains (bits_of types) value → expansion_of (listed_all attributes lists) value ≡ value ∷ []
-type_expands lists attributes types value h t =
+type_expands : (sets : List (List Node)) (attributes types : List Node) (value : ℕ) → IsInversion sets attributes types → Contains (bits_of types) value → expansion_of (listed_all attributes sets) value ≡ value ∷ []
+type_expands sets attributes types value h t =
     let within = h.declared value (inr t) in
     let not : has_bit attributes value ≡ false = false_from_ne_true (has_bit attributes value) (λ a. h.apart value a (has_bit-from_bits types value t)) in
-    listed_at attributes lists value within.0 within.1 ∙ sym (type_listed attributes lists value not)
+    listed_at attributes sets value within.0 within.1 ∙ sym (type_listed attributes sets value not)
 
-pub touching_is : (lists : List (List ℕ)) (attributes types given own rest all : List Node) → IsInversion lists attributes types
+pub touching_is : (sets : List (List Node)) (attributes types given own rest all : List Node) → IsInversion sets attributes types
     → IsCommon (bits_of types) (bits_of given) (bits_of own)
-    → bits_of rest ≡ filter (touches (listed_all attributes lists) attributes given) (range_with_len 1 (length lists))
+    → bits_of rest ≡ filter (touches (listed_all attributes sets) attributes given) (range_with_len 1 (length sets))
     → IsUnion (bits_of own) (bits_of rest) (bits_of all)
-    → IsTouching (listed_all attributes lists) attributes types given (bits_of all)
-touching_is lists attributes types given own rest all h common e union = record { each = λ value. (to value, from value) }
+    → IsTouching (listed_all attributes sets) attributes types given (bits_of all)
+touching_is sets attributes types given own rest all h common e union = record { each = λ value. (to value, from value) }
   where
-    to : (value : ℕ) → Contains (bits_of all) value → IsDeclared attributes types value × ShareBit (expansion_of (listed_all attributes lists) value) (bits_of given)
+    to : (value : ℕ) → Contains (bits_of all) value → IsDeclared attributes types value × ShareBit (expansion_of (listed_all attributes sets) value) (bits_of given)
     to value m = elim ((union.each value).0 m) [
       | inl one ↦ let both = (common.each value).0 one in
-          (inr both.0, subst (λ (xs : List ℕ). ShareBit xs (bits_of given)) (sym (type_expands lists attributes types value h both.0)) (record { bit = value; left = contains_first value []; right = both.1 }))
+          (inr both.0, subst (λ (xs : List ℕ). ShareBit xs (bits_of given)) (sym (type_expands sets attributes types value h both.0)) (record { bit = value; left = contains_first value []; right = both.1 }))
       | inr one ↦
-          let there : Contains (filter (touches (listed_all attributes lists) attributes given) (range_with_len 1 (length lists))) value = subst (λ (xs : List ℕ). Contains xs value) e one in
-          let test : touches (listed_all attributes lists) attributes given value ≡ true = All-contains (λ (v : ℕ). touches (listed_all attributes lists) attributes given v ≡ true) _ value (filter_passes (touches (listed_all attributes lists) attributes given) (range_with_len 1 (length lists))) there in
-          let both = and_parts (has_bit attributes value) (list_any (has_bit given) (expansion_of (listed_all attributes lists) value)) test in
-          (inl (bits-from_has_bit attributes value both.0), share_from_any (expansion_of (listed_all attributes lists) value) given both.1)
+          let there : Contains (filter (touches (listed_all attributes sets) attributes given) (range_with_len 1 (length sets))) value = subst (λ (xs : List ℕ). Contains xs value) e one in
+          let test : touches (listed_all attributes sets) attributes given value ≡ true = All-contains (λ (v : ℕ). touches (listed_all attributes sets) attributes given v ≡ true) _ value (filter_passes (touches (listed_all attributes sets) attributes given) (range_with_len 1 (length sets))) there in
+          let both = and_parts (has_bit attributes value) (list_any (has_bit given) (expansion_of (listed_all attributes sets) value)) test in
+          (inl (bits-from_has_bit attributes value both.0), share_from_any (expansion_of (listed_all attributes sets) value) given both.1)
     ]
 
-    from : (value : ℕ) → IsDeclared attributes types value × ShareBit (expansion_of (listed_all attributes lists) value) (bits_of given) → Contains (bits_of all) value
+    from : (value : ℕ) → IsDeclared attributes types value × ShareBit (expansion_of (listed_all attributes sets) value) (bits_of given) → Contains (bits_of all) value
     from value both = elim both.0 [
       | inl a ↦
           let within = h.declared value both.0 in
-          let test : touches (listed_all attributes lists) attributes given value ≡ true = and_from (has_bit attributes value) _ (has_bit-from_bits attributes value a) (any_from_share (expansion_of (listed_all attributes lists) value) given both.1) in
-          let there = keeps (touches (listed_all attributes lists) attributes given) (range_with_len 1 (length lists)) value (contains_range 1 (length lists) value within.0 (omega (arith, within.1))) test in
+          let test : touches (listed_all attributes sets) attributes given value ≡ true = and_from (has_bit attributes value) _ (has_bit-from_bits attributes value a) (any_from_share (expansion_of (listed_all attributes sets) value) given both.1) in
+          let there = keeps (touches (listed_all attributes sets) attributes given) (range_with_len 1 (length sets)) value (contains_range 1 (length sets) value within.0 (omega (arith, within.1))) test in
           (union.each value).1 (inr (subst (λ (xs : List ℕ). Contains xs value) (sym e) there))
       | inr t ↦
-          let s : ShareBit (value ∷ []) (bits_of given) = subst (λ (xs : List ℕ). ShareBit xs (bits_of given)) (type_expands lists attributes types value h t) both.1 in
+          let s : ShareBit (value ∷ []) (bits_of given) = subst (λ (xs : List ℕ). ShareBit xs (bits_of given)) (type_expands sets attributes types value h t) both.1 in
           let same : value ≡ s.bit = contains_one s.bit value s.left in
           (union.each value).1 (inl ((common.each value).1 (t, subst (Contains (bits_of given)) (sym same) s.right)))
     ]
 
 -- the same of the answer of a union
-pub touching_of : {E : Type 0} (lists : List (List ℕ)) (attributes types given own rest : List Node) (r : Result (List Node) E) → IsInversion lists attributes types
+pub touching_of : {E : Type 0} (sets : List (List Node)) (attributes types given own rest : List Node) (r : Result (List Node) E) → IsInversion sets attributes types
     → IsCommon (bits_of types) (bits_of given) (bits_of own)
-    → bits_of rest ≡ filter (touches (listed_all attributes lists) attributes given) (range_with_len 1 (length lists))
+    → bits_of rest ≡ filter (touches (listed_all attributes sets) attributes given) (range_with_len 1 (length sets))
     → IfOk r (λ all. IsUnion (bits_of own) (bits_of rest) (bits_of all))
-    → IfOk r (λ all. IsTouching (listed_all attributes lists) attributes types given (bits_of all))
-touching_of lists attributes types given own rest (Ok all) h common e union = touching_is lists attributes types given own rest all h common e union
-touching_of lists attributes types given own rest (Err f) h common e union = tt
+    → IfOk r (λ all. IsTouching (listed_all attributes sets) attributes types given (bits_of all))
+touching_of sets attributes types given own rest (Ok all) h common e union = touching_is sets attributes types given own rest all h common e union
+touching_of sets attributes types given own rest (Err f) h common e union = tt

@@ -41,6 +41,3 @@ range_rises a n k lt =
 
 pub filter_rises : (p : ℕ → Bool) (a n : ℕ) → IsStrictlyIncreasing (filter p (range_with_len a n))
 filter_rises p a n = IsStrictlyIncreasing-filter p (range_with_len a n) (range_rises a n)
-
-pub one_rises : (x : ℕ) → IsStrictlyIncreasing (x ∷ [])
-one_rises x k lt = absurd (omega arith)

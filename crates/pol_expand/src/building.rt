@@ -1,7 +1,8 @@
-// The lists of the attributes, made in one pass over the rows.
-ghost use Rattle.std.specs.Prelude.{◌≡◌, ◌≤◌, ◌&&◌, ◌==◌, ℕ, [], IfOk, OnOk, length, slice_index_or};
-ghost use Rattle.pol_bitmap.specs.Nodes.{has_bit};
-ghost use Rattle.pol_expand.specs.Inverting.{AreLists, GainWhere};
+// The types of the attributes, gathered in one pass over the rows.
+ghost use Rattle.std.specs.Prelude.{◌≡◌, ◌≤◌, ◌&&◌, ◌==◌, ℕ, [], map, IfOk, OnOk, length, slice_index_or};
+ghost use Rattle.std.specs.List.{range_with_len};
+ghost use Rattle.pol_bitmap.specs.Nodes.{bits_of, has_bit};
+ghost use Rattle.pol_expand.specs.Inverting.{is_flagged, AreBelow, AreLists, GainWhere};
 
 use crate::type_list::TypeList;
 use pol_bitmap::{BitmapView, Set};
@@ -14,8 +15,27 @@ pub fn has_value(set: &Set, value: u32) -> bool
     set.has(value)
 }
 
-/// For each bit the list of the declared types whose row has it. Bits that stand for no attribute have lists of no meaning.
-pub fn lists_of(
+/// For each bit the set of the declared types whose row has it. Bits that stand for no attribute have sets of no meaning.
+pub fn sets_of(
+    alloc: Global,
+    rows: &[BitmapView<'_>],
+    attributes: &Set,
+    types: &Set,
+) -> Result<Vec<Set>, AllocError>
+    requires { length rows.now ≤ 65535 }
+    ensures { IfOk result (λ sets. AreLists rows.now attributes.now types.now (length rows.now) (map bits_of sets.items)) }
+{
+    let lists = lists_of(alloc, rows, attributes, types)?;
+    let empty = Set::empty(alloc)?;
+    let mut sets = Vec::with_capacity(alloc, lists.len())?;
+    for list in lists {
+        sets.push(list.into_set(alloc, &empty)?)?;
+    }
+    Ok(sets)
+}
+
+// For each bit the list of these types.
+fn lists_of(
     alloc: Global,
     rows: &[BitmapView<'_>],
     attributes: &Set,
@@ -24,11 +44,24 @@ pub fn lists_of(
     requires { length rows.now ≤ 65535 }
     ensures { IfOk result (λ lists. AreLists rows.now attributes.now types.now (length rows.now) lists.items) }
 {
+    let flags = attribute_flags(alloc, attributes, rows.len())?;
     let mut lists = empty_lists(alloc, rows.len())?;
     for i in 0..rows.len() {
-        add_type(&mut lists, &rows[i], attributes, types, i as u32 + 1)?;
+        add_type(&mut lists, &rows[i], &flags, types, i as u32 + 1)?;
     }
     Ok(lists)
+}
+
+// Whether each value, from 1 on, is an attribute.
+fn attribute_flags(alloc: Global, attributes: &Set, count: usize) -> Result<Vec<bool>, AllocError>
+    requires { count ≤ 65535 }
+    ensures { IfOk result (λ flags. flags.items ≡ map (has_bit attributes.now) (range_with_len 1 count)) }
+{
+    let mut flags = Vec::with_capacity(alloc, count)?;
+    for i in 0..count {
+        flags.push(has_value(attributes, i as u32 + 1))?;
+    }
+    Ok(flags)
 }
 
 // As many lists of no type.
@@ -47,15 +80,16 @@ fn empty_lists(alloc: Global, count: usize) -> Result<Vec<TypeList>, AllocError>
 fn add_type(
     lists: &mut [TypeList],
     row: &BitmapView<'_>,
-    attributes: &Set,
+    flags: &[bool],
     types: &Set,
     value: u32,
 ) -> Result<(), AllocError>
-    requires { length lists.old ≤ 65535 }
-    ensures { OnOk result (GainWhere attributes.now value (λ bit. has_bit types.now value && has_bit row.now bit) lists.old lists.new) }
+    requires count { length lists.old ≡ length flags.now }
+    requires below { AreBelow flags.now value (has_bit row.now) lists.old }
+    ensures { OnOk result (GainWhere flags.now value (λ bit. has_bit types.now value && has_bit row.now bit) lists.old lists.new) }
 {
     if has_value(types, value) {
-        add_row(lists, row, attributes, value)
+        add_row(lists, row, flags, value)
     } else {
         Ok(())
     }
@@ -65,31 +99,37 @@ fn add_type(
 fn add_row(
     lists: &mut [TypeList],
     row: &BitmapView<'_>,
-    attributes: &Set,
+    flags: &[bool],
     value: u32,
 ) -> Result<(), AllocError>
-    requires { length lists.old ≤ 65535 }
-    ensures { OnOk result (GainWhere attributes.now value (has_bit row.now) lists.old lists.new) }
+    requires count { length lists.old ≡ length flags.now }
+    requires below { AreBelow flags.now value (has_bit row.now) lists.old }
+    ensures { OnOk result (GainWhere flags.now value (has_bit row.now) lists.old lists.new) }
 {
     // the clause of the count says that the nodes rise, so no bit comes twice
     let _ = row.node_count();
     for bit in row.bits() {
-        add_bit(lists, attributes, bit, value)?;
+        add_bit(lists, flags, bit, value)?;
     }
     Ok(())
 }
 
 // Adds a type to the list of a bit, if that stands for an attribute.
-fn add_bit(lists: &mut [TypeList], attributes: &Set, bit: u32, value: u32) -> Result<(), AllocError>
-    requires { length lists.old ≤ 65535 }
-    ensures { OnOk result (GainWhere attributes.now value (λ other. other == bit) lists.old lists.new) }
+fn add_bit(lists: &mut [TypeList], flags: &[bool], bit: u32, value: u32) -> Result<(), AllocError>
+    requires count { length lists.old ≡ length flags.now }
+    requires below { AreBelow flags.now value (λ other. other == bit) lists.old }
+    ensures { OnOk result (GainWhere flags.now value (λ other. other == bit) lists.old lists.new) }
 {
-    let place = bit as usize;
-    if place >= lists.len() {
-        return Ok(());
-    }
-    if has_value(attributes, bit + 1) {
-        lists[place].push(value)?;
+    if is_flagged(flags, bit) {
+        lists[bit as usize].push(value)?;
     }
     Ok(())
+}
+
+// Whether a bit stands for an attribute.
+fn is_flagged(flags: &[bool], bit: u32) -> bool
+    ensures { result ≡ is_flagged flags.now bit }
+{
+    let place = bit as usize;
+    place < flags.len() && flags[place]
 }

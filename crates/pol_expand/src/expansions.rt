@@ -10,7 +10,7 @@ use std::alloc::{AllocError, Global};
 use std::marker::Model;
 
 /// What the types and attributes of a policy expand to, by values: an attribute to the declared types that have it, a type to
-/// itself. Expansions are sets of a pool, each made when it is first asked for.
+/// itself. Expansions get numbers in a pool, each when it is first asked for.
 #[derive(Drop)]
 pub struct TypeMap {
     inverse: Inverse,
@@ -77,7 +77,7 @@ impl TypeMap {
         Ok(number)
     }
 
-    /// The set that a declared value expands to. It is made anew, and not kept.
+    /// The set that a declared value expands to. That of an attribute is shared, and that of a type is made anew.
     pub fn expansion(&self, alloc: Global, value: u32) -> Result<Set, AllocError>
         requires { IsDeclared self.now.attributes self.now.types value }
         ensures form { IfOk result IsSet }

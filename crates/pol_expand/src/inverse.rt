@@ -1,12 +1,11 @@
 ghost use Rattle.std.specs.Prelude.{◌≡◌, ◌≤◌, ◌<◌, ◌+◌, ◌-◌, [], IfOk, length};
-ghost use Rattle.std.specs.List.{filter, list_any, range_with_len};
-ghost use Rattle.pol_bitmap.specs.Nodes.{bits_of, has_bit};
+ghost use Rattle.std.specs.List.{filter, range_with_len};
+ghost use Rattle.pol_bitmap.specs.Nodes.{bits_of};
 ghost use Rattle.pol_bitmap.specs.Sets.{IsSet, ShareBit};
 ghost use Rattle.pol_expand.specs.Expansion.{expand_all, expansion_of, HaveRows, IsDeclared, IsTouching};
 ghost use Rattle.pol_expand.specs.Inverting.{touches};
 
-use crate::building::{has_value, lists_of};
-use crate::type_list::TypeList;
+use crate::building::{has_value, sets_of};
 use pol_bitmap::{BitmapView, Set};
 use std::alloc::{AllocError, Global};
 use std::marker::Model;
@@ -16,7 +15,7 @@ use std::marker::Model;
 pub struct Inverse {
     attributes: Set,
     types: Set,
-    lists: Vec<TypeList>,
+    sets: Vec<Set>,
 }
 
 impl Model for Inverse {
@@ -25,9 +24,9 @@ impl Model for Inverse {
 
     ghost Value = { Inversion };
 
-    ghost view = { λ m. record { expansions = listed_all m.attributes m.lists.items; attributes = m.attributes; types = m.types; count = length m.lists.items } };
+    ghost view = { λ m. record { expansions = listed_all m.attributes m.sets.items; attributes = m.attributes; types = m.types; count = length m.sets.items } };
 
-    ghost invariant = { λ m. IsInversion m.lists.items m.attributes m.types };
+    ghost invariant = { λ m. IsInversion m.sets.items m.attributes m.types };
 }
 
 impl Inverse {
@@ -44,11 +43,11 @@ impl Inverse {
         requires apart { ShareBit (bits_of attributes.now) (bits_of types.now) → ⊥ }
         ensures { IfOk result (λ m. m ≡ record { expansions = expand_all rows.now attributes.now types.now; attributes = attributes.now; types = types.now; count = length rows.now }) }
     {
-        let lists = lists_of(alloc, rows, attributes, types)?;
+        let sets = sets_of(alloc, rows, attributes, types)?;
         Ok(Inverse {
             attributes: attributes.share()?,
             types: types.share()?,
-            lists,
+            sets,
         })
     }
 
@@ -59,8 +58,8 @@ impl Inverse {
         ensures within { result < self.now.count }
         ensures few { self.now.count ≤ 65535 }
     {
-        // the read shows the invariant: declared values are 1 to the number of the lists
-        let _ = &self.lists;
+        // the read shows the invariant: declared values are 1 to the number of the sets
+        let _ = &self.sets;
         value as usize - 1
     }
 
@@ -69,18 +68,17 @@ impl Inverse {
         ensures all { result ≡ self.now.count }
         ensures few { result ≤ 65535 }
     {
-        self.lists.len()
+        self.sets.len()
     }
 
-    /// What a declared value expands to.
+    /// What a declared value expands to. That of an attribute is shared, not copied.
     pub fn set_of(&self, alloc: Global, value: u32) -> Result<Set, AllocError>
         requires { IsDeclared self.now.attributes self.now.types value }
         ensures form { IfOk result IsSet }
         ensures bits { IfOk result (λ set. bits_of set ≡ expansion_of self.now.expansions value) }
     {
         if has_value(&self.attributes, value) {
-            let place = self.place_of(value);
-            Set::from_rising(alloc, self.lists[place].as_slice())
+            self.sets[self.place_of(value)].share()
         } else {
             Set::from_rising(alloc, &[value])
         }
@@ -116,13 +114,6 @@ impl Inverse {
         requires within { place < self.now.count }
         ensures { result ≡ touches self.now.expansions self.now.attributes given.now value }
     {
-        has_value(&self.attributes, value) && has_any(self.lists[place].as_slice(), given)
+        has_value(&self.attributes, value) && self.sets[place].meets(given)
     }
-}
-
-// Whether one of the values is in a set.
-fn has_any(values: &[u32], set: &Set) -> bool
-    ensures { result ≡ list_any (has_bit set.now) values.now }
-{
-    values.iter().any(|value| has_value(set, *value))
 }

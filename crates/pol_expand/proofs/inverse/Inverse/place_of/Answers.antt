@@ -11,5 +11,5 @@ returns-clause-place c = let within = c.self.invariant.declared c.args.value (rw
 pub returns-clause-within : goal.returns-clause-within
 returns-clause-within c =
     let within = c.self.invariant.declared c.args.value (rw (← c.self.view_is) at c.requires) in
-    let count : length c.self.inside.lists.items ≡ c.args.self.now.count = ap (λ (m : Inversion). m.count) c.self.view_is in
+    let count : length c.self.inside.sets.items ≡ c.args.self.now.count = ap (λ (m : Inversion). m.count) c.self.view_is in
     omega (arith, within.0, within.1)

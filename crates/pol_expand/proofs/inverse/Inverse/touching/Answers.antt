@@ -18,5 +18,5 @@ returns c =
     let values = c.in_ok-attributes.ensures.bits ∙ c.deref.ensures.value ∙ c.in_ok-values.ensures in
     let inside = subst (λ (m : Inversion). bits_of c.in_ok-attributes.attributes ≡ filter (touches m.expansions m.attributes c.args.given.now) (range_with_len 1 m.count)) (sym c.self.view_is) values in
     subst (λ (m : Inversion). IfOk c.union.result (λ set. IsTouching m.expansions m.attributes m.types c.args.given.now (bits_of set))) c.self.view_is
-    (touching_of c.self.inside.lists.items c.self.inside.attributes c.self.inside.types c.args.given.now c.in_ok-types.types c.in_ok-attributes.attributes c.union.result
+    (touching_of c.self.inside.sets.items c.self.inside.attributes c.self.inside.types c.args.given.now c.in_ok-types.types c.in_ok-attributes.attributes c.union.result
     c.self.invariant c.in_ok-types.ensures.bits inside c.union.ensures.bits)
