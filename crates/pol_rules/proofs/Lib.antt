@@ -6,3 +6,6 @@ pub mod RuleCounts
 pub mod RuleParts
 pub mod RulesDeclared
 pub mod DeclaredTypes
+pub mod ListItems
+pub mod NodeValues
+pub mod RuleNodes

@@ -2,11 +2,11 @@
 use Rattle.std.proofs.Common.{◌≡◌, ℕ, zero, suc, ◌+◌, ◌<◌, ◌≤◌, Bool, true, false, Option, Some, None, List, [], ◌∷◌, ◌++◌, length, take, map, get_or, slice_get, sum, refl, sym, ap, subst, ◌∙◌, arith}
 use Rattle.std.specs.Prelude.{is_some, option_map}
 use Rattle.std.specs.List.{flat_map, range_with_len}
-use Rattle.std.proofs.lemmas.List.{length-map, length-append, map_more, take-map}
+use Rattle.std.proofs.lemmas.List.{length-map, length-append, take-map}
 use Rattle.std.proofs.lemmas.List.FromFn.{take-map-range_with_len, map-range_with_len_more, length-range_with_len, get_or-range_with_len, length-map-range_with_len}
 use Rattle.std.proofs.lemmas.List.Concat.{flat_map-cons, length-flat_map}
 use Rattle.std.proofs.lemmas.List.Sums.{sum-map, sum_by-cons}
-use Rattle.std.proofs.lemmas.Option.{same_Some, slice_get-map, slice_get_within, slice_get-get_or, get_or_from_slice_get}
+use Rattle.std.proofs.lemmas.Option.{same_Some, slice_get-map, slice_get-get_or, get_or_from_slice_get}
 use Rattle.pol_cursor.specs.References.{Placed}
 use Rattle.pol_symtab.specs.SymbolTables.{primary_index, primary_name}
 use Rattle.pol_symtab.proofs.Searches.{primary_within, primary_name_at, primary_name_none, place_of}
@@ -60,11 +60,6 @@ pub found_by : {X A : Type 0} (f : X → List A) (xs : List X) (lengths : List �
     → slice_get (flat_map f xs) n ≡ slice_get (f x) rest
 found_by f xs lengths i rest n x are e lt place =
     found f xs i rest n x e (sym (ap (λ (ns : List ℕ). sum (take i ns) + rest) are) ∙ place) (omega (arith, lt, ap (λ (ns : List ℕ). get_or ns i 0) are, found_length f xs i x e))
-
--- the length of one more
-pub lengths_more : {X A : Type 0} (f : X → List A) (xs : List X) (i : ℕ) (x : X) → slice_get xs i ≡ Some x → lengths_of f (take (i + 1) xs) ≡ lengths_of f (take i xs) ++ length (f x) ∷ []
-lengths_more f xs i x e =
-    map_more (λ y. length (f y)) xs i x (slice_get_within xs i x e) ∙ ap (λ y. lengths_of f (take i xs) ++ length (f y) ∷ []) (get_or_from_slice_get xs i x x e)
 
 -- ---- those of conditional nodes
 

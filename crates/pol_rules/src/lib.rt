@@ -2,7 +2,9 @@
 #![tactic(auto)]
 
 mod declared_law;
+mod declared_value;
 mod key_law;
+mod name_index;
 mod rule;
 mod rule_index;
 mod rule_order;

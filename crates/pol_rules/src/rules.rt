@@ -1,13 +1,17 @@
 // The stored rules, by their numbers.
-ghost use Rattle.std.specs.Prelude.{◌≡◌, ◌<◌, ◌+◌, Some, None, MatchResult, length, map, option_map, slice_get};
+ghost use Rattle.std.specs.Prelude.{◌≡◌, ◌<◌, ◌%◌, Some, None, length, map, option_map, slice_get};
+ghost use Rattle.pol_bitmap.specs.Nodes.{node_bits};
 ghost use Rattle.pol_avtab.specs.AvKeys.{kind_of};
-ghost use Rattle.pol_rules.specs.StoredRules.{stored, rule_kind, plain_part, rule_part, av_rule, rules_of_branch, rules_of_node, rules_of_nodes, role_trans_rule, role_allow_rule, name_rule, name_trans_rule, declared_sources, rules_of_datum, rules_of_group, name_rules, range_trans_rule, stored_rules};
-ghost use Rattle.pol_rules.specs.RuleNumbers.{node_lengths, group_lengths, IsIndexOf};
+ghost use Rattle.pol_rules.specs.StoredRules.{stored, rule_kind, plain_part, rule_part, av_rule, rules_of_branch, rules_of_node, rules_of_nodes, role_trans_rule, role_allow_rule, name_trans_rule, name_rules, range_trans_rule, stored_rules};
+ghost use Rattle.pol_rules.specs.RuleNumbers.{node_lengths, rules_of_bits, IsNameIndexOf, IsIndexOf};
 
+use crate::declared_value::value_at;
+use crate::name_index::{NameIndex, node_at};
 use crate::rule::{Condition, Rule, RuleKind, RulePart};
-use crate::rule_index::{RuleIndex, declared_value};
+use crate::rule_index::RuleIndex;
 use crate::sums::Sums;
 use pol_avtab::{AvTable, AvView, Conditionals, shown_mask};
+use pol_bitmap::Node;
 use pol_file::Parts;
 use pol_symbols::Symbols;
 use pol_trans::{
@@ -15,8 +19,8 @@ use pol_trans::{
     RoleTransList,
 };
 
-/// The stored rule of that number, from 0 on, in file order. In a group of file-name transitions it goes through the data and
-/// their sources.
+/// The stored rule of that number, from 0 on, in file order. It is found by halves, and among those of a node of
+/// the sources of file-name transitions by going through its 64 bits.
 #[tactic(auto, using(crate::proofs::RuleSums::total_is, crate::proofs::RuleSums::found, crate::proofs::RuleSums::found_length))]
 pub fn rule_at<'a>(parts: &Parts<'a>, index: &RuleIndex, n: u32) -> Rule<'a>
     requires index { IsIndexOf parts.now index.now }
@@ -29,7 +33,7 @@ pub fn rule_at<'a>(parts: &Parts<'a>, index: &RuleIndex, n: u32) -> Rule<'a>
         1 => conditional_rule(&parts.rules.conditionals, &index.nodes, i),
         2 => role_trans_rule(&parts.rules.role_trans, i),
         3 => role_allow_rule(&parts.rules.role_allows, i),
-        4 => name_rule(&parts.symbols, &parts.rules.name_trans, &index.groups, i),
+        4 => name_rule(&parts.symbols, &parts.rules.name_trans, &index.names, i),
         _ => range_trans_rule(&parts.labels.range_trans, i),
     }
 }
@@ -200,22 +204,22 @@ fn range_trans_rule<'a>(transitions: &RangeTransList<'a>, i: u32) -> Rule<'a>
 // ---- file-name transitions
 
 // The rule of that number of the file-name transitions.
-#[tactic(auto, using(crate::proofs::RuleSums::total_is, crate::proofs::RuleSums::found, crate::proofs::RuleSums::found_length))]
 fn name_rule<'a>(
     symbols: &Symbols<'a>,
     transitions: &NameTrans<'a>,
-    lengths: &Sums,
+    index: &NameIndex,
     i: u32,
 ) -> Rule<'a>
-    requires lengths { lengths.now ≡ group_lengths symbols.now transitions.now }
+    requires index { IsNameIndexOf symbols.now transitions.now index.now }
     requires rule { i < length (name_rules symbols.now transitions.now) }
     ensures { slice_get (name_rules symbols.now transitions.now) i ≡ Some (stored result) }
 {
     match transitions {
         NameTrans::Entries(entries) => entry_rule(entries, i),
         NameTrans::Groups(groups) => {
-            let (group, i) = lengths.find(i);
-            group_rule(symbols, &groups.view(group), i)
+            let (place, i) = index.lengths.find(i);
+            let (group, datum, node) = node_at(symbols, groups, &index.places, place);
+            source_rule(symbols, &group, &datum, node, i)
         }
     }
 }
@@ -238,52 +242,26 @@ fn entry_rule<'a>(entries: &NameTransList<'a>, i: u32) -> Rule<'a>
     }
 }
 
-// That of a group. It goes through the data and their sources.
-#[tactic(auto, using(crate::proofs::RuleSums::get_left, crate::proofs::RuleSums::get_right, crate::proofs::RuleSums::get_map))]
-fn group_rule<'a>(symbols: &Symbols<'a>, group: &NameGroupView<'a>, i: u32) -> Rule<'a>
-    requires { i < length (rules_of_group symbols.now group.now) }
-    ensures { slice_get (rules_of_group symbols.now group.now) i ≡ Some (stored result) }
-{
-    let mut left = i;
-    for datum in group.data() {
-        match declared_source(symbols, &datum, left) {
-            Ok(source) => return source_rule(group, &datum, source),
-            Err(behind) => left = behind,
-        }
-    }
-    unreachable!()
-}
-
-// That of a source of a datum.
-fn source_rule<'a>(group: &NameGroupView<'a>, datum: &NameDatumView<'a>, source: u32) -> Rule<'a>
-    ensures { stored result ≡ name_rule group.now.value.name source group.now.value.target group.now.value.class datum.now.value.default }
+// That of a source of a datum, by its number among those that the bits of a node stand for.
+#[tactic(auto, using(crate::proofs::RuleSums::get_map))]
+fn source_rule<'a>(
+    symbols: &Symbols<'a>,
+    group: &NameGroupView<'a>,
+    datum: &NameDatumView<'a>,
+    node: Node,
+    i: u32,
+) -> Rule<'a>
+    requires whole { node.start % 64 ≡ 0 }
+    requires rule { i < length (rules_of_bits symbols.now group.now.value datum.now.value (node_bits node)) }
+    ensures { slice_get (rules_of_bits symbols.now group.now.value datum.now.value (node_bits node)) i ≡ Some (stored result) }
 {
     Rule {
         kind: RuleKind::TypeTransition,
-        source,
+        source: value_at(symbols, node, i),
         target: group.target(),
         class: group.class(),
         part: RulePart::Default(datum.default()),
         name: Some(group.name()),
         condition: None,
     }
-}
-
-// The declared source of that number of a datum, or how far the number is behind the last of them.
-fn declared_source(symbols: &Symbols<'_>, datum: &NameDatumView<'_>, i: u32) -> Result<u32, u32>
-    ensures { MatchResult result (λ source. slice_get (declared_sources symbols.now datum.now.value) i ≡ Some source) (λ behind. length (declared_sources symbols.now datum.now.value) + behind ≡ i) }
-{
-    let mut left = i;
-    for bit in datum.sources().bits() {
-        match declared_value(symbols, bit) {
-            None => {}
-            Some(source) => {
-                if left == 0 {
-                    return Ok(source);
-                }
-                left -= 1;
-            }
-        }
-    }
-    Err(left)
 }
