@@ -15,9 +15,9 @@ use Rattle.pol_expand.proofs.Values.{same_tests}
 use Rattle.rule_order.specs.ListedOrder.{AreRules, in_rule_order}
 use Rattle.value_groups.specs.Marking.{is_among, AreApart}
 use Rattle.value_groups.specs.Grouping.{is_value_at, places_of, group_of, AreGroupsOf}
-use Rattle.rule_ends.specs.ChosenRules.{passes, holds_type, joins, is_rule_from_to, any_joins, rules_between, targets_from, sources_to}
-use Rattle.rule_ends.specs.EndTables.{IsEnd, AreEndsOf, IsTableOf, has_ends, places_to, rules_at, rules_found, any_found, is_other_end}
-use Rattle.rule_ends.proofs.Anys.{any_gives, any_from, among_contains, contains_among, filter_agree}
+use Rattle.rule_ends.specs.ChosenRules.{passes, holds_type, joins, is_rule_from_to, any_joins, rules_between, targets_from, sources_to, sources_to_any}
+use Rattle.rule_ends.specs.EndTables.{IsEnd, holds_any, AreEndsOf, IsTableOf, has_ends, places_to, rules_at, rules_found, any_found, is_other_end}
+use Rattle.rule_ends.proofs.Anys.{any_gives, any_from, among_contains, contains_among, any_agree, filter_agree}
 use Rattle.rule_ends.proofs.Ends.{passes_within}
 
 -- ---- a rule by its place
@@ -136,16 +136,16 @@ grouped keys q (e ∷ es) apart =
 -- ---- by one end of the rules
 
 -- Of some rules, the values of one end, grouped, and those of the other end: a test of a rule says that both ends expand to a type.
-pub record AreJoined (policy : Parts) (rules keys others : List ℕ) (groups : List (List ℕ)) (joined : ℕ → Bool) (x y : ℕ) : Type 0 where
+pub record AreJoined (policy : Parts) (rules keys others : List ℕ) (groups : List (List ℕ)) (joined held : ℕ → Bool) (y : ℕ) : Type 0 where
   pub keys_long : length keys ≡ length rules
   pub others_long : length others ≡ length rules
   pub keys_are : All (IsEnd policy) keys
   pub others_are : All (IsEnd policy) others
   pub groups_are : AreGroupsOf policy.symbols.types.nprim keys groups
-  pub law : (place : ℕ) → place < length rules → joined (slice_index rules place) ≡ (holds_type policy (slice_index keys place) x && holds_type policy (slice_index others place) y)
+  pub law : (place : ℕ) → place < length rules → joined (slice_index rules place) ≡ (held (slice_index keys place) && holds_type policy (slice_index others place) y)
 
 pub by_sources : (policy : Parts) (rules sources targets : List ℕ) (by_source by_target : List (List ℕ)) (source target : ℕ) → IsTableOf policy rules sources targets by_source by_target
-    → AreJoined policy rules sources targets by_source (joins policy source target) source target
+    → AreJoined policy rules sources targets by_source (joins policy source target) (λ value. holds_type policy value source) target
 by_sources policy rules sources targets by_source by_target source target table = record {
   keys_long = table.ends.sources_long;
   others_long = table.ends.targets_long;
@@ -162,7 +162,7 @@ and_comm false true = refl
 and_comm false false = refl
 
 pub by_targets : (policy : Parts) (rules sources targets : List ℕ) (by_source by_target : List (List ℕ)) (source target : ℕ) → IsTableOf policy rules sources targets by_source by_target
-    → AreJoined policy rules targets sources by_target (joins policy source target) target source
+    → AreJoined policy rules targets sources by_target (joins policy source target) (λ value. holds_type policy value target) source
 by_targets policy rules sources targets by_source by_target source target table = record {
   keys_long = table.ends.targets_long;
   others_long = table.ends.sources_long;
@@ -172,12 +172,12 @@ by_targets policy rules sources targets by_source by_target source target table 
   law = λ place lt. joins_at policy rules sources targets source target place table.ends lt ∙ and_comm (holds_type policy (slice_index sources place) source) (holds_type policy (slice_index targets place) target);
 }
 
--- Some ends are those that expand to a type.
-pub record AreHolders (policy : Parts) (x : ℕ) (ends : List ℕ) : Type 0 where
-  pub each : (value : ℕ) → IsEnd policy value → is_among ends value ≡ holds_type policy value x
+-- Some ends are those that pass a test.
+pub record AreHolders (policy : Parts) (held : ℕ → Bool) (ends : List ℕ) : Type 0 where
+  pub each : (value : ℕ) → IsEnd policy value → is_among ends value ≡ held value
   pub within : All (λ value. value ≤ policy.symbols.types.nprim) ends
 
-module _ (policy : Parts) (rules keys others : List ℕ) (groups : List (List ℕ)) (joined : ℕ → Bool) (x y : ℕ) (are : AreJoined policy rules keys others groups joined x y) (from : List ℕ) (holders : AreHolders policy x from) where
+module _ (policy : Parts) (rules keys others : List ℕ) (groups : List (List ℕ)) (joined held : ℕ → Bool) (y : ℕ) (are : AreJoined policy rules keys others groups joined held y) (from : List ℕ) (holders : AreHolders policy held from) where
   places_in : (end place : ℕ) → end ≤ policy.symbols.types.nprim → Contains (group_of groups end) place → (place < length rules) × (slice_index keys place ≡ end)
   unfolding places_of
   places_in end place le there =
@@ -190,8 +190,8 @@ module _ (policy : Parts) (rules keys others : List ℕ) (groups : List (List �
   rule_at end place there in_group holds =
       let p = places_in end place (All-contains (λ value. value ≤ policy.symbols.types.nprim) from end holders.within there) in_group in
       let is = All-get_or (IsEnd policy) keys place 0 (omega (arith, p.0, are.keys_long)) are.keys_are in
-      let one : holds_type policy (slice_index keys place) x ≡ true = sym (holders.each (slice_index keys place) is) ∙ contains_among from (slice_index keys place) (subst (λ (e : ℕ). Contains from e) (sym p.1) there) in
-      any_from joined rules (slice_index rules place) (Contains-get_or rules place 0 p.0) (are.law place p.0 ∙ and_from (holds_type policy (slice_index keys place) x) (holds_type policy (slice_index others place) y) one holds)
+      let one : held (slice_index keys place) ≡ true = sym (holders.each (slice_index keys place) is) ∙ contains_among from (slice_index keys place) (subst (λ (e : ℕ). Contains from e) (sym p.1) there) in
+      any_from joined rules (slice_index rules place) (Contains-get_or rules place 0 p.0) (are.law place p.0 ∙ and_from (held (slice_index keys place)) (holds_type policy (slice_index others place) y) one holds)
 
   -- a rule has such a place
   place_of_rule : list_any joined rules ≡ true → (place : ℕ) × (place < length rules) × Contains from (slice_index keys place) × Contains (group_of groups (slice_index keys place)) place × (holds_type policy (slice_index others place) y ≡ true)
@@ -200,7 +200,7 @@ module _ (policy : Parts) (rules keys others : List ℕ) (groups : List (List �
       let f = any_gives joined rules e in
       let place = f.1.0 in
       let lt = f.1.1 in
-      let both = and_parts (holds_type policy (slice_index keys place) x) (holds_type policy (slice_index others place) y) (sym (are.law place lt) ∙ ap joined (get_or_default rules place 0 f.0 lt ∙ f.1.2) ∙ f.2) in
+      let both = and_parts (held (slice_index keys place)) (holds_type policy (slice_index others place) y) (sym (are.law place lt) ∙ ap joined (get_or_default rules place 0 f.0 lt ∙ f.1.2) ∙ f.2) in
       let key_lt : place < length keys = omega (arith, lt, are.keys_long) in
       let is = All-get_or (IsEnd policy) keys place 0 key_lt are.keys_are in
       let among = among_contains from (slice_index keys place) (holders.each (slice_index keys place) is ∙ both.0) in
@@ -208,7 +208,7 @@ module _ (policy : Parts) (rules keys others : List ℕ) (groups : List (List �
       (place, lt, among, subst (λ (ps : List ℕ). Contains ps place) (sym (are.groups_are.each (slice_index keys place) is.within.1)) group, both.1)
 
   -- whether there is a rule
-  pub any_is : (to : List ℕ) → AreHolders policy y to → any_found others (group_of groups) from to ≡ list_any joined rules
+  pub any_is : (to : List ℕ) → AreHolders policy (λ value. holds_type policy value y) to → any_found others (group_of groups) from to ≡ list_any joined rules
   any_is to ends = same_tests (any_found others (group_of groups) from to) (list_any joined rules)
       (λ e.
       let f = any_gives (λ end. list_any (λ place. is_among to (slice_index others place)) (group_of groups end)) from e in
@@ -246,7 +246,7 @@ module _ (policy : Parts) (rules keys others : List ℕ) (groups : List (List �
   flat_map_of_maps r f (e ∷ es) = ap (λ (ys : List ℕ). map r (f e) ++ ys) (flat_map_of_maps r f es) ∙ sym (map-append r (f e) (flat_map f es))
 
   -- the rules that are found
-  pub found_is : (to : List ℕ) → AreApart from → AreHolders policy y to → IsPermutation (rules_found rules others (group_of groups) from to) (filter joined rules)
+  pub found_is : (to : List ℕ) → AreApart from → AreHolders policy (λ value. holds_type policy value y) to → IsPermutation (rules_found rules others (group_of groups) from to) (filter joined rules)
   found_is to apart ends =
       let r = slice_index rules in
       let q = λ (place : ℕ). is_among to (slice_index others place) in
@@ -262,7 +262,7 @@ module _ (policy : Parts) (rules keys others : List ℕ) (groups : List (List �
       let lt : place < length rules = omega (arith, w.1, are.keys_long) in
       let a = All-get_or (IsEnd policy) keys place 0 (omega (arith, lt, are.keys_long)) are.keys_are in
       let b = All-get_or (IsEnd policy) others place 0 (omega (arith, lt, are.others_long)) are.others_are in
-      ap (λ (c : Bool). c && q place) (holders.each (slice_index keys place) a) ∙ ap (λ (c : Bool). holds_type policy (slice_index keys place) x && c) (ends.each (slice_index others place) b) ∙ sym (are.law place lt))
+      ap (λ (c : Bool). c && q place) (holders.each (slice_index keys place) a) ∙ ap (λ (c : Bool). held (slice_index keys place) && c) (ends.each (slice_index others place) b) ∙ sym (are.law place lt))
       range (range_holds 0 (length keys))) in
       let all : map r (filter (λ place. joined (r place)) range) ≡ filter joined rules =
       sym (filter_map_is r joined range) ∙ ap (filter joined) (ap (λ (n : ℕ). map r (range_with_len 0 n)) are.keys_long ∙ sym (by_places rules)) in
@@ -303,31 +303,73 @@ found_are_rules policy rules found kept are joined is moved =
     All-permutation P kept found (IsPermutation-sym found kept moved) (All-same P kept (filter joined rules) is (All-filter joined P rules are))
 
 pub between_is : (policy : Parts) (rules sources targets : List ℕ) (by_source by_target : List (List ℕ)) (source target : ℕ) (from to found : List ℕ) → ((xs ys : List ℕ) → AreRules policy xs → IsPermutation xs ys → in_rule_order policy xs ≡ in_rule_order policy ys) → IsTableOf policy rules sources targets by_source by_target → AreApart from
-    → AreHolders policy source from → AreHolders policy target to → found ≡ rules_found rules targets (group_of by_source) from to → AreRules policy found × (in_rule_order policy found ≡ rules_between policy rules source target)
+    → AreHolders policy (λ value. holds_type policy value source) from → AreHolders policy (λ value. holds_type policy value target) to → found ≡ rules_found rules targets (group_of by_source) from to → AreRules policy found × (in_rule_order policy found ≡ rules_between policy rules source target)
 between_is policy rules sources targets by_source by_target source target from to found settled table apart holders ends is =
     let joined = joins policy source target in
     let moved : IsPermutation found (filter joined rules) =
     subst (λ (xs : List ℕ). IsPermutation xs (filter joined rules)) (sym is)
-    (found_is policy rules sources targets by_source joined source target (by_sources policy rules sources targets by_source by_target source target table) from holders to apart ends) in
+    (found_is policy rules sources targets by_source joined (λ value. holds_type policy value source) target (by_sources policy rules sources targets by_source by_target source target table) from holders to apart ends) in
     let own = are_rules policy rules sources targets table.ends in
     let found_are = found_are_rules policy rules found (filter joined rules) own joined refl moved in
     (found_are, settled found (filter joined rules) found_are moved)
 
 -- the types of the other ends, where the sources are given, and where the targets are
-pub targets_are : (policy : Parts) (rules sources targets : List ℕ) (by_source by_target : List (List ℕ)) (source : ℕ) (from ends : List ℕ) → IsTableOf policy rules sources targets by_source by_target → AreHolders policy source from
+pub targets_are : (policy : Parts) (rules sources targets : List ℕ) (by_source by_target : List (List ℕ)) (source : ℕ) (from ends : List ℕ) → IsTableOf policy rules sources targets by_source by_target → AreHolders policy (λ value. holds_type policy value source) from
     → ((value : ℕ) → is_among ends value ≡ is_other_end targets (group_of by_source) from value)
     → filter (λ type. list_any (λ end. holds_type policy end type) ends) (range_with_len 1 policy.symbols.types.nprim) ≡ targets_from policy rules source
 unfolding targets_from
 targets_are policy rules sources targets by_source by_target source from ends table holders say =
     filter_agree (λ type. list_any (λ end. holds_type policy end type) ends) (any_joins policy rules source) (range_with_len 1 policy.symbols.types.nprim)
     (λ k d lt. let type = get_or (range_with_len 1 policy.symbols.types.nprim) k d in
-    others_hold policy rules sources targets by_source (joins policy source type) source type (by_sources policy rules sources targets by_source by_target source type table) from holders ends say)
+    others_hold policy rules sources targets by_source (joins policy source type) (λ value. holds_type policy value source) type (by_sources policy rules sources targets by_source by_target source type table) from holders ends say)
 
-pub sources_are : (policy : Parts) (rules sources targets : List ℕ) (by_source by_target : List (List ℕ)) (target : ℕ) (from ends : List ℕ) → IsTableOf policy rules sources targets by_source by_target → AreHolders policy target from
+pub sources_are : (policy : Parts) (rules sources targets : List ℕ) (by_source by_target : List (List ℕ)) (target : ℕ) (from ends : List ℕ) → IsTableOf policy rules sources targets by_source by_target → AreHolders policy (λ value. holds_type policy value target) from
     → ((value : ℕ) → is_among ends value ≡ is_other_end sources (group_of by_target) from value)
     → filter (λ type. list_any (λ end. holds_type policy end type) ends) (range_with_len 1 policy.symbols.types.nprim) ≡ sources_to policy rules target
 unfolding sources_to
 sources_are policy rules sources targets by_source by_target target from ends table holders say =
     filter_agree (λ type. list_any (λ end. holds_type policy end type) ends) (λ source. any_joins policy rules source target) (range_with_len 1 policy.symbols.types.nprim)
     (λ k d lt. let type = get_or (range_with_len 1 policy.symbols.types.nprim) k d in
-    others_hold policy rules targets sources by_target (joins policy type target) target type (by_targets policy rules sources targets by_source by_target type target table) from holders ends say)
+    others_hold policy rules targets sources by_target (joins policy type target) (λ value. holds_type policy value target) type (by_targets policy rules sources targets by_source by_target type target table) from holders ends say)
+
+-- ---- the sources of some targets
+
+and_any : (b : Bool) (p : ℕ → Bool) (xs : List ℕ) → list_any (λ x. b && p x) xs ≡ (list_any p xs && b)
+and_any true p xs = sym (and_comm (list_any p xs) true)
+and_any false p [] = refl
+and_any false p (x ∷ xs) = and_any false p xs ∙ and_comm (list_any p xs) false ∙ and_comm false (p x || list_any p xs)
+
+pub by_any_target : (policy : Parts) (rules sources targets : List ℕ) (by_source by_target : List (List ℕ)) (source : ℕ) (nodes : List ℕ) → IsTableOf policy rules sources targets by_source by_target
+    → AreJoined policy rules targets sources by_target (λ number. list_any (λ target. joins policy source target number) nodes) (holds_any policy nodes) source
+by_any_target policy rules sources targets by_source by_target source nodes table = record {
+  keys_long = table.ends.targets_long;
+  others_long = table.ends.sources_long;
+  keys_are = table.ends.targets_are;
+  others_are = table.ends.sources_are;
+  groups_are = table.targets_grouped;
+  law = λ place lt.
+      any_agree (λ target. joins policy source target (slice_index rules place)) (λ target. holds_type policy (slice_index sources place) source && holds_type policy (slice_index targets place) target) nodes
+      (λ k d in_nodes. joins_at policy rules sources targets source (get_or nodes k d) place table.ends lt)
+      ∙ and_any (holds_type policy (slice_index sources place) source) (holds_type policy (slice_index targets place)) nodes;
+}
+
+any_swap : (test : ℕ → ℕ → Bool) (xs ys : List ℕ) → list_any (λ x. list_any (test x) ys) xs ≡ list_any (λ y. list_any (λ x. test x y) xs) ys
+any_swap test xs ys = same_tests (list_any (λ x. list_any (test x) ys) xs) (list_any (λ y. list_any (λ x. test x y) xs) ys)
+    (λ e.
+    let f = any_gives (λ x. list_any (test x) ys) xs e in
+    let g = any_gives (test f.0) ys f.2 in
+    any_from (λ y. list_any (λ x. test x y) xs) ys g.0 g.1 (any_from (λ x. test x g.0) xs f.0 f.1 g.2))
+    (λ e.
+    let f = any_gives (λ y. list_any (λ x. test x y) xs) ys e in
+    let g = any_gives (λ x. test x f.0) xs f.2 in
+    any_from (λ x. list_any (test x) ys) xs g.0 g.1 (any_from (test g.0) ys f.0 f.1 g.2))
+
+pub any_sources_are : (policy : Parts) (rules sources targets : List ℕ) (by_source by_target : List (List ℕ)) (nodes from ends : List ℕ) → IsTableOf policy rules sources targets by_source by_target → AreHolders policy (holds_any policy nodes) from
+    → ((value : ℕ) → is_among ends value ≡ is_other_end sources (group_of by_target) from value)
+    → filter (λ type. list_any (λ end. holds_type policy end type) ends) (range_with_len 1 policy.symbols.types.nprim) ≡ sources_to_any policy rules nodes
+unfolding sources_to_any
+any_sources_are policy rules sources targets by_source by_target nodes from ends table holders say =
+    filter_agree (λ type. list_any (λ end. holds_type policy end type) ends) (λ source. list_any (any_joins policy rules source) nodes) (range_with_len 1 policy.symbols.types.nprim)
+    (λ k d lt. let type = get_or (range_with_len 1 policy.symbols.types.nprim) k d in
+    others_hold policy rules targets sources by_target (λ number. list_any (λ target. joins policy type target number) nodes) (holds_any policy nodes) type (by_any_target policy rules sources targets by_source by_target type nodes table) from holders ends say
+    ∙ any_swap (λ number target. joins policy type target number) rules nodes)

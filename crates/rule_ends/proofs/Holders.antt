@@ -1,25 +1,26 @@
 -- The types and attributes that expand to a type are the type itself and the attributes of its row.
-use Rattle.std.proofs.Common.{◌≡◌, ℕ, ◌+◌, ◌-◌, ◌<◌, ◌≤◌, Bool, true, false, List, [], ◌∷◌, Option, Some, None, refl, sym, ap, subst, ◌∙◌, inl, inr, arith}
+use Rattle.std.proofs.Common.{◌≡◌, ℕ, ◌+◌, ◌-◌, ◌<◌, ◌≤◌, Bool, true, false, List, [], ◌∷◌, Option, Some, None, get_or, refl, sym, ap, subst, ◌∙◌, inl, inr, arith}
 use Rattle.std.specs.Prelude.{◌==◌, ◌&&◌, ◌||◌, nat_le, nat_lt, is_some}
 use Rattle.std.specs.List.{All, Contains, filter, list_any, range_with_len}
 use Rattle.std.proofs.lemmas.Bool.{false≢true, cases_Bool, eq-eqb, eqb-true, and_parts, and_from, or_cases, or_left, or_right, le-leb, leb-true, lt-ltb, cond-true, cond-false}
+use Rattle.pol_bitmap.specs.declared.Node.{Node}
 use Rattle.pol_bitmap.specs.Nodes.{bits_of, has_bit}
 use Rattle.pol_bitmap.proofs.BitLists.{has_bit-from_bits, bits-from_has_bit}
 use Rattle.pol_bitmap.proofs.Elements.{kept, keeps, range_holds, contains_range, contains_first, contains_one}
-use Rattle.std.proofs.lemmas.List.Elements.{All-contains, All-same, All-filter, All-weaker, All-cons, All-nil}
+use Rattle.std.proofs.lemmas.List.Elements.{All-contains, All-from_get_or, All-same, All-filter, All-weaker, All-cons, All-nil, Contains-get_or}
 use Rattle.pol_symtab.proofs.Searches.{not_true}
 use Rattle.pol_datums.specs.declared.Flavour.{Flavour}
 use Rattle.pol_datums.specs.declared.Flavour.TheVariants.{Plain, Attribute}
 use Rattle.pol_symbols.specs.PolicySymbols.{flavour_in}
 use Rattle.pol_file.specs.declared.Parts.{Parts}
-use Rattle.pol_expand.specs.Expansion.{Expansions, IsDeclared, expansion}
+use Rattle.pol_expand.specs.Expansion.{Expansions, IsDeclared, IsTouching, expansion, expansion_of}
 use Rattle.pol_expand.specs.Flavours.{is_flavour}
-use Rattle.pol_expand.specs.PolicyMap.{IsPolicyMap, has_flavour, row_in, expand}
+use Rattle.pol_expand.specs.PolicyMap.{IsPolicyMap, has_flavour, row_in, expand, values_of_flavour}
 use Rattle.pol_expand.proofs.PolicyMaps.{declared_in}
 use Rattle.pol_expand.proofs.Values.{same_tests}
 use Rattle.value_groups.specs.Marking.{is_among, with_value}
 use Rattle.rule_ends.specs.ChosenRules.{holds_type}
-use Rattle.rule_ends.specs.EndTables.{IsEnd, is_type_value, is_attribute_bit}
+use Rattle.rule_ends.specs.EndTables.{IsEnd, holds_any, is_type_value, is_attribute_bit}
 use Rattle.rule_ends.proofs.Anys.{any_gives, any_from, among_contains, contains_among, or_false}
 
 -- what a value is, where it is not an attribute
@@ -154,3 +155,32 @@ expands_within policy value is =
 pub held_among : (policy : Parts) (value type : ℕ) (bits : List ℕ) → bits ≡ expand policy value → is_among bits type ≡ holds_type policy value type
 unfolding holds_type
 held_among policy value type bits e = ap (λ (xs : List ℕ). is_among xs type) e
+
+-- ---- the ends of some types
+
+-- what touches some types is within the policy's types
+pub touching_within : (policy : Parts) (m : Expansions) (nodes : List Node) (values : List ℕ) → IsPolicyMap policy m → IsTouching m.expansions m.attributes m.types nodes values → All (λ value. value < policy.symbols.types.nprim + 1) values
+unfolding values_of_flavour
+touching_within policy m nodes values map are = All-from_get_or (λ value. value < policy.symbols.types.nprim + 1) values 0 λ k lt.
+    let value = get_or values k 0 in
+    let range = range_with_len 1 policy.symbols.types.nprim in
+    let in_range : Contains range value = elim ((are.each value).0 (Contains-get_or values k 0 lt)).0 [
+      | inl a ↦ (kept (has_flavour policy.symbols Attribute) range value (subst (λ (xs : List ℕ). Contains xs value) map.attributes a)).0
+      | inr t ↦ (kept (has_flavour policy.symbols Plain) range value (subst (λ (xs : List ℕ). Contains xs value) map.types t)).0
+    ] in
+    omega (arith, (within_range policy.symbols.types.nprim value in_range).1)
+
+-- an end expands to one of some types exactly where it touches them
+pub touching_holds : (policy : Parts) (m : Expansions) (nodes : List Node) (values : List ℕ) (value : ℕ) → IsPolicyMap policy m → IsTouching m.expansions m.attributes m.types nodes values → IsEnd policy value → is_among values value ≡ holds_any policy (bits_of nodes) value
+unfolding holds_type
+touching_holds policy m nodes values value map are is =
+    let declared = end_declared policy m value map is in
+    let expands = map.expands value declared in
+    same_tests (is_among values value) (holds_any policy (bits_of nodes) value)
+    (λ e.
+    let shared = ((are.each value).0 (among_contains values value e)).1 in
+    any_from (λ type. is_among (expand policy value) type) (bits_of nodes) shared.bit shared.right (contains_among (expand policy value) shared.bit (subst (λ (xs : List ℕ). Contains xs shared.bit) expands shared.left)))
+    (λ e.
+    let f = any_gives (λ type. is_among (expand policy value) type) (bits_of nodes) e in
+    let left = subst (λ (xs : List ℕ). Contains xs f.0) (sym expands) (among_contains (expand policy value) f.0 f.2) in
+    contains_among values value ((are.each value).1 (declared, record { bit = f.0; left = left; right = f.1 })))

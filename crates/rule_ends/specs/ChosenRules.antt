@@ -64,3 +64,7 @@ targets_from policy rules source = filter (any_joins policy rules source) (range
 -- the types that the rules join to a target, rising
 unfoldable pub sources_to : Parts → List ℕ → ℕ → List ℕ
 sources_to policy rules target = filter (λ source. any_joins policy rules source target) (range_with_len 1 policy.symbols.types.nprim)
+
+-- the types that the rules join to one of some targets, rising
+unfoldable pub sources_to_any : Parts → List ℕ → List ℕ → List ℕ
+sources_to_any policy rules targets = filter (λ source. list_any (any_joins policy rules source) targets) (range_with_len 1 policy.symbols.types.nprim)

@@ -9,7 +9,7 @@ use Rattle.pol_rules.specs.StoredRules.{StoredRule}
 use Rattle.pol_expand.specs.PolicyMap.{has_flavour}
 use Rattle.value_groups.specs.Marking.{is_among}
 use Rattle.value_groups.specs.Grouping.{AreGroupsOf}
-use Rattle.rule_ends.specs.ChosenRules.{rule_passes}
+use Rattle.rule_ends.specs.ChosenRules.{holds_type, rule_passes}
 
 -- a value is that of a type or of an attribute
 pub record IsEnd (policy : Parts) (value : ℕ) : Type 0 where
@@ -57,6 +57,10 @@ is_type_value policy value = nat_le 1 value && nat_le value policy.symbols.types
 -- a bit of a row stands for a value, which is that of an attribute
 abbrev pub is_attribute_bit : Parts → ℕ → ℕ → Bool
 is_attribute_bit policy value bit = nat_lt bit policy.symbols.types.nprim && has_flavour policy.symbols Attribute (bit + 1) && (bit + 1 == value)
+
+-- a value expands to one of some types
+abbrev pub holds_any : Parts → List ℕ → ℕ → Bool
+holds_any policy types value = list_any (holds_type policy value) types
 
 -- ---- the whole table
 

@@ -6,7 +6,7 @@ ghost use Rattle.pol_datums.specs.declared.Flavour.TheVariants.{Plain, Attribute
 ghost use Rattle.pol_expand.specs.PolicyMap.{has_flavour, row_in, expand, IsPolicyMap};
 ghost use Rattle.value_groups.specs.Marking.{is_among};
 ghost use Rattle.rule_ends.specs.ChosenRules.{holds_type};
-ghost use Rattle.rule_ends.specs.EndTables.{IsEnd, is_type_value, is_attribute_bit};
+ghost use Rattle.rule_ends.specs.EndTables.{IsEnd, holds_any, is_type_value, is_attribute_bit};
 
 use pol_bitmap::Set;
 use pol_datums::Flavour;
@@ -86,6 +86,25 @@ pub fn types_of(
         add_types(&members, &mut found)?;
     }
     found.to_set(alloc)
+}
+
+/// The types and attributes that expand to some of these types.
+pub fn ends_holding_any(
+    alloc: Global,
+    policy: &Policy<'_>,
+    types: &TypeMap,
+    nodes: &Set,
+) -> Result<Marked, AllocError>
+    requires map { IsPolicyMap policy.now types.now }
+    ensures each { IfOk result (λ ends. (value : ℕ) → IsEnd policy.now value → is_among ends.values value ≡ holds_any policy.now (bits_of nodes.now) value) }
+    ensures within { IfOk result (λ ends. All (λ value. value ≤ policy.now.symbols.types.nprim) ends.values) }
+{
+    let mut ends = Marked::new(alloc, policy.type_count() as usize + 1)?;
+    let touching = types.touching(alloc, nodes)?;
+    add_types(&touching, &mut ends)?;
+    // the clause of the values says that they are below the count
+    let _ = ends.values();
+    Ok(ends)
 }
 
 // Adds the types of a set.

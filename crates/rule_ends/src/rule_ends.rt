@@ -3,10 +3,10 @@ ghost use Rattle.std.specs.List.{All};
 ghost use Rattle.pol_bitmap.specs.Nodes.{bits_of};
 ghost use Rattle.pol_expand.specs.PolicyMap.{IsPolicyMap};
 ghost use Rattle.rule_order.specs.ListedOrder.{AreRules};
-ghost use Rattle.rule_ends.specs.ChosenRules.{is_between_types, any_joins, rules_between, targets_from, sources_to};
+ghost use Rattle.rule_ends.specs.ChosenRules.{is_between_types, any_joins, rules_between, targets_from, sources_to, sources_to_any};
 
 use crate::end_table::EndTable;
-use crate::holding::{ends_holding, types_of};
+use crate::holding::{ends_holding, ends_holding_any, types_of};
 use crate::walking::{found_rules, has_rule, other_ends};
 use pol_bitmap::Set;
 use pol_expand::TypeMap;
@@ -120,6 +120,17 @@ impl<'p> RuleEnds<'p> {
         ensures { IfOk result (λ set. bits_of set ≡ sources_to self.now.policy self.now.rules target) }
     {
         let to = ends_holding(alloc, self.policy, target)?;
+        let table = &self.table;
+        let count = self.policy.type_count() as usize + 1;
+        let ends = other_ends(alloc, &table.sources, &table.by_target, to.values(), count)?;
+        types_of(alloc, self.policy, self.types, ends.values())
+    }
+
+    /// The types that the sources of the rules expand to whose target expands to one of some types.
+    pub fn sources_of_any(&self, alloc: Global, targets: &Set) -> Result<Set, AllocError>
+        ensures { IfOk result (λ set. bits_of set ≡ sources_to_any self.now.policy self.now.rules (bits_of targets.now)) }
+    {
+        let to = ends_holding_any(alloc, self.policy, self.types, targets)?;
         let table = &self.table;
         let count = self.policy.type_count() as usize + 1;
         let ends = other_ends(alloc, &table.sources, &table.by_target, to.values(), count)?;
