@@ -6,14 +6,14 @@ ghost use Rattle.pol_datums.specs.declared.Flavour.TheVariants.{Plain, Attribute
 ghost use Rattle.pol_expand.specs.PolicyMap.{has_flavour, row_in, expand, IsPolicyMap};
 ghost use Rattle.value_groups.specs.Marking.{is_among};
 ghost use Rattle.rule_ends.specs.ChosenRules.{holds_type};
-ghost use Rattle.rule_ends.specs.EndTables.{IsEnd, holds_any, is_type_value, is_attribute_bit};
+ghost use Rattle.rule_ends.specs.EndTables.{IsEnd, is_type_value, is_attribute_bit};
 
 use pol_bitmap::Set;
 use pol_datums::Flavour;
 use pol_expand::{TypeMap, is_flavour};
 use pol_read::Policy;
 use std::alloc::{AllocError, Global};
-use value_groups::Marked;
+use value_groups::{DenseSet, Marked};
 
 /// The types and attributes that expand to a type among others: the type itself, and the attributes of its row.
 pub fn ends_holding(alloc: Global, policy: &Policy<'_>, node: u32) -> Result<Marked, AllocError>
@@ -80,41 +80,32 @@ pub fn types_of(
     requires ends { All (IsEnd policy.now) ends.now }
     ensures { IfOk result (λ set. bits_of set ≡ filter (λ type. list_any (λ end. holds_type policy.now end type) ends.now) (range_with_len 1 policy.now.symbols.types.nprim)) }
 {
-    let mut found = Marked::new(alloc, policy.type_count() as usize + 1)?;
+    let mut found = DenseSet::new(alloc, policy.type_count() as usize + 1)?;
     for end in ends {
-        let members = types.expansion(alloc, *end)?;
-        add_types(&members, &mut found)?;
+        add_types(alloc, policy, types, *end, &mut found)?;
     }
     found.to_set(alloc)
 }
 
-/// The types and attributes that expand to some of these types.
-pub fn ends_holding_any(
+// Adds the types that an end expands to.
+fn add_types(
     alloc: Global,
     policy: &Policy<'_>,
     types: &TypeMap,
-    nodes: &Set,
-) -> Result<Marked, AllocError>
+    end: u32,
+    found: &mut DenseSet,
+) -> Result<(), AllocError>
     requires map { IsPolicyMap policy.now types.now }
-    ensures each { IfOk result (λ ends. (value : ℕ) → IsEnd policy.now value → is_among ends.values value ≡ holds_any policy.now (bits_of nodes.now) value) }
-    ensures within { IfOk result (λ ends. All (λ value. value ≤ policy.now.symbols.types.nprim) ends.values) }
-{
-    let mut ends = Marked::new(alloc, policy.type_count() as usize + 1)?;
-    let touching = types.touching(alloc, nodes)?;
-    add_types(&touching, &mut ends)?;
-    // the clause of the values says that they are below the count
-    let _ = ends.values();
-    Ok(ends)
-}
-
-// Adds the types of a set.
-fn add_types(types: &Set, found: &mut Marked) -> Result<(), AllocError>
-    requires { All (λ type. type < found.old.count) (bits_of types.now) }
+    requires end { IsEnd policy.now end }
+    requires count { found.old.count ≡ policy.now.symbols.types.nprim + 1 }
     ensures count { found.new.count ≡ found.old.count }
-    ensures each { OnOk result ((type : ℕ) → is_among found.new.values type ≡ (is_among found.old.values type || is_among (bits_of types.now) type)) }
+    ensures each { OnOk result ((type : ℕ) → is_among found.new.values type ≡ (is_among found.old.values type || holds_type policy.now end type)) }
 {
-    for value in types.bits() {
-        found.add(value)?;
+    if is_type(policy, end) {
+        found.add(end);
+        return Ok(());
     }
+    let members = types.expansion(alloc, end)?;
+    found.add_set(&members);
     Ok(())
 }

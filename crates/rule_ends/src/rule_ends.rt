@@ -6,7 +6,7 @@ ghost use Rattle.rule_order.specs.ListedOrder.{AreRules};
 ghost use Rattle.rule_ends.specs.ChosenRules.{is_between_types, any_joins, rules_between, targets_from, sources_to, sources_to_any};
 
 use crate::end_table::EndTable;
-use crate::holding::{ends_holding, ends_holding_any, types_of};
+use crate::holding::{ends_holding, types_of};
 use crate::walking::{found_rules, has_rule, other_ends};
 use pol_bitmap::Set;
 use pol_expand::TypeMap;
@@ -130,10 +130,11 @@ impl<'p> RuleEnds<'p> {
     pub fn sources_of_any(&self, alloc: Global, targets: &Set) -> Result<Set, AllocError>
         ensures { IfOk result (λ set. bits_of set ≡ sources_to_any self.now.policy self.now.rules (bits_of targets.now)) }
     {
-        let to = ends_holding_any(alloc, self.policy, self.types, targets)?;
+        let touching = self.types.touching(alloc, targets)?;
+        let to: Vec<u32> = touching.bits().collect(alloc)?;
         let table = &self.table;
         let count = self.policy.type_count() as usize + 1;
-        let ends = other_ends(alloc, &table.sources, &table.by_target, to.values(), count)?;
+        let ends = other_ends(alloc, &table.sources, &table.by_target, &to, count)?;
         types_of(alloc, self.policy, self.types, ends.values())
     }
 }

@@ -1,12 +1,11 @@
 -- Marks tell which values were added.
-use Rattle.std.proofs.Common.{◌≡◌, ℕ, zero, suc, ◌<◌, ◌≤◌, Bool, true, false, List, [], ◌∷◌, ◌++◌, length, get_or, replicate, refl, sym, ap, subst, ◌∙◌, inl, inr, arith}
-use Rattle.std.specs.Prelude.{◌||◌, ◌==◌, slice_index_or, slice_set}
-use Rattle.std.specs.List.{All, list_any}
-use Rattle.std.proofs.lemmas.List.Elements.{All-from_get_or}
-use Rattle.std.proofs.lemmas.Bool.{cases_eq, cases_lt, cases_Bool, cond-true, cond-false, eq-eqb, ne_eqb, eqb-false, or_parts, or_from, or_left, or_right, false≢true}
-use Rattle.std.proofs.lemmas.List.{length-set, get_or-set_same, get_or-set_other, get_or-replicate, get_or_past, length-replicate}
+use Rattle.std.proofs.Common.{◌≡◌, ℕ, ◌<◌, Bool, true, false, List, [], ◌∷◌, ◌++◌, refl, sym, ap, subst, ◌∙◌, inl, inr}
+use Rattle.std.specs.Prelude.{◌||◌, ◌==◌}
+use Rattle.std.specs.List.{All}
+use Rattle.std.proofs.lemmas.List.Elements.{All-nil, All-push}
+use Rattle.std.proofs.lemmas.Bool.{cases_eq, cases_Bool, cond-true, cond-false, ne_eqb, eqb-false, or_parts, or_from, or_left}
 use Rattle.std.proofs.lemmas.List.Folds.{list_any-append}
-use Rattle.value_groups.specs.Marking.{is_among, with_value, AreApart, AreMarked}
+use Rattle.value_groups.specs.Marking.{MarkedValues, is_among, with_value, AreApart, AreMarked}
 
 or_false : (b : Bool) → (b || false) ≡ b
 or_false true = refl
@@ -42,41 +41,13 @@ apart_push (x ∷ xs) value apart new =
     let parts = or_parts (x == value) (is_among xs value) new in
     (among_push xs value x ∙ or_from (is_among xs x) (value == x) apart.0 (ne_eqb value x (λ e. eqb-false x value parts.0 (sym e))), apart_push xs value apart.1 parts.1)
 
-pub marks_none : (marks : List Bool) (count : ℕ) → marks ≡ replicate count false → 1 ≤ count → count ≤ 65536 → AreMarked marks []
-marks_none marks count is some few = rw is (record {
-  some = omega (arith, some, length-replicate count false);
-  few = omega (arith, few, length-replicate count false);
-  each = λ value. elim (cases_lt value count) [
-    | inl lt ↦ get_or-replicate count value false false lt
-    | inr le ↦ get_or_past (replicate count false) value false (omega (arith, le, length-replicate count false))
-  ];
-  apart = tt;
-})
+pub marks_none : (marks : MarkedValues) (count : ℕ) → marks ≡ record { count = count; values = [] } → AreMarked marks []
+marks_none marks count is = rw is (record { each = λ value. refl; within = All-nil (λ value. value < count); apart = tt })
 
-pub marks_more : (marks : List Bool) (values : List ℕ) (value : ℕ) → AreMarked marks values → value < length marks → slice_index_or marks value false ≡ false → AreMarked (slice_set marks value true) (values ++ value ∷ [])
-marks_more marks values value are lt unmarked = record {
-  some = omega (arith, are.some, length-set marks value true);
-  few = omega (arith, are.few, length-set marks value true);
-  each = λ other. elim (cases_eq other value) [
-    | inl e ↦ subst (λ (v : ℕ). slice_index_or (slice_set marks value true) v false ≡ is_among (values ++ value ∷ []) v) (sym e)
-        (get_or-set_same marks value true false lt ∙ sym (among_push values value value ∙ ap (λ (b : Bool). is_among values value || b) (eq-eqb value value refl) ∙ or_true (is_among values value)))
-    | inr n ↦ get_or-set_other marks value other true false n ∙ are.each other
-        ∙ sym (among_push values value other ∙ ap (λ (b : Bool). is_among values other || b) (ne_eqb value other (λ e. n (sym e))) ∙ or_false (is_among values other))
-  ];
+pub marks_more : (marks next : MarkedValues) (values : List ℕ) (value : ℕ) → AreMarked marks values → value < marks.count → is_among marks.values value ≡ false → next.count ≡ marks.count
+    → ((other : ℕ) → is_among next.values other ≡ (is_among marks.values other || (value == other))) → AreMarked next (values ++ value ∷ [])
+marks_more marks next values value are lt unmarked count more = record {
+  each = λ other. more other ∙ ap (λ (b : Bool). b || (value == other)) (are.each other) ∙ sym (among_push values value other);
+  within = subst (λ (n : ℕ). All (λ value. value < n) (values ++ value ∷ [])) (sym count) (All-push (λ value. value < marks.count) values value are.within lt);
   apart = apart_push values value are.apart (sym (are.each value) ∙ unmarked);
 }
-
-list_any_at : (p : ℕ → Bool) (xs : List ℕ) (k d : ℕ) → k < length xs → p (get_or xs k d) ≡ true → list_any p xs ≡ true
-list_any_at p [] k d lt e = absurd (omega (arith, lt))
-list_any_at p (x ∷ xs) zero d lt e = or_left (p x) (list_any p xs) e
-list_any_at p (x ∷ xs) (suc k) d lt e = or_right (p x) (list_any p xs) (list_any_at p xs k d (omega (arith, lt)) e)
-
--- marked values are below the number of marks
-pub marked_within : (marks : List Bool) (values : List ℕ) → AreMarked marks values → All (λ value. value < length marks) values
-marked_within marks values are = All-from_get_or (λ value. value < length marks) values 0 λ k lt.
-    let value = get_or values k 0 in
-    let there : is_among values value ≡ true = list_any_at (λ x. x == value) values k 0 lt (eq-eqb value value refl) in
-    elim (cases_lt value (length marks)) [
-      | inl below ↦ below
-      | inr past ↦ absurd (false≢true (sym (get_or_past marks value false past) ∙ are.each value ∙ there))
-    ]

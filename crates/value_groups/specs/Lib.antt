@@ -1,2 +1,3 @@
+pub mod Dense
 pub mod Marking
 pub mod Grouping

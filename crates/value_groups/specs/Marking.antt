@@ -1,12 +1,12 @@
 -- Values that are gathered with a mark for each. It serves the code alone.
-use Rattle.std.specs.Prelude.{◌≡◌, ℕ, ◌≤◌, Bool, false, ◌==◌, List, [], ◌∷◌, ◌++◌, length, slice_index_or, if◌then◌else◌}
-use Rattle.std.specs.List.{list_any}
+use Rattle.std.specs.Prelude.{◌≡◌, ℕ, ◌<◌, Bool, false, ◌==◌, List, [], ◌∷◌, ◌++◌, if◌then◌else◌}
+use Rattle.std.specs.List.{All, list_any}
 
 -- a number is among some numbers
 abbrev pub is_among : List ℕ → ℕ → Bool
 is_among numbers number = list_any (λ other. other == number) numbers
 
--- What a caller sees: the values, in the order in which they were added, and the number that they are below.
+-- What a caller sees: the values, and the number that they are below.
 pub record MarkedValues : Type 0 where
   pub count : ℕ
   pub values : List ℕ
@@ -20,9 +20,8 @@ abbrev pub AreApart : List ℕ → Type 0
 AreApart [] = Unit {0}
 AreApart (value ∷ values) = (is_among values value ≡ false) × AreApart values
 
--- Each value is there exactly where it is marked, and once. There are a few marks, and one for the value 0.
-pub record AreMarked (marks : List Bool) (values : List ℕ) : Type 0 where
-  pub some : 1 ≤ length marks
-  pub few : length marks ≤ 65536
-  pub each : (value : ℕ) → slice_index_or marks value false ≡ is_among values value
+-- The marked values are those that were added, each of them below the count, and once.
+pub record AreMarked (marks : MarkedValues) (values : List ℕ) : Type 0 where
+  pub each : (value : ℕ) → is_among marks.values value ≡ is_among values value
+  pub within : All (λ value. value < marks.count) values
   pub apart : AreApart values
