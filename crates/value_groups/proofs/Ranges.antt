@@ -2,9 +2,6 @@
 use Rattle.std.proofs.Common.{◌≡◌, ℕ, zero, suc, ◌+◌, ◌-◌, ◌<◌, ◌≤◌, Bool, false, cond, List, [], ◌∷◌, ◌++◌, refl, ap, ◌∙◌, append-nil, arith}
 use Rattle.std.specs.List.{All, filter, range_with_len}
 use Rattle.std.proofs.lemmas.List.Elements.{All-head, All-tail, All-weaker, filter-append}
-use Rattle.std.specs.List.Sorted.{IsStrictlyIncreasing}
-use Rattle.std.proofs.lemmas.List.Kept.{IsStrictlyIncreasing-filter}
-use Rattle.std.proofs.lemmas.List.FromFn.{length-range_with_len, get_or-range_with_len}
 use Rattle.pol_bitmap.proofs.Elements.{range_holds}
 
 -- a range is one range behind another
@@ -42,13 +39,3 @@ filter_stretch p a b le none =
 pub filter_range_one : (p : ℕ → Bool) (a n x : ℕ) → a + n ≡ x → filter p (range_with_len a (n + 1)) ≡ filter p (range_with_len a n) ++ cond (p x) (x ∷ []) []
 filter_range_one p a n x e =
     ap (filter p) (range_more a n) ∙ filter-append p (range_with_len a n) ((a + n) ∷ []) ∙ ap (λ (y : ℕ). filter p (range_with_len a n) ++ cond (p y) (y ∷ []) []) e
-
-range_rises : (a n : ℕ) → IsStrictlyIncreasing (range_with_len a n)
-range_rises a n k lt =
-    let whole = length-range_with_len a n in
-    let first : k < n = omega arith in
-    let second : k + 1 < n = omega arith in
-    omega (arith, get_or-range_with_len a n k 0 first, get_or-range_with_len a n (k + 1) 0 second)
-
-pub filter_rises : (p : ℕ → Bool) (a n : ℕ) → IsStrictlyIncreasing (filter p (range_with_len a n))
-filter_rises p a n = IsStrictlyIncreasing-filter p (range_with_len a n) (range_rises a n)

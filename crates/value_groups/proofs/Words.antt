@@ -35,7 +35,6 @@ in_word n value whole e =
 -- and for no others
 out_of_word : (n : Node) (value : ℕ) → n.start % 64 ≡ 0 → (value / 64 ≡ n.start / 64 → ⊥) → node_has value n ≡ false
 out_of_word n value whole other =
-    let test = bit_at n.map (value - n.start) == 1 in
     elim (cases_lt value n.start) [
       | inl lt ↦ rw (lt-leb n.start value lt) refl
       | inr le ↦ node_above value n (omega (arith, whole, other, le))
