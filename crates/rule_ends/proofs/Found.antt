@@ -11,6 +11,10 @@ use Rattle.std.proofs.lemmas.List.FromFn.{fill_by_all}
 use Rattle.pol_bitmap.proofs.Elements.{range_holds, kept, keeps, contains_range}
 use Rattle.pol_file.specs.declared.Parts.{Parts}
 use Rattle.pol_rules.specs.StoredRules.{StoredRule, stored_rules}
+use Rattle.pol_bitmap.specs.declared.Node.{Node}
+use Rattle.pol_bitmap.specs.Nodes.{bits_of}
+use Rattle.pol_expand.specs.Expansion.{Expansions, IsTouching}
+use Rattle.pol_expand.specs.PolicyMap.{IsPolicyMap}
 use Rattle.pol_expand.proofs.Values.{same_tests}
 use Rattle.rule_order.specs.ListedOrder.{AreRules, in_rule_order}
 use Rattle.value_groups.specs.Marking.{is_among, AreApart}
@@ -18,6 +22,7 @@ use Rattle.value_groups.specs.Grouping.{is_value_at, places_of, group_of, AreGro
 use Rattle.rule_ends.specs.ChosenRules.{passes, holds_type, joins, is_rule_from_to, any_joins, rules_between, targets_from, sources_to, sources_to_any}
 use Rattle.rule_ends.specs.EndTables.{IsEnd, holds_any, AreEndsOf, IsTableOf, has_ends, places_to, rules_at, rules_found, any_found, is_other_end}
 use Rattle.rule_ends.proofs.Anys.{any_gives, any_from, among_contains, contains_among, any_agree, filter_agree}
+use Rattle.rule_ends.proofs.Holders.{touching_within, touching_holds}
 use Rattle.rule_ends.proofs.Ends.{passes_within}
 
 -- ---- a rule by its place
@@ -176,6 +181,13 @@ by_targets policy rules sources targets by_source by_target source target table 
 pub record AreHolders (policy : Parts) (held : ℕ → Bool) (ends : List ℕ) : Type 0 where
   pub each : (value : ℕ) → IsEnd policy value → is_among ends value ≡ held value
   pub within : All (λ value. value ≤ policy.symbols.types.nprim) ends
+
+-- the ends that touch some types
+pub touching_ends : (policy : Parts) (map : Expansions) (types : List Node) (values ends : List ℕ) → IsPolicyMap policy map → IsTouching map.expansions map.attributes map.types types values → ends ≡ values → AreHolders policy (holds_any policy (bits_of types)) ends
+touching_ends policy map types values ends is touching same = rw same (record {
+  each = λ value end. touching_holds policy map types values value is touching end;
+  within = All-weaker (λ value. value < policy.symbols.types.nprim + 1) (λ value. value ≤ policy.symbols.types.nprim) (λ value lt. omega (arith, lt)) values (touching_within policy map types values is touching);
+})
 
 module _ (policy : Parts) (rules keys others : List ℕ) (groups : List (List ℕ)) (joined held : ℕ → Bool) (y : ℕ) (are : AreJoined policy rules keys others groups joined held y) (from : List ℕ) (holders : AreHolders policy held from) where
   places_in : (end place : ℕ) → end ≤ policy.symbols.types.nprim → Contains (group_of groups end) place → (place < length rules) × (slice_index keys place ≡ end)

@@ -1,24 +1,26 @@
 -- The types and attributes that expand to a type are the type itself and the attributes of its row.
-use Rattle.std.proofs.Common.{◌≡◌, ℕ, ◌+◌, ◌-◌, ◌<◌, ◌≤◌, Bool, true, false, List, [], ◌∷◌, Option, Some, None, get_or, refl, sym, ap, subst, ◌∙◌, inl, inr, arith}
+use Rattle.std.proofs.Common.{◌≡◌, ℕ, ◌+◌, ◌-◌, ◌<◌, ◌≤◌, Bool, true, false, List, [], ◌∷◌, Option, Some, None, Result, Ok, Err, IfOk, get_or, refl, sym, ap, subst, ◌∙◌, inl, inr, arith}
 use Rattle.std.specs.Prelude.{◌==◌, ◌&&◌, ◌||◌, nat_le, nat_lt, is_some}
 use Rattle.std.specs.List.{All, Contains, filter, list_any, range_with_len}
 use Rattle.std.proofs.lemmas.Bool.{false≢true, cases_Bool, eq-eqb, eqb-true, and_parts, and_from, or_cases, or_left, or_right, le-leb, leb-true, lt-ltb, cond-true, cond-false}
 use Rattle.pol_bitmap.specs.declared.Node.{Node}
 use Rattle.pol_bitmap.specs.Nodes.{bits_of, has_bit}
+use Rattle.pol_bitmap.specs.Sets.{IsSet}
 use Rattle.pol_bitmap.proofs.BitLists.{has_bit-from_bits, bits-from_has_bit}
 use Rattle.pol_bitmap.proofs.Elements.{kept, keeps, range_holds, contains_range, contains_first, contains_one}
-use Rattle.std.proofs.lemmas.List.Elements.{All-contains, All-from_get_or, All-same, All-filter, All-weaker, All-cons, All-nil, Contains-get_or}
+use Rattle.std.proofs.lemmas.List.Elements.{All-contains, All-from_get_or, All-same, All-filter, All-cons, All-nil, Contains-get_or}
 use Rattle.pol_symtab.proofs.Searches.{not_true}
 use Rattle.pol_datums.specs.declared.Flavour.{Flavour}
 use Rattle.pol_datums.specs.declared.Flavour.TheVariants.{Plain, Attribute}
 use Rattle.pol_symbols.specs.PolicySymbols.{flavour_in}
 use Rattle.pol_file.specs.declared.Parts.{Parts}
-use Rattle.pol_expand.specs.Expansion.{Expansions, IsDeclared, IsTouching, expansion, expansion_of}
+use Rattle.pol_expand.specs.Expansion.{Expansions, IsDeclared, IsTouching, expansion}
 use Rattle.pol_expand.specs.Flavours.{is_flavour}
 use Rattle.pol_expand.specs.PolicyMap.{IsPolicyMap, has_flavour, row_in, expand, values_of_flavour}
 use Rattle.pol_expand.proofs.PolicyMaps.{declared_in}
 use Rattle.pol_expand.proofs.Values.{same_tests}
 use Rattle.value_groups.specs.Marking.{is_among, with_value}
+use Rattle.value_groups.proofs.Words.{among_bits, nodes_pass}
 use Rattle.rule_ends.specs.ChosenRules.{holds_type}
 use Rattle.rule_ends.specs.EndTables.{IsEnd, holds_any, is_type_value, is_attribute_bit}
 use Rattle.rule_ends.proofs.Anys.{any_gives, any_from, among_contains, contains_among, or_false}
@@ -141,20 +143,43 @@ flavour_some (Some f) e = (f, refl)
 pub end_declared : (policy : Parts) (m : Expansions) (value : ℕ) → IsPolicyMap policy m → IsEnd policy value → IsDeclared m.attributes m.types value
 end_declared policy m value map is = let f = flavour_some (flavour_in policy.symbols value) is.declared in declared_in policy m value f.0 map is.within f.1
 
-pub expands_within : (policy : Parts) (value : ℕ) → IsEnd policy value → All (λ type. type < policy.symbols.types.nprim + 1) (expand policy value)
+pub expands_within : (policy : Parts) (value : ℕ) → IsEnd policy value → All (λ type. (1 ≤ type) × (type < 1 + policy.symbols.types.nprim)) (expand policy value)
 expands_within policy value is =
-    let P = λ (type : ℕ). type < policy.symbols.types.nprim + 1 in
+    let P = λ (type : ℕ). (1 ≤ type) × (type < 1 + policy.symbols.types.nprim) in
     elim (cases_Bool (has_flavour policy.symbols Attribute value)) [
       | inl a ↦
           let p = λ (type : ℕ). has_flavour policy.symbols Plain type && has_bit (row_in policy type) (value - 1) in
           let range = range_with_len 1 policy.symbols.types.nprim in
-          All-same P (expand policy value) (filter p range) (of_attribute policy value a) (All-filter p P range (All-weaker (λ b. (1 ≤ b) × (b < 1 + policy.symbols.types.nprim)) P (λ b w. omega (arith, w.1)) range (range_holds 1 policy.symbols.types.nprim)))
-      | inr none ↦ All-same P (expand policy value) (value ∷ []) (of_type policy value none) (All-cons P value [] (omega (arith, is.within.1)) (All-nil P))
+          All-same P (expand policy value) (filter p range) (of_attribute policy value a) (All-filter p P range (range_holds 1 policy.symbols.types.nprim))
+      | inr none ↦ All-same P (expand policy value) (value ∷ []) (of_type policy value none) (All-cons P value [] (is.within.0, omega (arith, is.within.1)) (All-nil P))
     ]
 
 pub held_among : (policy : Parts) (value type : ℕ) (bits : List ℕ) → bits ≡ expand policy value → is_among bits type ≡ holds_type policy value type
 unfolding holds_type
 held_among policy value type bits e = ap (λ (xs : List ℕ). is_among xs type) e
+
+-- a type expands to itself
+pub held_alone : (policy : Parts) (value type : ℕ) → is_type_value policy value ≡ true → (value == type) ≡ holds_type policy value type
+unfolding holds_type
+held_alone policy value type is =
+    let none : has_flavour policy.symbols Attribute value ≡ false = not_true (has_flavour policy.symbols Attribute value) (plain_is_no_attribute (flavour_in policy.symbols value) (type_parts policy value is).2) in
+    sym (ap (λ (xs : List ℕ). is_among xs type) (of_type policy value none) ∙ or_false (value == type))
+
+pub type_within : (policy : Parts) (value : ℕ) → is_type_value policy value ≡ true → value ≤ policy.symbols.types.nprim
+type_within policy value is = (type_parts policy value is).1
+
+-- what some ends expand to is within the policy's types
+pub held_within : (policy : Parts) (ends : List ℕ) (type : ℕ) → All (IsEnd policy) ends → list_any (λ end. holds_type policy end type) ends ≡ true → (1 ≤ type) × (type < 1 + policy.symbols.types.nprim)
+unfolding holds_type
+held_within policy ends type are e =
+    let f = any_gives (λ end. is_among (expand policy end) type) ends e in
+    All-contains (λ type. (1 ≤ type) × (type < 1 + policy.symbols.types.nprim)) (expand policy f.0) type (expands_within policy f.0 (All-contains (IsEnd policy) ends f.0 are f.1)) (among_contains (expand policy f.0) type f.2)
+
+-- a set of the values that pass a test
+pub passing_set : {E : Type 0} (result : Result (List Node) E) (p : ℕ → Bool) (count : ℕ) (values : List ℕ) → IfOk result IsSet → IfOk result (λ set. bits_of set ≡ values) → ((value : ℕ) → is_among values value ≡ p value)
+    → ((value : ℕ) → p value ≡ true → (1 ≤ value) × (value < 1 + count)) → IfOk result (λ set. bits_of set ≡ filter p (range_with_len 1 count))
+passing_set (Ok set) p count values form bits each within = nodes_pass p 1 count set form (λ value. sym (among_bits set value) ∙ ap (λ (xs : List ℕ). is_among xs value) bits ∙ each value) within
+passing_set (Err e) p count values form bits each within = tt
 
 -- ---- the ends of some types
 

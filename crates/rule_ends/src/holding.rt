@@ -109,3 +109,10 @@ fn add_types(
     found.add_set(&members);
     Ok(())
 }
+
+/// The values of a set, rising.
+pub fn values_in(alloc: Global, set: &Set) -> Result<Vec<u32>, AllocError>
+    ensures { IfOk result (λ values. values.items ≡ bits_of set.now) }
+{
+    set.bits().collect(alloc)
+}

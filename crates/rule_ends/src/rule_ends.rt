@@ -6,7 +6,7 @@ ghost use Rattle.rule_order.specs.ListedOrder.{AreRules};
 ghost use Rattle.rule_ends.specs.ChosenRules.{is_between_types, any_joins, rules_between, targets_from, sources_to, sources_to_any};
 
 use crate::end_table::EndTable;
-use crate::holding::{ends_holding, types_of};
+use crate::holding::{ends_holding, types_of, values_in};
 use crate::walking::{found_rules, has_rule, other_ends};
 use pol_bitmap::Set;
 use pol_expand::TypeMap;
@@ -131,7 +131,7 @@ impl<'p> RuleEnds<'p> {
         ensures { IfOk result (λ set. bits_of set ≡ sources_to_any self.now.policy self.now.rules (bits_of targets.now)) }
     {
         let touching = self.types.touching(alloc, targets)?;
-        let to: Vec<u32> = touching.bits().collect(alloc)?;
+        let to = values_in(alloc, &touching)?;
         let table = &self.table;
         let count = self.policy.type_count() as usize + 1;
         let ends = other_ends(alloc, &table.sources, &table.by_target, &to, count)?;
