@@ -3,12 +3,12 @@ use Rattle.std.proofs.Common.{◌≡◌, ℕ, ◌+◌, ◌<◌, ◌≤◌, Bool,
 use Rattle.std.specs.Prelude.{◌==◌, ◌&&◌, ◌||◌, not, slice_index}
 use Rattle.std.specs.List.{All, Contains, filter, flat_map, list_any, range_with_len}
 use Rattle.std.specs.List.Sorted.{IsPermutation}
-use Rattle.std.proofs.lemmas.Bool.{false≢true, cases_lt, eq-eqb, eqb-true, and_parts, and_from}
+use Rattle.std.proofs.lemmas.Bool.{false≢true, cases_lt, eq-eqb, ne_eqb, eqb-true, and_parts, and_from}
 use Rattle.std.proofs.lemmas.List.{get_or_default, get_or_past, map-append}
 use Rattle.std.proofs.lemmas.List.Elements.{All-nil, All-head, All-tail, All-same, All-filter, All-get_or, All-weaker, All-from_get_or, All-contains, Contains-get_or}
 use Rattle.std.proofs.lemmas.List.Sorted.{All-permutation, IsPermutation-refl, IsPermutation-sym, IsPermutation-trans, IsPermutation-map, IsPermutation-append, IsPermutation-filter_both}
 use Rattle.std.proofs.lemmas.List.FromFn.{fill_by_all}
-use Rattle.pol_bitmap.proofs.Elements.{range_holds, kept, keeps, contains_range}
+use Rattle.pol_bitmap.proofs.Elements.{range_holds, kept, keeps, contains_nothing, contains_range}
 use Rattle.pol_file.specs.declared.Parts.{Parts}
 use Rattle.pol_rules.specs.StoredRules.{StoredRule, stored_rules}
 use Rattle.pol_bitmap.specs.declared.Node.{Node}
@@ -20,7 +20,7 @@ use Rattle.rule_order.specs.ListedOrder.{AreRules, in_rule_order}
 use Rattle.value_groups.specs.Marking.{is_among, AreApart}
 use Rattle.value_groups.specs.Grouping.{is_value_at, places_of, group_of, AreGroupsOf}
 use Rattle.rule_ends.specs.ChosenRules.{passes, holds_type, joins, is_rule_from_to, any_joins, rules_between, targets_from, sources_to, sources_to_any}
-use Rattle.rule_ends.specs.EndTables.{IsEnd, holds_any, AreEndsOf, IsTableOf, has_ends, places_to, rules_at, rules_found, any_found, is_other_end}
+use Rattle.rule_ends.specs.EndTables.{IsEnd, has_places, holds_any, AreEndsOf, IsTableOf, has_ends, places_to, rules_at, rules_found, any_found, is_other_end}
 use Rattle.rule_ends.proofs.Anys.{any_gives, any_from, among_contains, contains_among, any_agree, filter_agree}
 use Rattle.rule_ends.proofs.Holders.{touching_within, touching_holds}
 use Rattle.rule_ends.proofs.Ends.{passes_within}
@@ -141,22 +141,24 @@ grouped keys q (e ∷ es) apart =
 -- ---- by one end of the rules
 
 -- Of some rules, the values of one end, grouped, and those of the other end: a test of a rule says that both ends expand to a type.
-pub record AreJoined (policy : Parts) (rules keys others : List ℕ) (groups : List (List ℕ)) (joined held : ℕ → Bool) (y : ℕ) : Type 0 where
+pub record AreJoined (policy : Parts) (rules keys others : List ℕ) (groups other_groups : List (List ℕ)) (joined held : ℕ → Bool) (y : ℕ) : Type 0 where
   pub keys_long : length keys ≡ length rules
   pub others_long : length others ≡ length rules
   pub keys_are : All (IsEnd policy) keys
   pub others_are : All (IsEnd policy) others
   pub groups_are : AreGroupsOf policy.symbols.types.nprim keys groups
+  pub others_grouped : AreGroupsOf policy.symbols.types.nprim others other_groups
   pub law : (place : ℕ) → place < length rules → joined (slice_index rules place) ≡ (held (slice_index keys place) && holds_type policy (slice_index others place) y)
 
 pub by_sources : (policy : Parts) (rules sources targets : List ℕ) (by_source by_target : List (List ℕ)) (source target : ℕ) → IsTableOf policy rules sources targets by_source by_target
-    → AreJoined policy rules sources targets by_source (joins policy source target) (λ value. holds_type policy value source) target
+    → AreJoined policy rules sources targets by_source by_target (joins policy source target) (λ value. holds_type policy value source) target
 by_sources policy rules sources targets by_source by_target source target table = record {
   keys_long = table.ends.sources_long;
   others_long = table.ends.targets_long;
   keys_are = table.ends.sources_are;
   others_are = table.ends.targets_are;
   groups_are = table.sources_grouped;
+  others_grouped = table.targets_grouped;
   law = λ place lt. joins_at policy rules sources targets source target place table.ends lt;
 }
 
@@ -167,29 +169,54 @@ and_comm false true = refl
 and_comm false false = refl
 
 pub by_targets : (policy : Parts) (rules sources targets : List ℕ) (by_source by_target : List (List ℕ)) (source target : ℕ) → IsTableOf policy rules sources targets by_source by_target
-    → AreJoined policy rules targets sources by_target (joins policy source target) (λ value. holds_type policy value target) source
+    → AreJoined policy rules targets sources by_target by_source (joins policy source target) (λ value. holds_type policy value target) source
 by_targets policy rules sources targets by_source by_target source target table = record {
   keys_long = table.ends.targets_long;
   others_long = table.ends.sources_long;
   keys_are = table.ends.targets_are;
   others_are = table.ends.sources_are;
   groups_are = table.targets_grouped;
+  others_grouped = table.sources_grouped;
   law = λ place lt. joins_at policy rules sources targets source target place table.ends lt ∙ and_comm (holds_type policy (slice_index sources place) source) (holds_type policy (slice_index targets place) target);
 }
 
--- Some ends are those that pass a test.
-pub record AreHolders (policy : Parts) (held : ℕ → Bool) (ends : List ℕ) : Type 0 where
-  pub each : (value : ℕ) → IsEnd policy value → is_among ends value ≡ held value
+-- Of the values that are ends of rules, some ends are those that pass a test.
+pub record AreHolders (policy : Parts) (groups : List (List ℕ)) (held : ℕ → Bool) (ends : List ℕ) : Type 0 where
+  pub each : (value : ℕ) → IsEnd policy value → has_places groups value ≡ true → is_among ends value ≡ held value
   pub within : All (λ value. value ≤ policy.symbols.types.nprim) ends
 
 -- the ends that touch some types
-pub touching_ends : (policy : Parts) (map : Expansions) (types : List Node) (values ends : List ℕ) → IsPolicyMap policy map → IsTouching map.expansions map.attributes map.types types values → ends ≡ values → AreHolders policy (holds_any policy (bits_of types)) ends
-touching_ends policy map types values ends is touching same = rw same (record {
-  each = λ value end. touching_holds policy map types values value is touching end;
+pub touching_ends : (policy : Parts) (groups : List (List ℕ)) (map : Expansions) (types : List Node) (values ends : List ℕ) → IsPolicyMap policy map → IsTouching map.expansions map.attributes map.types types values → ends ≡ values → AreHolders policy groups (holds_any policy (bits_of types)) ends
+touching_ends policy groups map types values ends is touching same = rw same (record {
+  each = λ value end places. touching_holds policy map types values value is touching end;
   within = All-weaker (λ value. value < policy.symbols.types.nprim + 1) (λ value. value ≤ policy.symbols.types.nprim) (λ value lt. omega (arith, lt)) values (touching_within policy map types values is touching);
 })
 
-module _ (policy : Parts) (rules keys others : List ℕ) (groups : List (List ℕ)) (joined held : ℕ → Bool) (y : ℕ) (are : AreJoined policy rules keys others groups joined held y) (from : List ℕ) (holders : AreHolders policy held from) where
+not_empty : (xs : List ℕ) (x : ℕ) → Contains xs x → not (length xs == 0) ≡ true
+not_empty [] x there = absurd (contains_nothing x there)
+not_empty (y ∷ ys) x there = ap not (ne_eqb (length (y ∷ ys)) 0 (λ e. omega (arith, e)))
+
+-- the end of a rule has places
+stands_under : (most : ℕ) (keys : List ℕ) (groups : List (List ℕ)) (place : ℕ) → AreGroupsOf most keys groups → place < length keys → slice_index keys place ≤ most → has_places groups (slice_index keys place) ≡ true
+unfolding places_of
+stands_under most keys groups place are lt le =
+    let key = slice_index keys place in
+    let there = keeps (is_value_at keys key) (range_with_len 0 (length keys)) place (contains_range 0 (length keys) place (omega arith) (omega (arith, lt))) (eq-eqb key key refl) in
+    not_empty (group_of groups key) place (subst (λ (ps : List ℕ). Contains ps place) (sym (are.each key le)) there)
+
+module _ (policy : Parts) (rules keys others : List ℕ) (groups other_groups : List (List ℕ)) (joined held : ℕ → Bool) (y : ℕ) (are : AreJoined policy rules keys others groups other_groups joined held y) (from : List ℕ) (holders : AreHolders policy groups held from) where
+  key_held : (place : ℕ) → place < length rules → is_among from (slice_index keys place) ≡ held (slice_index keys place)
+  key_held place lt =
+      let key_lt : place < length keys = omega (arith, lt, are.keys_long) in
+      let is = All-get_or (IsEnd policy) keys place 0 key_lt are.keys_are in
+      holders.each (slice_index keys place) is (stands_under policy.symbols.types.nprim keys groups place are.groups_are key_lt is.within.1)
+
+  other_held : (to : List ℕ) → AreHolders policy other_groups (λ value. holds_type policy value y) to → (place : ℕ) → place < length rules → is_among to (slice_index others place) ≡ holds_type policy (slice_index others place) y
+  other_held to ends place lt =
+      let other_lt : place < length others = omega (arith, lt, are.others_long) in
+      let is = All-get_or (IsEnd policy) others place 0 other_lt are.others_are in
+      ends.each (slice_index others place) is (stands_under policy.symbols.types.nprim others other_groups place are.others_grouped other_lt is.within.1)
+
   places_in : (end place : ℕ) → end ≤ policy.symbols.types.nprim → Contains (group_of groups end) place → (place < length rules) × (slice_index keys place ≡ end)
   unfolding places_of
   places_in end place le there =
@@ -201,8 +228,7 @@ module _ (policy : Parts) (rules keys others : List ℕ) (groups : List (List �
   rule_at : (end place : ℕ) → Contains from end → Contains (group_of groups end) place → holds_type policy (slice_index others place) y ≡ true → list_any joined rules ≡ true
   rule_at end place there in_group holds =
       let p = places_in end place (All-contains (λ value. value ≤ policy.symbols.types.nprim) from end holders.within there) in_group in
-      let is = All-get_or (IsEnd policy) keys place 0 (omega (arith, p.0, are.keys_long)) are.keys_are in
-      let one : held (slice_index keys place) ≡ true = sym (holders.each (slice_index keys place) is) ∙ contains_among from (slice_index keys place) (subst (λ (e : ℕ). Contains from e) (sym p.1) there) in
+      let one : held (slice_index keys place) ≡ true = sym (key_held place p.0) ∙ contains_among from (slice_index keys place) (subst (λ (e : ℕ). Contains from e) (sym p.1) there) in
       any_from joined rules (slice_index rules place) (Contains-get_or rules place 0 p.0) (are.law place p.0 ∙ and_from (held (slice_index keys place)) (holds_type policy (slice_index others place) y) one holds)
 
   -- a rule has such a place
@@ -215,24 +241,22 @@ module _ (policy : Parts) (rules keys others : List ℕ) (groups : List (List �
       let both = and_parts (held (slice_index keys place)) (holds_type policy (slice_index others place) y) (sym (are.law place lt) ∙ ap joined (get_or_default rules place 0 f.0 lt ∙ f.1.2) ∙ f.2) in
       let key_lt : place < length keys = omega (arith, lt, are.keys_long) in
       let is = All-get_or (IsEnd policy) keys place 0 key_lt are.keys_are in
-      let among = among_contains from (slice_index keys place) (holders.each (slice_index keys place) is ∙ both.0) in
+      let among = among_contains from (slice_index keys place) (key_held place lt ∙ both.0) in
       let group = keeps (is_value_at keys (slice_index keys place)) (range_with_len 0 (length keys)) place (contains_range 0 (length keys) place (omega arith) (omega (arith, key_lt))) (eq-eqb (slice_index keys place) (slice_index keys place) refl) in
       (place, lt, among, subst (λ (ps : List ℕ). Contains ps place) (sym (are.groups_are.each (slice_index keys place) is.within.1)) group, both.1)
 
   -- whether there is a rule
-  pub any_is : (to : List ℕ) → AreHolders policy (λ value. holds_type policy value y) to → any_found others (group_of groups) from to ≡ list_any joined rules
+  pub any_is : (to : List ℕ) → AreHolders policy other_groups (λ value. holds_type policy value y) to → any_found others (group_of groups) from to ≡ list_any joined rules
   any_is to ends = same_tests (any_found others (group_of groups) from to) (list_any joined rules)
       (λ e.
       let f = any_gives (λ end. list_any (λ place. is_among to (slice_index others place)) (group_of groups end)) from e in
       let g = any_gives (λ place. is_among to (slice_index others place)) (group_of groups f.0) f.2 in
       let p = places_in f.0 g.0 (All-contains (λ value. value ≤ policy.symbols.types.nprim) from f.0 holders.within f.1) g.1 in
-      let is = All-get_or (IsEnd policy) others g.0 0 (omega (arith, p.0, are.others_long)) are.others_are in
-      rule_at f.0 g.0 f.1 g.1 (sym (ends.each (slice_index others g.0) is) ∙ g.2))
+      rule_at f.0 g.0 f.1 g.1 (sym (other_held to ends g.0 p.0) ∙ g.2))
       (λ e.
       let r = place_of_rule e in
-      let is = All-get_or (IsEnd policy) others r.0 0 (omega (arith, r.1, are.others_long)) are.others_are in
       any_from (λ end. list_any (λ place. is_among to (slice_index others place)) (group_of groups end)) from (slice_index keys r.0) r.2
-      (any_from (λ place. is_among to (slice_index others place)) (group_of groups (slice_index keys r.0)) r.0 r.3 (ends.each (slice_index others r.0) is ∙ r.4)))
+      (any_from (λ place. is_among to (slice_index others place)) (group_of groups (slice_index keys r.0)) r.0 r.3 (other_held to ends r.0 r.1 ∙ r.4)))
 
   -- the types of the other ends
   pub others_hold : (ends : List ℕ) → ((value : ℕ) → is_among ends value ≡ is_other_end others (group_of groups) from value) → list_any (λ end. holds_type policy end y) ends ≡ list_any joined rules
@@ -258,7 +282,7 @@ module _ (policy : Parts) (rules keys others : List ℕ) (groups : List (List �
   flat_map_of_maps r f (e ∷ es) = ap (λ (ys : List ℕ). map r (f e) ++ ys) (flat_map_of_maps r f es) ∙ sym (map-append r (f e) (flat_map f es))
 
   -- the rules that are found
-  pub found_is : (to : List ℕ) → AreApart from → AreHolders policy (λ value. holds_type policy value y) to → IsPermutation (rules_found rules others (group_of groups) from to) (filter joined rules)
+  pub found_is : (to : List ℕ) → AreApart from → AreHolders policy other_groups (λ value. holds_type policy value y) to → IsPermutation (rules_found rules others (group_of groups) from to) (filter joined rules)
   found_is to apart ends =
       let r = slice_index rules in
       let q = λ (place : ℕ). is_among to (slice_index others place) in
@@ -272,9 +296,7 @@ module _ (policy : Parts) (rules keys others : List ℕ) (groups : List (List �
       (All-weaker (λ b. (0 ≤ b) × (b < 0 + length keys)) (λ place. (is_among from (slice_index keys place) && q place) ≡ joined (r place))
       (λ place w.
       let lt : place < length rules = omega (arith, w.1, are.keys_long) in
-      let a = All-get_or (IsEnd policy) keys place 0 (omega (arith, lt, are.keys_long)) are.keys_are in
-      let b = All-get_or (IsEnd policy) others place 0 (omega (arith, lt, are.others_long)) are.others_are in
-      ap (λ (c : Bool). c && q place) (holders.each (slice_index keys place) a) ∙ ap (λ (c : Bool). held (slice_index keys place) && c) (ends.each (slice_index others place) b) ∙ sym (are.law place lt))
+      ap (λ (c : Bool). c && q place) (key_held place lt) ∙ ap (λ (c : Bool). held (slice_index keys place) && c) (other_held to ends place lt) ∙ sym (are.law place lt))
       range (range_holds 0 (length keys))) in
       let all : map r (filter (λ place. joined (r place)) range) ≡ filter joined rules =
       sym (filter_map_is r joined range) ∙ ap (filter joined) (ap (λ (n : ℕ). map r (range_with_len 0 n)) are.keys_long ∙ sym (by_places rules)) in
@@ -315,34 +337,34 @@ found_are_rules policy rules found kept are joined is moved =
     All-permutation P kept found (IsPermutation-sym found kept moved) (All-same P kept (filter joined rules) is (All-filter joined P rules are))
 
 pub between_is : (policy : Parts) (rules sources targets : List ℕ) (by_source by_target : List (List ℕ)) (source target : ℕ) (from to found : List ℕ) → ((xs ys : List ℕ) → AreRules policy xs → IsPermutation xs ys → in_rule_order policy xs ≡ in_rule_order policy ys) → IsTableOf policy rules sources targets by_source by_target → AreApart from
-    → AreHolders policy (λ value. holds_type policy value source) from → AreHolders policy (λ value. holds_type policy value target) to → found ≡ rules_found rules targets (group_of by_source) from to → AreRules policy found × (in_rule_order policy found ≡ rules_between policy rules source target)
+    → AreHolders policy by_source (λ value. holds_type policy value source) from → AreHolders policy by_target (λ value. holds_type policy value target) to → found ≡ rules_found rules targets (group_of by_source) from to → AreRules policy found × (in_rule_order policy found ≡ rules_between policy rules source target)
 between_is policy rules sources targets by_source by_target source target from to found settled table apart holders ends is =
     let joined = joins policy source target in
     let moved : IsPermutation found (filter joined rules) =
     subst (λ (xs : List ℕ). IsPermutation xs (filter joined rules)) (sym is)
-    (found_is policy rules sources targets by_source joined (λ value. holds_type policy value source) target (by_sources policy rules sources targets by_source by_target source target table) from holders to apart ends) in
+    (found_is policy rules sources targets by_source by_target joined (λ value. holds_type policy value source) target (by_sources policy rules sources targets by_source by_target source target table) from holders to apart ends) in
     let own = are_rules policy rules sources targets table.ends in
     let found_are = found_are_rules policy rules found (filter joined rules) own joined refl moved in
     (found_are, settled found (filter joined rules) found_are moved)
 
 -- the types of the other ends, where the sources are given, and where the targets are
-pub targets_are : (policy : Parts) (rules sources targets : List ℕ) (by_source by_target : List (List ℕ)) (source : ℕ) (from ends : List ℕ) → IsTableOf policy rules sources targets by_source by_target → AreHolders policy (λ value. holds_type policy value source) from
+pub targets_are : (policy : Parts) (rules sources targets : List ℕ) (by_source by_target : List (List ℕ)) (source : ℕ) (from ends : List ℕ) → IsTableOf policy rules sources targets by_source by_target → AreHolders policy by_source (λ value. holds_type policy value source) from
     → ((value : ℕ) → is_among ends value ≡ is_other_end targets (group_of by_source) from value)
     → filter (λ type. list_any (λ end. holds_type policy end type) ends) (range_with_len 1 policy.symbols.types.nprim) ≡ targets_from policy rules source
 unfolding targets_from
 targets_are policy rules sources targets by_source by_target source from ends table holders say =
     filter_agree (λ type. list_any (λ end. holds_type policy end type) ends) (any_joins policy rules source) (range_with_len 1 policy.symbols.types.nprim)
     (λ k d lt. let type = get_or (range_with_len 1 policy.symbols.types.nprim) k d in
-    others_hold policy rules sources targets by_source (joins policy source type) (λ value. holds_type policy value source) type (by_sources policy rules sources targets by_source by_target source type table) from holders ends say)
+    others_hold policy rules sources targets by_source by_target (joins policy source type) (λ value. holds_type policy value source) type (by_sources policy rules sources targets by_source by_target source type table) from holders ends say)
 
-pub sources_are : (policy : Parts) (rules sources targets : List ℕ) (by_source by_target : List (List ℕ)) (target : ℕ) (from ends : List ℕ) → IsTableOf policy rules sources targets by_source by_target → AreHolders policy (λ value. holds_type policy value target) from
+pub sources_are : (policy : Parts) (rules sources targets : List ℕ) (by_source by_target : List (List ℕ)) (target : ℕ) (from ends : List ℕ) → IsTableOf policy rules sources targets by_source by_target → AreHolders policy by_target (λ value. holds_type policy value target) from
     → ((value : ℕ) → is_among ends value ≡ is_other_end sources (group_of by_target) from value)
     → filter (λ type. list_any (λ end. holds_type policy end type) ends) (range_with_len 1 policy.symbols.types.nprim) ≡ sources_to policy rules target
 unfolding sources_to
 sources_are policy rules sources targets by_source by_target target from ends table holders say =
     filter_agree (λ type. list_any (λ end. holds_type policy end type) ends) (λ source. any_joins policy rules source target) (range_with_len 1 policy.symbols.types.nprim)
     (λ k d lt. let type = get_or (range_with_len 1 policy.symbols.types.nprim) k d in
-    others_hold policy rules targets sources by_target (joins policy type target) (λ value. holds_type policy value target) type (by_targets policy rules sources targets by_source by_target type target table) from holders ends say)
+    others_hold policy rules targets sources by_target by_source (joins policy type target) (λ value. holds_type policy value target) type (by_targets policy rules sources targets by_source by_target type target table) from holders ends say)
 
 -- ---- the sources of some targets
 
@@ -352,13 +374,14 @@ and_any false p [] = refl
 and_any false p (x ∷ xs) = and_any false p xs ∙ and_comm (list_any p xs) false ∙ and_comm false (p x || list_any p xs)
 
 pub by_any_target : (policy : Parts) (rules sources targets : List ℕ) (by_source by_target : List (List ℕ)) (source : ℕ) (nodes : List ℕ) → IsTableOf policy rules sources targets by_source by_target
-    → AreJoined policy rules targets sources by_target (λ number. list_any (λ target. joins policy source target number) nodes) (holds_any policy nodes) source
+    → AreJoined policy rules targets sources by_target by_source (λ number. list_any (λ target. joins policy source target number) nodes) (holds_any policy nodes) source
 by_any_target policy rules sources targets by_source by_target source nodes table = record {
   keys_long = table.ends.targets_long;
   others_long = table.ends.sources_long;
   keys_are = table.ends.targets_are;
   others_are = table.ends.sources_are;
   groups_are = table.targets_grouped;
+  others_grouped = table.sources_grouped;
   law = λ place lt.
       any_agree (λ target. joins policy source target (slice_index rules place)) (λ target. holds_type policy (slice_index sources place) source && holds_type policy (slice_index targets place) target) nodes
       (λ k d in_nodes. joins_at policy rules sources targets source (get_or nodes k d) place table.ends lt)
@@ -376,12 +399,12 @@ any_swap test xs ys = same_tests (list_any (λ x. list_any (test x) ys) xs) (lis
     let g = any_gives (λ x. test x f.0) xs f.2 in
     any_from (λ x. list_any (test x) ys) xs g.0 g.1 (any_from (test g.0) ys f.0 f.1 g.2))
 
-pub any_sources_are : (policy : Parts) (rules sources targets : List ℕ) (by_source by_target : List (List ℕ)) (nodes from ends : List ℕ) → IsTableOf policy rules sources targets by_source by_target → AreHolders policy (holds_any policy nodes) from
+pub any_sources_are : (policy : Parts) (rules sources targets : List ℕ) (by_source by_target : List (List ℕ)) (nodes from ends : List ℕ) → IsTableOf policy rules sources targets by_source by_target → AreHolders policy by_target (holds_any policy nodes) from
     → ((value : ℕ) → is_among ends value ≡ is_other_end sources (group_of by_target) from value)
     → filter (λ type. list_any (λ end. holds_type policy end type) ends) (range_with_len 1 policy.symbols.types.nprim) ≡ sources_to_any policy rules nodes
 unfolding sources_to_any
 any_sources_are policy rules sources targets by_source by_target nodes from ends table holders say =
     filter_agree (λ type. list_any (λ end. holds_type policy end type) ends) (λ source. list_any (any_joins policy rules source) nodes) (range_with_len 1 policy.symbols.types.nprim)
     (λ k d lt. let type = get_or (range_with_len 1 policy.symbols.types.nprim) k d in
-    others_hold policy rules targets sources by_target (λ number. list_any (λ target. joins policy type target number) nodes) (holds_any policy nodes) type (by_any_target policy rules sources targets by_source by_target type nodes table) from holders ends say
+    others_hold policy rules targets sources by_target by_source (λ number. list_any (λ target. joins policy type target number) nodes) (holds_any policy nodes) type (by_any_target policy rules sources targets by_source by_target type nodes table) from holders ends say
     ∙ any_swap (λ number target. joins policy type target number) rules nodes)

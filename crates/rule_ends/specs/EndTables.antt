@@ -1,5 +1,5 @@
 -- The ends of chosen rules, by the places of the rules in their list. It serves the code alone.
-use Rattle.std.specs.Prelude.{◌≡◌, ℕ, ◌+◌, ◌<◌, ◌==◌, nat_le, nat_lt, ◌&&◌, Bool, true, List, length, map, is_some, slice_index}
+use Rattle.std.specs.Prelude.{◌≡◌, ℕ, ◌+◌, ◌<◌, ◌==◌, nat_le, nat_lt, ◌&&◌, Bool, true, List, length, map, not, is_some, slice_index}
 use Rattle.std.specs.List.{All, filter, flat_map, list_any}
 use Rattle.pol_datums.specs.declared.Flavour.TheVariants.{Plain, Attribute}
 use Rattle.pol_symbols.specs.PolicySymbols.{flavour_in}
@@ -8,7 +8,7 @@ use Rattle.pol_file.specs.TypeValues.{IsTypeValue}
 use Rattle.pol_rules.specs.StoredRules.{StoredRule}
 use Rattle.pol_expand.specs.PolicyMap.{has_flavour}
 use Rattle.value_groups.specs.Marking.{is_among}
-use Rattle.value_groups.specs.Grouping.{AreGroupsOf}
+use Rattle.value_groups.specs.Grouping.{AreGroupsOf, group_of}
 use Rattle.rule_ends.specs.ChosenRules.{holds_type, rule_passes}
 
 -- a value is that of a type or of an attribute
@@ -54,9 +54,13 @@ is_other_end others groups from value = list_any (λ end. list_any (λ place. sl
 abbrev pub is_type_value : Parts → ℕ → Bool
 is_type_value policy value = nat_le 1 value && nat_le value policy.symbols.types.nprim && has_flavour policy.symbols Plain value
 
--- a bit of a row stands for a value, which is that of an attribute
-abbrev pub is_attribute_bit : Parts → ℕ → ℕ → Bool
-is_attribute_bit policy value bit = nat_lt bit policy.symbols.types.nprim && has_flavour policy.symbols Attribute (bit + 1) && (bit + 1 == value)
+-- a rule has a value as its end
+abbrev pub has_places : List (List ℕ) → ℕ → Bool
+has_places groups value = not (length (group_of groups value) == 0)
+
+-- a bit of a row stands for a value, which is that of an attribute that rules have
+abbrev pub is_attribute_bit : Parts → List (List ℕ) → ℕ → ℕ → Bool
+is_attribute_bit policy groups value bit = nat_lt bit policy.symbols.types.nprim && has_places groups (bit + 1) && has_flavour policy.symbols Attribute (bit + 1) && (bit + 1 == value)
 
 -- a value expands to one of some types
 abbrev pub holds_any : Parts → List ℕ → ℕ → Bool

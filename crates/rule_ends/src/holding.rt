@@ -6,19 +6,25 @@ ghost use Rattle.pol_datums.specs.declared.Flavour.TheVariants.{Plain, Attribute
 ghost use Rattle.pol_expand.specs.PolicyMap.{has_flavour, row_in, expand, IsPolicyMap};
 ghost use Rattle.value_groups.specs.Marking.{is_among};
 ghost use Rattle.rule_ends.specs.ChosenRules.{holds_type};
-ghost use Rattle.rule_ends.specs.EndTables.{IsEnd, is_type_value, is_attribute_bit};
+ghost use Rattle.rule_ends.specs.EndTables.{IsEnd, has_places, is_type_value, is_attribute_bit};
 
 use pol_bitmap::Set;
 use pol_datums::Flavour;
 use pol_expand::{TypeMap, is_flavour};
 use pol_read::Policy;
 use std::alloc::{AllocError, Global};
-use value_groups::{DenseSet, Marked};
+use value_groups::{DenseSet, Groups, Marked};
 
-/// The types and attributes that expand to a type among others: the type itself, and the attributes of its row.
-pub fn ends_holding(alloc: Global, policy: &Policy<'_>, node: u32) -> Result<Marked, AllocError>
+/// The types and attributes that rules have as their ends and that expand to a type among others: the type itself, and attributes of
+/// its row.
+pub fn ends_holding(
+    alloc: Global,
+    policy: &Policy<'_>,
+    groups: &Groups,
+    node: u32,
+) -> Result<Marked, AllocError>
     ensures count { IfOk result (λ ends. ends.count ≡ policy.now.symbols.types.nprim + 1) }
-    ensures each { IfOk result (λ ends. (value : ℕ) → IsEnd policy.now value → is_among ends.values value ≡ holds_type policy.now value node) }
+    ensures each { IfOk result (λ ends. (value : ℕ) → IsEnd policy.now value → has_places groups.now value ≡ true → is_among ends.values value ≡ holds_type policy.now value node) }
     ensures within { IfOk result (λ ends. All (λ value. value ≤ policy.now.symbols.types.nprim) ends.values) }
 {
     let mut ends = Marked::new(alloc, policy.type_count() as usize + 1)?;
@@ -26,7 +32,7 @@ pub fn ends_holding(alloc: Global, policy: &Policy<'_>, node: u32) -> Result<Mar
         return Ok(ends);
     }
     ends.add(node)?;
-    add_attributes(policy, node, &mut ends)?;
+    add_attributes(policy, groups, node, &mut ends)?;
     // the clause of the values says that they are below the count
     let _ = ends.values();
     Ok(ends)
@@ -41,27 +47,38 @@ fn is_type(policy: &Policy<'_>, value: u32) -> bool
         && is_flavour(Flavour::Plain, policy.symbols().flavour(value))
 }
 
-// Adds the attributes of the row of a type.
-fn add_attributes(policy: &Policy<'_>, node: u32, ends: &mut Marked) -> Result<(), AllocError>
+// Adds the attributes of the row of a type that rules have.
+fn add_attributes(
+    policy: &Policy<'_>,
+    groups: &Groups,
+    node: u32,
+    ends: &mut Marked,
+) -> Result<(), AllocError>
     requires least { 1 ≤ node }
     requires most { node ≤ policy.now.symbols.types.nprim }
     requires count { ends.old.count ≡ policy.now.symbols.types.nprim + 1 }
     ensures count { ends.new.count ≡ ends.old.count }
-    ensures each { OnOk result ((value : ℕ) → is_among ends.new.values value ≡ (is_among ends.old.values value || list_any (is_attribute_bit policy.now value) (bits_of (row_in policy.now node)))) }
+    ensures each { OnOk result ((value : ℕ) → is_among ends.new.values value ≡ (is_among ends.old.values value || list_any (is_attribute_bit policy.now groups.now value) (bits_of (row_in policy.now node)))) }
 {
     for bit in policy.row(node).bits() {
-        add_attribute(policy, bit, ends)?;
+        add_attribute(policy, groups, bit, ends)?;
     }
     Ok(())
 }
 
-// Adds the attribute that a bit stands for, if it stands for one.
-fn add_attribute(policy: &Policy<'_>, bit: u32, ends: &mut Marked) -> Result<(), AllocError>
+// Adds the attribute that a bit stands for, if it stands for one that rules have.
+fn add_attribute(
+    policy: &Policy<'_>,
+    groups: &Groups,
+    bit: u32,
+    ends: &mut Marked,
+) -> Result<(), AllocError>
     requires count { ends.old.count ≡ policy.now.symbols.types.nprim + 1 }
     ensures count { ends.new.count ≡ ends.old.count }
-    ensures each { OnOk result ((value : ℕ) → is_among ends.new.values value ≡ (is_among ends.old.values value || is_attribute_bit policy.now value bit)) }
+    ensures each { OnOk result ((value : ℕ) → is_among ends.new.values value ≡ (is_among ends.old.values value || is_attribute_bit policy.now groups.now value bit)) }
 {
     if bit < policy.type_count()
+        && !groups.places(bit + 1).is_empty()
         && is_flavour(Flavour::Attribute, policy.symbols().flavour(bit + 1))
     {
         ends.add(bit + 1)?;

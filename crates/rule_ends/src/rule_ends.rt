@@ -74,9 +74,9 @@ impl<'p> RuleEnds<'p> {
         ensures rules { IfOk result (λ found. AreRules self.now.policy found.items) }
     {
         rules_have_one_order(self.policy);
-        let from = ends_holding(alloc, self.policy, source)?;
-        let to = ends_holding(alloc, self.policy, target)?;
         let table = &self.table;
+        let from = ends_holding(alloc, self.policy, &table.by_source, source)?;
+        let to = ends_holding(alloc, self.policy, &table.by_target, target)?;
         let found = found_rules(
             alloc,
             &table.rules,
@@ -92,9 +92,9 @@ impl<'p> RuleEnds<'p> {
     pub fn has_between(&self, alloc: Global, source: u32, target: u32) -> Result<bool, AllocError>
         ensures { IfOk result (λ found. found ≡ any_joins self.now.policy self.now.rules source target) }
     {
-        let from = ends_holding(alloc, self.policy, source)?;
-        let to = ends_holding(alloc, self.policy, target)?;
         let table = &self.table;
+        let from = ends_holding(alloc, self.policy, &table.by_source, source)?;
+        let to = ends_holding(alloc, self.policy, &table.by_target, target)?;
         Ok(has_rule(&table.targets, &table.by_source, from.values(), &to))
     }
 
@@ -102,8 +102,8 @@ impl<'p> RuleEnds<'p> {
     pub fn targets_of(&self, alloc: Global, source: u32) -> Result<Set, AllocError>
         ensures { IfOk result (λ set. bits_of set ≡ targets_from self.now.policy self.now.rules source) }
     {
-        let from = ends_holding(alloc, self.policy, source)?;
         let table = &self.table;
+        let from = ends_holding(alloc, self.policy, &table.by_source, source)?;
         let count = self.policy.type_count() as usize + 1;
         let ends = other_ends(
             alloc,
@@ -119,8 +119,8 @@ impl<'p> RuleEnds<'p> {
     pub fn sources_of(&self, alloc: Global, target: u32) -> Result<Set, AllocError>
         ensures { IfOk result (λ set. bits_of set ≡ sources_to self.now.policy self.now.rules target) }
     {
-        let to = ends_holding(alloc, self.policy, target)?;
         let table = &self.table;
+        let to = ends_holding(alloc, self.policy, &table.by_target, target)?;
         let count = self.policy.type_count() as usize + 1;
         let ends = other_ends(alloc, &table.sources, &table.by_target, to.values(), count)?;
         types_of(alloc, self.policy, self.types, ends.values())

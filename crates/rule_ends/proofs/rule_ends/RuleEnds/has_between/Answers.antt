@@ -23,6 +23,6 @@ returns c =
     c.has_rule.ensures
     ∙ ap (λ (others : List ℕ). any_found others (group_of table.by_source) c.values.result.now to) c.deref.ensures.value
     ∙ ap (λ (ends : List ℕ). any_found targets (group_of table.by_source) ends to) c.values.ensures.values
-    ∙ any_is policy rules sources targets table.by_source (joins policy c.args.source c.args.target) (λ value. holds_type policy value c.args.source) c.args.target (by_sources policy rules sources targets table.by_source table.by_target c.args.source c.args.target c.self.invariant.1) from
+    ∙ any_is policy rules sources targets table.by_source table.by_target (joins policy c.args.source c.args.target) (λ value. holds_type policy value c.args.source) c.args.target (by_sources policy rules sources targets table.by_source table.by_target c.args.source c.args.target c.self.invariant.1) from
     (record { each = c.in_ok-from.ensures.each; within = c.in_ok-from.ensures.within }) to (record { each = c.in_ok-to.ensures.each; within = c.in_ok-to.ensures.within })
     ∙ ap (λ (r : ChosenRules). any_joins r.policy r.rules c.args.source c.args.target) c.self.view_is

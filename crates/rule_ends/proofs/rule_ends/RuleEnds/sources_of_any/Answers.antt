@@ -33,6 +33,6 @@ returns c =
     let ends = c.in_ok-ends.ends.values in
     subst (λ (xs : List ℕ). IfOk c.types_of.result (λ (set : List Node). bits_of set ≡ xs))
     (ap (λ (es : List ℕ). filter (λ type. list_any (λ end. holds_type policy end type) es) (range_with_len 1 policy.symbols.types.nprim)) c.values.ensures.values
-    ∙ any_sources_are policy table.rules.items table.sources.items table.targets.items table.by_source table.by_target (bits_of c.args.targets.now) from ends c.self.invariant.1 (touching_ends policy c.self.inside.types.now c.args.targets.now (bits_of c.in_ok-touching.touching) from c.self.invariant.0 c.in_ok-touching.ensures c.in_ok-to.ensures)
+    ∙ any_sources_are policy table.rules.items table.sources.items table.targets.items table.by_source table.by_target (bits_of c.args.targets.now) from ends c.self.invariant.1 (touching_ends policy table.by_target c.self.inside.types.now c.args.targets.now (bits_of c.in_ok-touching.touching) from c.self.invariant.0 c.in_ok-touching.ensures c.in_ok-to.ensures)
     (λ value. c.in_ok-ends.ensures value ∙ ap (λ (others : List ℕ). is_other_end others (group_of table.by_target) c.deref-2.result.now value) c.deref.ensures.value ∙ ap (λ (f : List ℕ). is_other_end table.sources.items (group_of table.by_target) f value) c.deref-2.ensures.value)
     ∙ ap (λ (r : ChosenRules). sources_to_any r.policy r.rules (bits_of c.args.targets.now)) c.self.view_is) c.types_of.ensures
