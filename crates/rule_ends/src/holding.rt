@@ -1,9 +1,8 @@
 // The stored ends that hold a type, by its row in the map of types, and the types that stored ends expand to.
-ghost use Rattle.std.specs.Prelude.{◌≡◌, ◌+◌, ◌<◌, ◌≤◌, ◌||◌, ◌&&◌, ℕ, true, IfOk, OnOk, OnErr};
+ghost use Rattle.std.specs.Prelude.{◌≡◌, ◌+◌, ◌≤◌, ◌||◌, ℕ, true, IfOk, OnOk};
 ghost use Rattle.std.specs.List.{All, filter, list_any, range_with_len};
 ghost use Rattle.pol_bitmap.specs.Nodes.{bits_of};
-ghost use Rattle.pol_datums.specs.declared.Flavour.TheVariants.{Plain, Attribute};
-ghost use Rattle.pol_expand.specs.PolicyMap.{has_flavour, row_in, expand, IsPolicyMap};
+ghost use Rattle.pol_expand.specs.PolicyMap.{row_in, IsPolicyMap};
 ghost use Rattle.value_groups.specs.Marking.{is_among};
 ghost use Rattle.rule_ends.specs.ChosenRules.{holds_type};
 ghost use Rattle.rule_ends.specs.EndTables.{IsEnd, has_places, is_type_value, is_attribute_bit};
