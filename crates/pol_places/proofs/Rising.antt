@@ -1,18 +1,22 @@
 -- Strictly rising lists, and the bits of a set by their index.
-use Rattle.std.proofs.Common.{◌≡◌, ℕ, zero, suc, ◌+◌, ◌-◌, ◌^◌, ◌<◌, ◌≤◌, List, length, get_or, refl, ap, subst, ◌∙◌, arith, Option, Some, None, slice_get, IfSome, IfNone, inl, inr}
+use Rattle.std.proofs.Common.{◌≡◌, ℕ, zero, suc, ◌+◌, ◌-◌, ◌/◌, ◌%◌, ◌^◌, ◌<◌, ◌≤◌, List, [], ◌∷◌, length, take, get_or, refl, ap, subst, ◌∙◌, arith, Option, Some, None, slice_get, IfSome, IfNone, inl, inr}
 use Rattle.std.specs.Prelude.{slice_index}
-use Rattle.std.specs.List.{All, Contains}
+use Rattle.std.specs.Int.{trailing_zeros, w64}
+use Rattle.std.specs.List.{All, AllByRecursion, Contains}
 use Rattle.std.specs.List.Sorted.{IsStrictlyIncreasing}
 use Rattle.std.specs.Iterator.{SkipsThenYields, YieldsFirst}
 use Rattle.std.specs.Option.{option_map}
 use Rattle.std.proofs.lemmas.Iterator.Consumers.{nth_from_yields_List, YieldsList-from_first}
 use Rattle.std.proofs.lemmas.Bool.{cases_lt}
-use Rattle.std.proofs.lemmas.List.Elements.{All-contains, Contains-get_or}
+use Rattle.std.proofs.lemmas.List.Elements.{All-append, All-contains, All-nil, All-weaker, Contains-get_or}
 use Rattle.std.proofs.lemmas.Option.{slice_get_within, get_or_from_slice_get, slice_get-get_or, slice_get_past}
 use Rattle.pol_bitmap.specs.declared.Node.{Node}
-use Rattle.pol_bitmap.specs.Nodes.{bits_of, IsLeastFrom}
+use Rattle.pol_bitmap.specs.Bitmap.{NodeFits}
+use Rattle.pol_bitmap.specs.Nodes.{bits_of, node_bits, IsLeastFrom, IsRisingFrom}
 use Rattle.pol_bitmap.specs.Sets.{IsSet}
-use Rattle.pol_bitmap.proofs.BitLists.{bits_increasing}
+use Rattle.pol_bitmap.proofs.BitLists.{bits_increasing, node_bits_within}
+use Rattle.pol_bitmap.proofs.NodeBits.{least_at, rising_start}
+use Rattle.pol_bitmap.proofs.Shifts.{least_shifted, lowest_set}
 use Rattle.pol_bitmap.proofs.SetLaws.{set_bits_fit}
 
 rises_by : (xs : List ℕ) → IsStrictlyIncreasing xs → (i d : ℕ) → i + d < length xs → slice_index xs i + d ≤ slice_index xs (i + d)
@@ -92,6 +96,53 @@ no_bit_after ns set bit i high is = elim (cases_lt (i + 1) (length (bits_of ns))
       absurd (omega (arith, bits_increasing 0 ns set.0 i lt, below, here, high))
   | inr le ↦ slice_get_past (bits_of ns) (i + 1) le
 ]
+
+-- ---- the node that a bit stands in
+
+start_above : (base : ℕ) (ns : List Node) (i : ℕ) (n : Node) → IsRisingFrom base ns → slice_get ns i ≡ Some n → base ≤ n.start
+start_above base [] i n h e = absurd cc
+start_above base (m ∷ ms) zero n h e = let same : m ≡ n = cc in subst (λ (x : Node). base ≤ x.start) same h.0
+start_above base (m ∷ ms) (suc i) n h e = let rest = start_above (m.start + 64) ms i n h.3 e in omega (arith, rest, h.0)
+
+-- the nodes before one have lower bits
+lower_before : (base bit : ℕ) (ns : List Node) (i : ℕ) (n : Node) → IsRisingFrom base ns → slice_get ns i ≡ Some n → n.start ≤ bit → All (λ c. c < bit) (bits_of (take i ns))
+lower_before base bit ns zero n h e le = All-nil (λ (c : ℕ). c < bit)
+lower_before base bit [] (suc i) n h e le = absurd cc
+lower_before base bit (m ∷ ms) (suc i) n h e le =
+    let above = start_above (m.start + 64) ms i n h.3 e in
+    All-append (λ (c : ℕ). c < bit) (node_bits m) (bits_of (take i ms))
+    (All-weaker (λ b. (m.start ≤ b) × (b < m.start + 64)) (λ c. c < bit) (λ b w. let below : b < m.start + 64 = w.1 in omega (arith, below, above, le)) (node_bits m) (node_bits_within m))
+    (lower_before (m.start + 64) bit ms i n h.3 e le)
+
+node_fits : (ns : List Node) (i : ℕ) (n : Node) → AllByRecursion NodeFits ns → slice_get ns i ≡ Some n → NodeFits n
+node_fits [] i n h e = absurd cc
+node_fits (m ∷ ms) zero n h e = let same : m ≡ n = cc in subst NodeFits same h.0
+node_fits (m ∷ ms) (suc i) n h e = node_fits ms i n h.1 e
+
+-- A bit's node, and what its map has from the bit on.
+pub record StandsIn (ns : List Node) (bit i : ℕ) (n : Node) : Type 0 where
+  pub there : slice_get ns i ≡ Some n
+  pub start : n.start ≡ bit - bit % 64
+  pub left : 0 < n.map / 2 ^ (bit % 64)
+
+-- The least bit from there on is that of the lowest one that is left, and fits.
+pub close_fits : (ns : List Node) (bit i : ℕ) (n : Node) → IsSet ns → StandsIn ns bit i n → bit + trailing_zeros w64 (n.map / 2 ^ (bit % 64)) < 2 ^ 32
+close_fits ns bit i n set h =
+    let fits = node_fits ns i n set.1 h.there in
+    let whole = rising_start 0 ns i n set.0 h.there in
+    let low = (lowest_set n.map (bit % 64) fits.1 h.left).within in
+    omega (arith, fits.0, whole, low, h.start)
+
+pub close_is : (ns : List Node) (bit i : ℕ) (n : Node) → IsSet ns → StandsIn ns bit i n → IsLeastFrom (bits_of ns) bit (bit + trailing_zeros w64 (n.map / 2 ^ (bit % 64)))
+close_is ns bit i n set h =
+    let fits = node_fits ns i n set.1 h.there in
+    let skipped : bit - n.start ≡ bit % 64 = omega (arith, h.start) in
+    let at : n.start + bit % 64 ≡ bit = omega (arith, h.start) in
+    let below : n.start ≤ bit = omega (arith, h.start) in
+    let least = least_shifted n bit fits.1 (rw skipped h.left) in
+    let found = subst (λ (k : ℕ). IsLeastFrom (node_bits n) bit (n.start + k + trailing_zeros w64 (n.map / 2 ^ k))) skipped least in
+    let here = subst (λ (k : ℕ). IsLeastFrom (node_bits n) bit (k + trailing_zeros w64 (n.map / 2 ^ (bit % 64)))) at found in
+    least_at 0 bit _ ns i n set.0 h.there (lower_before 0 bit ns i n set.0 h.there below) here
 
 -- A set has no more bits than there are numbers of 32 bits.
 pub bits_few : (ns : List Node) → IsSet ns → length (bits_of ns) ≤ 2 ^ 32
