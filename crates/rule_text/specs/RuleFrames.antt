@@ -1,8 +1,21 @@
--- A rule's text with its ends left open: what serves the code alone.
+-- A rule's line with its ends left open: what serves the code alone.
 use Rattle.std.specs.Prelude.{ℕ, List, ◌++◌, codes}
+use Rattle.pol_mls.specs.MlsTexts.{name_of}
+use Rattle.pol_symbols.specs.PolicySymbols.{name_in}
+use Rattle.pol_symbols.specs.declared.Symbols.{Symbols}
+use Rattle.pol_rules.specs.RuleOrder.{source_table, target_table}
+use Rattle.pol_rules.specs.declared.rule.RuleKind.{RuleKind}
 use Rattle.rule_text.specs.declared.rule_frame.RuleFrame.{RuleFrame}
-use Rattle.rule_text.specs.RuleTexts.{keyword, ends_text}
+use Rattle.rule_text.specs.RuleTexts.{keyword}
 
--- the text with these values as its ends
-unfoldable pub frame_text : RuleFrame → ℕ → ℕ → List ℕ
-frame_text frame source target = keyword frame.kind ++ codes " " ++ ends_text frame.symbols.now frame.kind source target ++ frame.rest.items
+-- what stands before a target: the first word, and a source by its name
+unfoldable pub head_text : Symbols → RuleKind → ℕ → List ℕ
+head_text symbols kind source = keyword kind ++ codes " " ++ name_of (name_in symbols) (source_table kind) source ++ codes " "
+
+-- what stands before the targets of a source
+unfoldable pub frame_head : RuleFrame → ℕ → List ℕ
+frame_head frame source = head_text frame.symbols.now frame.kind source
+
+-- the line with this before its target, and with this target
+unfoldable pub frame_line : RuleFrame → List ℕ → ℕ → List ℕ
+frame_line frame head target = head ++ name_of (name_in frame.symbols.now) (target_table frame.kind) target ++ frame.rest.items

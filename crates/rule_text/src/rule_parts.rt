@@ -1,12 +1,13 @@
 //! The parts of a rule's text.
 
 ghost use Rattle.std.specs.Prelude.{◌≡◌, ◌++◌, OnOk, option_map};
-ghost use Rattle.pol_mls.specs.MlsTexts.{range_text};
+ghost use Rattle.pol_mls.specs.MlsTexts.{name_of, range_text};
 ghost use Rattle.pol_symbols.specs.PolicySymbols.{name_in, permissions_in_class};
 ghost use Rattle.pol_rules.specs.RuleOrder.{source_table, target_table};
 ghost use Rattle.pol_rules.specs.DeclaredRules.{default_table};
 ghost use Rattle.rule_text.specs.ClassPermissions.{ShowsPart};
-ghost use Rattle.rule_text.specs.RuleTexts.{keyword, ends_text, class_text, part_text, file_name_text};
+ghost use Rattle.rule_text.specs.RuleFrames.{head_text};
+ghost use Rattle.rule_text.specs.RuleTexts.{keyword, class_text, part_text, file_name_text};
 
 use crate::ioctl_texts::push_ioctl_text;
 use crate::shown_names::push_shown;
@@ -18,9 +19,9 @@ use pol_symbols::Symbols;
 use pol_texts::push_name_text;
 use std::alloc::AllocError;
 
-/// The first word of the rules of a kind.
+// The first word of the rules of a kind.
 #[tactic(auto, unfolding(crate::specs::RuleTexts::keyword))]
-pub(crate) fn keyword(kind: RuleKind) -> &'static [u8]
+fn keyword(kind: RuleKind) -> &'static [u8]
     ensures { result.now ≡ keyword kind }
 {
     match kind {
@@ -68,19 +69,31 @@ fn default_table(kind: RuleKind) -> TableKind
     }
 }
 
-/// Adds the names of the two ends of a rule of a kind.
-#[tactic(auto, unfolding(crate::specs::RuleTexts::ends_text))]
-pub(crate) fn push_ends(
+/// Adds the first word of the rules of a kind and a source, each with the space behind it.
+#[tactic(auto, unfolding(crate::specs::RuleFrames::head_text))]
+pub(crate) fn push_head(
     buffer: &mut Vec<u8>,
     symbols: &Symbols<'_>,
     kind: RuleKind,
     source: u32,
+) -> Result<(), AllocError>
+    ensures { OnOk result (buffer.new.items ≡ buffer.old.items ++ head_text symbols.now kind source) }
+{
+    buffer.extend_from_slice(keyword(kind))?;
+    buffer.push(b' ')?;
+    push_name(buffer, source_table(kind), source, symbols)?;
+    Ok(buffer.push(b' ')?)
+}
+
+/// Adds the name of a target of a rule of a kind.
+pub(crate) fn push_target(
+    buffer: &mut Vec<u8>,
+    symbols: &Symbols<'_>,
+    kind: RuleKind,
     target: u32,
 ) -> Result<(), AllocError>
-    ensures { OnOk result (buffer.new.items ≡ buffer.old.items ++ ends_text symbols.now kind source target) }
+    ensures { OnOk result (buffer.new.items ≡ buffer.old.items ++ name_of (name_in symbols.now) (target_table kind) target) }
 {
-    push_name(buffer, source_table(kind), source, symbols)?;
-    buffer.push(b' ')?;
     push_name(buffer, target_table(kind), target, symbols)
 }
 

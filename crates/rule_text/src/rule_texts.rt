@@ -1,10 +1,10 @@
 //! The texts of many rules of a policy.
 
-ghost use Rattle.std.specs.Prelude.{◌≡◌, ◌<◌, ◌++◌, ℕ, OnOk, IfOk, length};
+ghost use Rattle.std.specs.Prelude.{◌≡◌, ◌<◌, ◌++◌, ℕ, OnOk, IfOk, codes, length};
 ghost use Rattle.pol_symbols.specs.PolicySymbols.{permissions_in_class};
 ghost use Rattle.pol_rules.specs.StoredRules.{stored_rules};
 ghost use Rattle.rule_text.specs.ClassPermissions.{ShowsPart};
-ghost use Rattle.rule_text.specs.RuleFrames.{frame_text};
+ghost use Rattle.rule_text.specs.RuleFrames.{frame_head, frame_line};
 ghost use Rattle.rule_text.specs.RuleTexts.{text_of_rule, single_text};
 
 use crate::permission_table::PermissionTable;
@@ -82,15 +82,16 @@ impl<'p, 'a> RuleTexts<'p, 'a> {
         push_between(buffer, self.policy, &rule, source, target, permissions)
     }
 
-    /// The text of the stored rule of that number with its ends left open.
+    /// The line of the stored rule of that number with its ends left open.
     pub fn frame(&self, alloc: Global, n: u32) -> Result<RuleFrame<'p, 'a>, AllocError>
         requires { n < length (stored_rules self.now) }
-        ensures { IfOk result (λ frame. (source target : ℕ) → frame_text frame source target ≡ single_text self.now n source target) }
+        ensures { IfOk result (λ frame. (source target : ℕ) → frame_line frame (frame_head frame source) target ≡ single_text self.now n source target ++ codes "\n") }
     {
         let rule = self.policy.rule(n);
         let permissions = self.permissions_shown(&rule);
         let mut rest = Vec::new(alloc);
         push_rest(&mut rest, self.policy, &rule, permissions)?;
+        rest.push(b'\n')?;
         Ok(RuleFrame {
             symbols: self.policy.symbols(),
             kind: rule.kind,

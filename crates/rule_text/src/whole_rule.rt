@@ -8,7 +8,7 @@ ghost use Rattle.rule_text.specs.ClassPermissions.{ShowsPart};
 ghost use Rattle.rule_text.specs.RuleTexts.{between, ends_text, keyword, rest_text, rule_text};
 
 use crate::condition_texts::push_condition;
-use crate::rule_parts::{keyword, push_class, push_ends, push_file_name, push_part};
+use crate::rule_parts::{push_class, push_file_name, push_head, push_part, push_target};
 use pol_commons::PermissionView;
 use pol_read::{Policy, Rule, RuleKind};
 use pol_symbols::Symbols;
@@ -29,12 +29,13 @@ pub(crate) fn push_between(
     requires under { StandsUnder policy.now.rules.conditionals rule.now.condition }
     ensures { OnOk result (buffer.new.items ≡ buffer.old.items ++ rule_text policy.now (between source target (stored rule.now))) }
 {
-    push_head(buffer, policy.symbols(), rule.kind, source, target)?;
+    push_ends(buffer, policy.symbols(), rule.kind, source, target)?;
     push_rest(buffer, policy, rule, permissions)
 }
 
-/// Adds the first word of the rules of a kind, and two ends.
-pub(crate) fn push_head(
+// Adds the first word of the rules of a kind, and two ends.
+#[tactic(auto, unfolding(crate::specs::RuleTexts::ends_text, crate::specs::RuleFrames::head_text))]
+fn push_ends(
     buffer: &mut Vec<u8>,
     symbols: &Symbols<'_>,
     kind: RuleKind,
@@ -43,9 +44,8 @@ pub(crate) fn push_head(
 ) -> Result<(), AllocError>
     ensures { OnOk result (buffer.new.items ≡ buffer.old.items ++ keyword kind ++ codes " " ++ ends_text symbols.now kind source target) }
 {
-    buffer.extend_from_slice(keyword(kind))?;
-    buffer.push(b' ')?;
-    push_ends(buffer, symbols, kind, source, target)
+    push_head(buffer, symbols, kind, source)?;
+    push_target(buffer, symbols, kind, target)
 }
 
 /// Adds what stands behind the ends of a rule.
