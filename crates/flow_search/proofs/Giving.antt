@@ -1,5 +1,5 @@
 -- The rules of a flow, found one way and the other.
-use Rattle.std.proofs.Common.{◌≡◌, ◌⊎◌, inl, inr, ℕ, ◌<◌, ◌≤◌, List, [], ◌∷◌, ◌++◌, length, Bool, true, false, ◌&&◌, cond, sym, ap, ◌∙◌, subst, slice_index_or, arith}
+use Rattle.std.proofs.Common.{◌≡◌, ◌⊎◌, inl, inr, ℕ, ◌<◌, ◌≤◌, List, [], ◌∷◌, ◌++◌, length, Bool, true, false, ◌&&◌, cond, refl, sym, ap, ◌∙◌, subst, slice_index_or, arith}
 use Rattle.std.specs.List.{Contains, filter, fold}
 use Rattle.std.proofs.lemmas.Bool.{and_from, and_parts, or_cases, or_left, or_right}
 use Rattle.std.proofs.lemmas.List.Elements.{All-filter, Contains-append_cases, Contains-append_left, Contains-append_right}
@@ -7,7 +7,7 @@ use Rattle.std.proofs.lemmas.List.FromFn.{get_or-range_with_len, length-range_wi
 use Rattle.pol_file.specs.declared.Parts.{Parts}
 use Rattle.pol_expand.proofs.Values.{filter_rises}
 use Rattle.pol_rules.specs.StoredRules.{stored_rules}
-use Rattle.walk_enum.proofs.Ascending.{ascends_from_increasing, same_numbers}
+use Rattle.walk_enum.proofs.Ascending.{ascends_filter, ascends_from_increasing, same_numbers}
 use Rattle.walk_enum.proofs.Elements.{from_filter, in_cases, in_filter, in_first, in_rest, not_in_nothing, passes_filter}
 use Rattle.rule_order.specs.ListedOrder.{AreRules, in_rule_order, is_listed_before, ordered_by, with_number}
 use Rattle.rule_ends.specs.ChosenRules.{ChosenRules, joins, rules_between}
@@ -143,7 +143,53 @@ giving_is weights policy least from to out into found some out_is into_is distin
     (subst (λ (xs : List ℕ). AreDistinct (xs ++ rules_between policy (rules_reaching inwards weights policy least) to from) found) out_is
     (subst (λ (ys : List ℕ). AreDistinct (out ++ ys) found) into_is distinct))
 
+-- ---- rules of one way alone
+
+-- rules that rise, and have a number where others have it, are those
+same_rules : (policy : Parts) (p q r : ℕ → Bool) → ((n : ℕ) → Contains (filter p (filter q (rule_numbers policy))) n → Contains (filter r (rule_numbers policy)) n) → ((n : ℕ) → Contains (filter r (rule_numbers policy)) n → Contains (filter p (filter q (rule_numbers policy))) n) → in_rule_order policy (filter p (filter q (rule_numbers policy))) ≡ in_rule_order policy (filter r (rule_numbers policy))
+same_rules policy p q r to back =
+    let some = filter p (filter q (rule_numbers policy)) in
+    let all = filter r (rule_numbers policy) in
+    let rising = filter_rises r 0 (length (stored_rules policy)) in
+    let rising_some = ascends_filter p (filter q (rule_numbers policy)) (ascends_from_increasing (filter q (rule_numbers policy)) (filter_rises q 0 (length (stored_rules policy)))) in
+    ap (in_rule_order policy) (same_numbers some all rising_some (ascends_from_increasing all rising) to back)
+
+module _ (weights : Weights) (policy : Parts) (least from to : ℕ) (some : 1 ≤ least) where
+  -- those ahead, where there are none back
+  ahead_alone : rules_between policy (rules_reaching inwards weights policy least) to from ≡ [] → rules_between policy (rules_reaching outwards weights policy least) from to ≡ in_rule_order policy (filter (gives_least weights policy least from to) (rule_numbers policy))
+  unfolding rules_reaching
+  ahead_alone none = same_rules policy (joins policy from to) (reaches outwards weights policy least) (gives_least weights policy least from to)
+      (λ n h. found_gives weights policy least from to n some (inl (to_order policy (filter (joins policy from to) (filter (reaches outwards weights policy least) (rule_numbers policy))) n h)))
+      (λ n h. elim (gives_found weights policy least from to n some h) [
+        | inl ahead ↦ from_order policy (filter (joins policy from to) (filter (reaches outwards weights policy least) (rule_numbers policy))) n ahead
+        | inr back ↦ not_in_nothing n (subst (λ (xs : List ℕ). Contains xs n) none back)
+      ])
+
+  -- those back, where there are none ahead
+  back_alone : rules_between policy (rules_reaching outwards weights policy least) from to ≡ [] → rules_between policy (rules_reaching inwards weights policy least) to from ≡ in_rule_order policy (filter (gives_least weights policy least from to) (rule_numbers policy))
+  unfolding rules_reaching
+  back_alone none = same_rules policy (joins policy to from) (reaches inwards weights policy least) (gives_least weights policy least from to)
+      (λ n h. found_gives weights policy least from to n some (inr (to_order policy (filter (joins policy to from) (filter (reaches inwards weights policy least) (rule_numbers policy))) n h)))
+      (λ n h. elim (gives_found weights policy least from to n some h) [
+        | inl ahead ↦ not_in_nothing n (subst (λ (xs : List ℕ). Contains xs n) none ahead)
+        | inr back ↦ from_order policy (filter (joins policy to from) (filter (reaches inwards weights policy least) (rule_numbers policy))) n back
+      ])
+
 -- ---- by what a graph keeps
+
+pub nothing : (xs : List ℕ) → length xs ≡ 0 → xs ≡ []
+nothing [] e = refl
+nothing (x ∷ xs) e = absurd (omega (arith, e))
+
+pub ahead_gives : (weights : Weights) (policy : Parts) (least from to : ℕ) (out into : ChosenRules) → 1 ≤ least → AreFlowRules weights policy least out into → (ahead back : List ℕ) → ahead ≡ rules_between out.policy out.rules from to → back ≡ rules_between into.policy into.rules to from → back ≡ [] → ahead ≡ in_rule_order policy (filter (gives_least weights policy least from to) (rule_numbers policy))
+ahead_gives weights policy least from to out into some are ahead back ahead_is back_is none =
+    ahead_is ∙ ap (λ (p : Parts). rules_between p out.rules from to) are.out_policy ∙ ap (λ (rules : List ℕ). rules_between policy rules from to) are.out_rules
+    ∙ ahead_alone weights policy least from to some (sym (back_is ∙ ap (λ (p : Parts). rules_between p into.rules to from) are.into_policy ∙ ap (λ (rules : List ℕ). rules_between policy rules to from) are.into_rules) ∙ none)
+
+pub back_gives : (weights : Weights) (policy : Parts) (least from to : ℕ) (out into : ChosenRules) → 1 ≤ least → AreFlowRules weights policy least out into → (ahead back : List ℕ) → ahead ≡ rules_between out.policy out.rules from to → back ≡ rules_between into.policy into.rules to from → ahead ≡ [] → back ≡ in_rule_order policy (filter (gives_least weights policy least from to) (rule_numbers policy))
+back_gives weights policy least from to out into some are ahead back ahead_is back_is none =
+    back_is ∙ ap (λ (p : Parts). rules_between p into.rules to from) are.into_policy ∙ ap (λ (rules : List ℕ). rules_between policy rules to from) are.into_rules
+    ∙ back_alone weights policy least from to some (sym (ahead_is ∙ ap (λ (p : Parts). rules_between p out.rules from to) are.out_policy ∙ ap (λ (rules : List ℕ). rules_between policy rules from to) are.out_rules) ∙ none)
 
 pub rules_give : (weights : Weights) (policy : Parts) (least from to : ℕ) (out into : ChosenRules) → 1 ≤ least → AreFlowRules weights policy least out into → (ahead back found : List ℕ) → ahead ≡ rules_between out.policy out.rules from to → back ≡ rules_between into.policy into.rules to from → AreDistinct (ahead ++ back) found → found ≡ filter (gives_least weights policy least from to) (rule_numbers policy)
 rules_give weights policy least from to out into some are ahead back found ahead_is back_is distinct =

@@ -1,24 +1,22 @@
 -- The successors of a node.
-use Rattle.std.proofs.Common.{◌≡◌, ◌⊎◌, inl, inr, ◌↔◌, ℕ, ◌+◌, ◌<◌, ◌≤◌, List, [], Bool, true, false, ◌&&◌, ◌||◌, cond, not, eqb, sym, ap, ◌∙◌, subst, arith}
+use Rattle.std.proofs.Common.{◌≡◌, ◌⊎◌, inl, inr, ◌↔◌, ℕ, ◌+◌, ◌<◌, ◌≤◌, List, [], ◌∷◌, Bool, true, false, ◌&&◌, ◌||◌, cond, not, eqb, refl, sym, ap, ◌∙◌, subst, arith}
 use Rattle.std.specs.List.{Contains, filter, range_with_len}
-use Rattle.std.specs.List.Sorted.{IsStrictlyIncreasing}
-use Rattle.std.proofs.lemmas.List.Kept.{IsStrictlyIncreasing-filter}
 use Rattle.std.proofs.lemmas.Bool.{and_from, and_parts, or_cases, or_left, or_right, eq-eqb, eqb-true, false≢true}
 use Rattle.pol_bitmap.specs.declared.Node.{Node}
 use Rattle.pol_bitmap.specs.Nodes.{bits_of, has_bit}
-use Rattle.pol_bitmap.specs.Sets.{IsSet, IsUnion}
-use Rattle.pol_bitmap.proofs.BitLists.{bits_increasing}
+use Rattle.pol_bitmap.specs.Sets.{IsCommon, IsDifference, IsUnion}
+use Rattle.pol_bitmap.proofs.BitLists.{bits-from_has_bit, has_bit-from_bits}
 use Rattle.pol_file.specs.declared.Parts.{Parts}
 use Rattle.pol_expand.proofs.Values.{same_tests}
 use Rattle.walk_enum.specs.Walks.{AreEnds}
-use Rattle.walk_enum.proofs.Elements.{from_filter, in_filter, in_range, not_in_nothing, passes_filter, range_high}
+use Rattle.walk_enum.proofs.Elements.{from_filter, in_cases, in_filter, in_first, in_range, not_in_nothing, passes_filter, range_high}
 use Rattle.rule_ends.specs.ChosenRules.{ChosenRules, any_joins, sources_to, targets_from}
 use Rattle.rule_ends.specs.EndTables.{is_type_value}
 use Rattle.perm_map.specs.PermissionMap.{Weights, weights_of}
 use Rattle.flow_search.specs.FlowWeights.{inwards, outwards}
 use Rattle.flow_search.specs.Flows.{are_two_types}
 use Rattle.flow_search.specs.FlowEdges.{FlowSearch, flow_edge, is_flow}
-use Rattle.flow_search.specs.FlowParts.{AreFlowRules, AreJoined, any_edge, any_flow, is_open, is_successor, rules_reaching}
+use Rattle.flow_search.specs.FlowParts.{AreFlowRules, AreJoined, AreOpen, IsOpenPart, any_edge, any_flow, is_open, is_successor, rules_reaching}
 use Rattle.flow_search.specs.EdgesBetween.{within}
 use Rattle.flow_search.proofs.ReachedWeights.{flow_reaches}
 use Rattle.flow_search.proofs.TestOrders.{ahead_tests, back_tests}
@@ -107,21 +105,76 @@ edge_is search node other some =
     (any_flow (weights_of search.entries) search.policy search.least other node) (any_flow (weights_of search.entries) search.policy search.least node other)
     (back_is search node other some) (ahead_is search node other some)
 
--- the joined types that pass are the ends of the edges
-pub ends_are : (search : FlowSearch) (node : ℕ) (joined found : List ℕ) → 1 ≤ search.least → is_open search node ≡ true → AreJoined search.policy (any_edge search node) joined → found ≡ filter (is_successor search node) joined → AreEnds (flow_edge search) node found
-ends_are search node joined found some may are is = subst (AreEnds (flow_edge search) node) (sym is) (record { each = each })
+-- ---- types that may be an end
+
+not_there : (b : Bool) → (b ≡ true → ⊥) → not b ≡ true
+not_there true h = absurd (h refl)
+not_there false h = refl
+
+there_not : (b : Bool) → not b ≡ true → b ≡ true → ⊥
+there_not true h k = false≢true h
+there_not false h k = false≢true k
+
+-- the types without those that are excluded
+pub open_are : (policy : Parts) (types excluded open_types : List Node) → bits_of types ≡ filter (is_type_value policy) (range_with_len 1 policy.symbols.types.nprim) → IsDifference (bits_of types) (bits_of excluded) (bits_of open_types) → AreOpen policy excluded open_types
+open_are policy types excluded open_types is difference = record {
+  each = λ value. same_tests (has_bit open_types value) (is_type_value policy value && not (has_bit excluded value)) (to value) (back value);
+}
   where
-    each : (other : ℕ) → Contains (filter (is_successor search node) joined) other ↔ (flow_edge search node other ≡ true)
+    to : (value : ℕ) → has_bit open_types value ≡ true → (is_type_value policy value && not (has_bit excluded value)) ≡ true
+    to value h =
+        let parts = (difference.each value).0 (bits-from_has_bit open_types value h) in
+        and_from (is_type_value policy value) (not (has_bit excluded value))
+        (passes_filter (is_type_value policy) (range_with_len 1 policy.symbols.types.nprim) value (subst (λ (xs : List ℕ). Contains xs value) is parts.0))
+        (not_there (has_bit excluded value) (λ e. parts.1 (bits-from_has_bit excluded value e)))
+
+    back : (value : ℕ) → (is_type_value policy value && not (has_bit excluded value)) ≡ true → has_bit open_types value ≡ true
+    back value h =
+        let parts = and_parts (is_type_value policy value) (not (has_bit excluded value)) h in
+        let range = within policy value parts.0 in
+        let among = in_filter (is_type_value policy) (range_with_len 1 policy.symbols.types.nprim) value parts.0 (in_range policy.symbols.types.nprim value range.0 range.1) in
+        has_bit-from_bits open_types value ((difference.each value).1 (
+          subst (λ (xs : List ℕ). Contains xs value) (sym is) among,
+          λ e. there_not (has_bit excluded value) parts.1 (has_bit-from_bits excluded value e),
+        ))
+
+-- what some types have in common with them
+pub open_part : (search : FlowSearch) (open_types : List Node) (types part : List ℕ) → AreOpen search.policy search.excluded open_types → IsCommon types (bits_of open_types) part → IsOpenPart search types part
+open_part search open_types types part are common = record {
+  each = λ value. (
+    λ h. (let parts = (common.each value).0 h in (parts.0, sym (are.each value) ∙ has_bit-from_bits open_types value parts.1)),
+    λ h. (common.each value).1 (h.0, bits-from_has_bit open_types value (are.each value ∙ h.1)),
+  );
+}
+
+-- ---- ends of edges
+
+other_apart : (node other : ℕ) → (Contains (node ∷ []) other → ⊥) → not (eqb other node) ≡ true
+other_apart node other h = not_there (eqb other node) (λ e. h (subst (Contains (node ∷ [])) (sym (eqb-true other node e)) (in_first node [])))
+
+apart_other : (node other : ℕ) → not (eqb other node) ≡ true → Contains (node ∷ []) other → ⊥
+apart_other node other h there = elim (in_cases node [] other there) [
+  | inl same ↦ there_not (eqb other node) h (eq-eqb other node (sym same))
+  | inr none ↦ not_in_nothing other none
+]
+
+-- the joined types that may be an end are the ends of the edges, but for the node itself
+pub ends_are : (search : FlowSearch) (node : ℕ) (joined part found : List ℕ) → 1 ≤ search.least → is_open search node ≡ true → AreJoined search.policy (any_edge search node) joined → IsOpenPart search joined part → IsDifference part (node ∷ []) found → AreEnds (flow_edge search) node found
+ends_are search node joined part found some may are open_joined difference = record { each = each }
+  where
+    each : (other : ℕ) → Contains found other ↔ (flow_edge search node other ≡ true)
     each other = (
-      λ h. (let passes = passes_filter (is_successor search node) joined other h in
-          let joins = (are.each other).0 (from_filter (is_successor search node) joined other h) in
+      λ h. (let left = (difference.each other).0 h in
+          let opens = (open_joined.each other).0 left.0 in
+          let joins = (are.each other).0 opens.0 in
+          let passes = and_from (not (eqb other node)) (is_open search other) (other_apart node other left.1) opens.1 in
           edge_is search node other some ∙ and_from (is_open search node) (is_successor search node other && any_edge search node other) may (and_from (is_successor search node other) (any_edge search node other) passes joins.2)),
       λ h. (let parts = and_parts (is_open search node) (is_successor search node other && any_edge search node other) (sym (edge_is search node other some) ∙ h) in
           let both = and_parts (is_successor search node other) (any_edge search node other) parts.1 in
           let apart = and_parts (not (eqb other node)) (is_open search other) both.0 in
           let type = and_parts (is_type_value search.policy other) (not (has_bit search.excluded other)) apart.1 in
           let range = within search.policy other type.0 in
-          in_filter (is_successor search node) joined other both.0 ((are.each other).1 (range.0, range.1, both.1))),
+          (difference.each other).1 ((open_joined.each other).1 ((are.each other).1 (range.0, range.1, both.1), apart.1), apart_other node other apart.0)),
     )
 
 -- a node that may be no end has no edges
@@ -160,8 +213,3 @@ pub edge_ahead : (search : FlowSearch) (node : ℕ) → search.reverse ≡ false
 unfolding any_edge
 edge_ahead search node e =
     ap {B = ℕ → Bool} (λ (turned : Bool) (other : ℕ). cond turned (any_flow (weights_of search.entries) search.policy search.least other node) (any_flow (weights_of search.entries) search.policy search.least node other)) e
-
--- the successors among rising values rise
-pub successors_rise : (search : FlowSearch) (node : ℕ) (joined : List Node) (found : List ℕ) → IsSet joined → found ≡ filter (is_successor search node) (bits_of joined) → IsStrictlyIncreasing found
-successors_rise search node joined found set is =
-    subst IsStrictlyIncreasing (sym is) (IsStrictlyIncreasing-filter (is_successor search node) (bits_of joined) (bits_increasing 0 joined set.0))

@@ -1,6 +1,7 @@
 -- The weights of rules, by the weights of the permissions of classes.
-use Rattle.std.proofs.Common.{◌≡◌, inl, inr, ℕ, ◌+◌, ◌<◌, max, List, [], ◌∷◌, ◌++◌, length, map, get_or, take, Bool, true, false, cond, Option, Some, None, slice_get, slice_index_or, refl, sym, ap, ◌∙◌, arith, append-nil}
+use Rattle.std.proofs.Common.{◌≡◌, inl, inr, ℕ, ◌+◌, ◌^◌, ◌<◌, ◌≤◌, max, List, [], ◌∷◌, ◌++◌, length, map, get_or, take, Bool, true, false, ◌&&◌, ◌||◌, cond, eqb, leb, Option, Some, None, slice_get, slice_index_or, refl, sym, ap, ◌∙◌, subst, arith, append-nil}
 use Rattle.std.specs.List.{filter, range_with_len}
+use Rattle.std.specs.Int.{bit_at}
 use Rattle.std.proofs.lemmas.List.{map_push}
 use Rattle.std.proofs.lemmas.List.Elements.{filter-append, filter_more}
 use Rattle.std.proofs.lemmas.List.Sums.{fold_push}
@@ -17,7 +18,10 @@ use Rattle.perm_map.specs.declared.Direction.{Direction}
 use Rattle.perm_map.specs.PermissionMap.{Weights}
 use Rattle.flow_search.specs.declared.class_weights.PermissionWeight.{PermissionWeight}
 use Rattle.flow_search.specs.FlowWeights.{class_of, greatest, has_permission, inwards, mask_weight, outwards, permission_weight}
-use Rattle.flow_search.specs.WeightTables.{AreWeights, class_weights, greatest_into, greatest_out, is_in, weighed}
+use Rattle.flow_search.specs.declared.reach_bits.ReachBits.{ReachBits}
+use Rattle.flow_search.specs.WeightTables.{AreBitsOf, AreReachBits, AreWeights, HaveReachBits, class_weights, greatest_into, greatest_out, is_in, shares_bit, weighed}
+use Rattle.flow_search.proofs.Masks.{no_bits}
+use Rattle.flow_search.proofs.ReachedWeights.{le_max, not_le_zero}
 
 -- ---- the greatest, one after the other
 
@@ -111,3 +115,82 @@ module _ (weights : Weights) (symbols : Symbols) (lists : List (List PermissionW
 pub class_missing : (way : Direction → ℕ → ℕ) (weights : Weights) (symbols : Symbols) (class mask : ℕ) → index_in symbols Classes class ≡ None → 0 ≡ mask_weight way weights symbols (class_of symbols class) mask
 class_missing way weights symbols class mask is =
     ap (λ (c : Option (Placed ClassRec)). mask_weight way weights symbols c mask) (sym (primary_missing (λ (class : ClassRec). true) (λ class. class.value) symbols.classes.records class is))
+
+-- ---- permissions that reach a weight, as bits
+
+or_none : (b : Bool) → b ≡ (b || false)
+or_none true = refl
+or_none false = refl
+
+le_where_had : (w a b : ℕ) (has : Bool) → leb w (cond has (max a b) a) ≡ (leb w a || (leb w b && has))
+le_where_had w a b true = le_max w a b ∙ ap (λ (test : Bool). leb w a || test) (and_true (leb w b))
+  where
+    and_true : (test : Bool) → test ≡ (test && true)
+    and_true true = refl
+    and_true false = refl
+le_where_had w a b false = or_none (leb w a) ∙ ap (λ (test : Bool). leb w a || test) (and_false (leb w b))
+  where
+    and_false : (test : Bool) → false ≡ (test && false)
+    and_false true = refl
+    and_false false = refl
+
+-- of no permission there is no bit
+pub no_reach : (least : ℕ) → 1 ≤ least → AreReachBits least [] (record { out = 0; into = 0 })
+unfolding greatest_out greatest_into
+no_reach least some = record {
+  out = λ mask small. no_bits mask ∙ sym (not_le_zero least some);
+  into = λ mask small. no_bits mask ∙ sym (not_le_zero least some);
+}
+
+-- one permission more
+pub more_reach : (least : ℕ) (permissions : List PermissionWeight) (i : ℕ) (d : PermissionWeight) (old new : ReachBits) → i < length permissions → AreReachBits least (take i permissions) old
+    → ((mask : ℕ) → mask < 2 ^ 32 → shares_bit mask new.out ≡ (shares_bit mask old.out || (leb least (get_or permissions i d).out && eqb (bit_at mask (get_or permissions i d).place) 1)))
+    → ((mask : ℕ) → mask < 2 ^ 32 → shares_bit mask new.into ≡ (shares_bit mask old.into || (leb least (get_or permissions i d).into && eqb (bit_at mask (get_or permissions i d).place) 1)))
+    → AreReachBits least (take (i + 1) permissions) new
+more_reach least permissions i d old new lt are out into = record {
+  out = λ mask small. (let p = get_or permissions i d in
+      out mask small ∙ ap (λ (test : Bool). test || (leb least p.out && is_in mask p)) (are.out mask small)
+      ∙ sym (ap (leb least) (out_more mask permissions i d lt) ∙ le_where_had least (greatest_out mask (take i permissions)) p.out (is_in mask p)));
+  into = λ mask small. (let p = get_or permissions i d in
+      into mask small ∙ ap (λ (test : Bool). test || (leb least p.into && is_in mask p)) (are.into mask small)
+      ∙ sym (ap (leb least) (into_more mask permissions i d lt) ∙ le_where_had least (greatest_into mask (take i permissions)) p.into (is_in mask p)));
+}
+
+-- ---- by classes
+
+pub have_bits : (weights : Weights) (symbols : Symbols) (least : ℕ) (lists : List (List PermissionWeight)) (classes : List ReachBits) → 1 ≤ least → AreWeights weights symbols lists → AreBitsOf least lists classes → HaveReachBits weights symbols least classes
+have_bits weights symbols least lists classes some are bits = record {
+  some = some;
+  count = bits.count ∙ are.count;
+  each = λ i class found at got. subst (λ (permissions : List PermissionWeight). AreReachBits least permissions found) (are.each i class at) (bits.each i found got);
+}
+
+module _ (weights : Weights) (symbols : Symbols) (least : ℕ) (classes : List ReachBits) (have : HaveReachBits weights symbols least classes) (class : ℕ) where
+  pub reach_within : (i : ℕ) → index_in symbols Classes class ≡ Some i → i < length classes
+  reach_within i is =
+      let within = primary_is_within (λ (class : ClassRec). true) (λ class. class.value) symbols.classes.records class i is in
+      omega (arith, within, have.count)
+
+  out_reached : (i : ℕ) (found : Placed ClassRec) (bits : ReachBits) (mask : ℕ) → mask < 2 ^ 32 → index_in symbols Classes class ≡ Some i → slice_get symbols.classes.records i ≡ Some found → slice_get classes i ≡ Some bits → shares_bit mask bits.out ≡ leb least (mask_weight outwards weights symbols (class_of symbols class) mask)
+  out_reached i found bits mask small is at got =
+      (have.each i found bits at got).out mask small
+      ∙ ap (leb least) (out_of_class weights symbols found.value mask
+      ∙ ap (λ (c : Option (Placed ClassRec)). mask_weight outwards weights symbols c mask) (sym (primary_found (λ (class : ClassRec). true) (λ class. class.value) symbols.classes.records class i found is at)))
+
+  into_reached : (i : ℕ) (found : Placed ClassRec) (bits : ReachBits) (mask : ℕ) → mask < 2 ^ 32 → index_in symbols Classes class ≡ Some i → slice_get symbols.classes.records i ≡ Some found → slice_get classes i ≡ Some bits → shares_bit mask bits.into ≡ leb least (mask_weight inwards weights symbols (class_of symbols class) mask)
+  into_reached i found bits mask small is at got =
+      (have.each i found bits at got).into mask small
+      ∙ ap (leb least) (into_of_class weights symbols found.value mask
+      ∙ ap (λ (c : Option (Placed ClassRec)). mask_weight inwards weights symbols c mask) (sym (primary_found (λ (class : ClassRec). true) (λ class. class.value) symbols.classes.records class i found is at)))
+
+  pub reach_out : (i : ℕ) (bits : ReachBits) (mask : ℕ) → mask < 2 ^ 32 → index_in symbols Classes class ≡ Some i → slice_get classes i ≡ Some bits → shares_bit mask bits.out ≡ leb least (mask_weight outwards weights symbols (class_of symbols class) mask)
+  reach_out i bits mask small is got = elim (slice_get_cases symbols.classes.records i).1 [
+    | inl there ↦ out_reached i there.0 bits mask small is there.2 got
+    | inr past ↦ absurd (omega (arith, primary_is_within (λ (class : ClassRec). true) (λ class. class.value) symbols.classes.records class i is, past.0))
+  ]
+
+  pub reach_into : (i : ℕ) (bits : ReachBits) (mask : ℕ) → mask < 2 ^ 32 → index_in symbols Classes class ≡ Some i → slice_get classes i ≡ Some bits → shares_bit mask bits.into ≡ leb least (mask_weight inwards weights symbols (class_of symbols class) mask)
+  reach_into i bits mask small is got = elim (slice_get_cases symbols.classes.records i).1 [
+    | inl there ↦ into_reached i there.0 bits mask small is there.2 got
+    | inr past ↦ absurd (omega (arith, primary_is_within (λ (class : ClassRec). true) (λ class. class.value) symbols.classes.records class i is, past.0))
+  ]

@@ -2,6 +2,7 @@
 use Rattle.std.specs.Prelude.{◌≡◌, ◌↔◌, ℕ, ◌≤◌, Bool, true, ◌||◌, nat_le, List, ◌&&◌, ◌==◌, not, Contains, if◌then◌else◌}
 use Rattle.std.specs.List.{filter}
 use Rattle.std.specs.List.Sorted.{IsStrictlyIncreasing}
+use Rattle.pol_bitmap.specs.declared.Node.{Node}
 use Rattle.pol_bitmap.specs.Nodes.{has_bit}
 use Rattle.pol_file.specs.declared.Parts.{Parts}
 use Rattle.rule_ends.specs.ChosenRules.{ChosenRules, any_joins}
@@ -46,6 +47,14 @@ pub record AreJoined (policy : Parts) (test : ℕ → Bool) (found : List ℕ) :
 -- a type that is not excluded
 abbrev pub is_open : FlowSearch → ℕ → Bool
 is_open search node = is_type_value search.policy node && not (has_bit search.excluded node)
+
+-- the set of all such types
+pub record AreOpen (policy : Parts) (excluded open_types : List Node) : Type 0 where
+  pub each : (value : ℕ) → has_bit open_types value ≡ (is_type_value policy value && not (has_bit excluded value))
+
+-- those among some types
+pub record IsOpenPart (search : FlowSearch) (types part : List ℕ) : Type 0 where
+  pub each : (value : ℕ) → Contains part value ↔ (Contains types value × (is_open search value ≡ true))
 
 -- a successor among the joined
 abbrev pub is_successor : FlowSearch → ℕ → ℕ → Bool

@@ -1,10 +1,11 @@
 // The weights of the permissions of a class.
 ghost use Rattle.std.specs.Int.{bit_at};
-ghost use Rattle.std.specs.Prelude.{◌≡◌, ◌<◌, ◌==◌, ◌++◌, IfOk, OnOk, map, max, if◌then◌else◌};
+ghost use Rattle.std.specs.Prelude.{◌≡◌, ◌≤◌, ◌<◌, ◌==◌, ◌++◌, IfOk, OnOk, map, max, if◌then◌else◌};
 ghost use Rattle.perm_map.specs.PermissionMap.{weights_of};
 ghost use Rattle.flow_search.specs.FlowWeights.{inwards, outwards, mapped};
-ghost use Rattle.flow_search.specs.WeightTables.{class_weights, greatest_into, greatest_out, is_in, weighed};
+ghost use Rattle.flow_search.specs.WeightTables.{AreReachBits, class_weights, greatest_into, greatest_out, is_in, weighed};
 
+use crate::reach_bits::{ReachBits, with_bit};
 use perm_map::{Direction, PermMap};
 use pol_classes::ClassView;
 use pol_commons::{PermissionList, PermissionView, inherited_from};
@@ -71,6 +72,14 @@ impl ClassWeights {
         ensures into { result.into ≡ greatest_into mask self.now }
     {
         greatest_of(&self.permissions, mask)
+    }
+
+    /// The bits of the permissions whose weight reaches the least one, each way.
+    pub fn reaching(&self, least: u8) -> ReachBits
+        requires { 1 ≤ least }
+        ensures { AreReachBits least self.now result }
+    {
+        bits_reaching(&self.permissions, least)
     }
 }
 
@@ -164,4 +173,18 @@ fn greatest_of(permissions: &[PermissionWeight], mask: u32) -> RuleWeights
         into = greater(into, has, permission.into);
     }
     RuleWeights { out, into }
+}
+
+// The bits of the permissions whose weight reaches the least one, each way.
+fn bits_reaching(permissions: &[PermissionWeight], least: u8) -> ReachBits
+    requires { 1 ≤ least }
+    ensures { AreReachBits least permissions.now result }
+{
+    let mut out = 0;
+    let mut into = 0;
+    for permission in permissions {
+        out = with_bit(out, permission.place, least <= permission.out);
+        into = with_bit(into, permission.place, least <= permission.into);
+    }
+    ReachBits { out, into }
 }

@@ -1,17 +1,18 @@
-ghost use Rattle.std.specs.Prelude.{◌≡◌, ◌≤◌, true, IfOk};
+ghost use Rattle.std.specs.Prelude.{◌≡◌, ◌≤◌, ◌++◌, true, IfOk};
 ghost use Rattle.std.specs.List.{filter};
-ghost use Rattle.pol_bitmap.specs.Nodes.{bits_of, has_bit};
-ghost use Rattle.pol_bitmap.specs.Sets.{IsSet};
+ghost use Rattle.pol_bitmap.specs.Nodes.{bits_of};
 ghost use Rattle.pol_expand.specs.PolicyMap.{IsPolicyMap};
 ghost use Rattle.perm_map.specs.PermissionMap.{weights_of};
-ghost use Rattle.rule_order.specs.ListedOrder.{AreRules};
+ghost use Rattle.rule_order.specs.ListedOrder.{AreRules, in_rule_order};
 ghost use Rattle.walk_enum.specs.Walks.{AreEnds};
 ghost use Rattle.flow_search.specs.Flows.{flow_rules, flow_weight, gives_least, rule_numbers};
 ghost use Rattle.flow_search.specs.FlowEdges.{flow_edge};
-ghost use Rattle.flow_search.specs.FlowParts.{any_edge, any_flow, is_open, is_successor, AreDistinct, AreJoined};
+ghost use Rattle.flow_search.specs.FlowParts.{any_edge, any_flow, is_open, AreDistinct, AreJoined, IsOpenPart};
 
-use crate::holding::{are_two_types, is_type};
-use crate::reaching::{push_where, rules_reaching};
+use crate::holding::are_two_types;
+use crate::node_sets::{either, without};
+use crate::open_types::open_types;
+use crate::reaching::rules_reaching;
 use crate::weigher::Weigher;
 use perm_map::PermMap;
 use pol_bitmap::Set;
@@ -38,6 +39,8 @@ pub struct FlowGraph<'p> {
     // Those that flow from the target to the source.
     into: RuleEnds<'p>,
     excluded: Set,
+    // The types that may be an end of an edge.
+    open_types: Set,
     reverse: bool,
 }
 
@@ -45,13 +48,13 @@ impl<'p> Model for FlowGraph<'p> {
     ghost use Rattle.std.specs.Prelude.{◌≤◌};
     ghost use Rattle.perm_map.specs.PermissionMap.{weights_of};
     ghost use Rattle.flow_search.specs.FlowEdges.{FlowSearch};
-    ghost use Rattle.flow_search.specs.FlowParts.{AreFlowRules};
+    ghost use Rattle.flow_search.specs.FlowParts.{AreFlowRules, AreOpen};
 
     ghost Value = { FlowSearch };
 
     ghost view = { λ g. record { policy = g.weigher.policy; entries = g.weigher.entries; least = g.least; excluded = g.excluded; reverse = g.reverse } };
 
-    ghost invariant = { λ g. (1 ≤ g.least) × AreFlowRules (weights_of g.weigher.entries) g.weigher.policy g.least g.out g.into };
+    ghost invariant = { λ g. (1 ≤ g.least) × AreFlowRules (weights_of g.weigher.entries) g.weigher.policy g.least g.out g.into × AreOpen g.weigher.policy g.excluded g.open_types };
 }
 
 impl<'p> FlowGraph<'p> {
@@ -74,6 +77,7 @@ impl<'p> FlowGraph<'p> {
         Ok(FlowGraph {
             out: RuleEnds::build(alloc, policy, types, found.out)?,
             into: RuleEnds::build(alloc, policy, types, found.into)?,
+            open_types: open_types(alloc, policy, excluded)?,
             excluded: excluded.share()?,
             weigher,
             least,
@@ -96,17 +100,22 @@ impl<'p> FlowGraph<'p> {
         self.weigher.flow(from, to)
     }
 
-    // The numbers of the rules that give the flow from a value to another at least the least weight, rising.
+    // The rules that give the flow from a value to another at least the least weight, in the order in which rules are listed.
     fn giving(&self, alloc: Global, from: u32, to: u32) -> Result<Vec<u32>, AllocError>
-        ensures found { IfOk result (λ found. found.items ≡ filter (gives_least (weights_of self.now.entries) self.now.policy self.now.least from to) (rule_numbers self.now.policy)) }
+        ensures found { IfOk result (λ found. found.items ≡ in_rule_order self.now.policy (filter (gives_least (weights_of self.now.entries) self.now.policy self.now.least from to) (rule_numbers self.now.policy))) }
         ensures rules { IfOk result (λ found. AreRules self.now.policy found.items) }
     {
-        let mut numbers = self.out.between(alloc, from, to)?;
-        let others = self.into.between(alloc, to, from)?;
-        numbers.extend_from_slice(&others)?;
-        // a rule that gives the flow both ways counts once
-        make_distinct(&mut numbers);
-        Ok(numbers)
+        let ahead = self.out.between(alloc, from, to)?;
+        let back = self.into.between(alloc, to, from)?;
+        // those of one way stand in their order
+        if back.is_empty() {
+            return Ok(ahead);
+        }
+        if ahead.is_empty() {
+            return Ok(back);
+        }
+        let numbers = distinct_of(ahead, &back)?;
+        sort_by_rule_order(alloc, self.policy(), &numbers)
     }
 
     /// The rules that give the flow from a type to another at least the least weight, in the order in which rules are listed. Exclusion and
@@ -119,8 +128,7 @@ impl<'p> FlowGraph<'p> {
         if !are_two_types(self.policy(), from, to) {
             return Ok(Vec::new(alloc));
         }
-        let numbers = self.giving(alloc, from, to)?;
-        sort_by_rule_order(alloc, self.policy(), &numbers)
+        self.giving(alloc, from, to)
     }
 
     /// The weight of the flow from a type to another, by its rules as [`FlowGraph::rules`] answers them. It looks at no other rule where
@@ -141,28 +149,25 @@ impl<'p> FlowGraph<'p> {
 
     // The types that the rules join a value to.
     fn joined_from(&self, alloc: Global, node: u32) -> Result<Set, AllocError>
-        ensures form { IfOk result IsSet }
-        ensures joined { IfOk result (λ set. AreJoined self.now.policy (λ other. any_flow (weights_of self.now.entries) self.now.policy self.now.least node other) (bits_of set)) }
+        ensures { IfOk result (λ set. AreJoined self.now.policy (λ other. any_flow (weights_of self.now.entries) self.now.policy self.now.least node other) (bits_of set)) }
     {
         let out = self.out.targets_of(alloc, node)?;
         let into = self.into.sources_of(alloc, node)?;
-        out.union(alloc, &into)
+        either(alloc, out, into)
     }
 
     // The types that the rules join to a value.
     fn joined_to(&self, alloc: Global, node: u32) -> Result<Set, AllocError>
-        ensures form { IfOk result IsSet }
-        ensures joined { IfOk result (λ set. AreJoined self.now.policy (λ other. any_flow (weights_of self.now.entries) self.now.policy self.now.least other node) (bits_of set)) }
+        ensures { IfOk result (λ set. AreJoined self.now.policy (λ other. any_flow (weights_of self.now.entries) self.now.policy self.now.least other node) (bits_of set)) }
     {
         let out = self.out.sources_of(alloc, node)?;
         let into = self.into.targets_of(alloc, node)?;
-        out.union(alloc, &into)
+        either(alloc, out, into)
     }
 
     // The one or the other, as the graph is turned.
     fn joined(&self, alloc: Global, node: u32) -> Result<Set, AllocError>
-        ensures form { IfOk result IsSet }
-        ensures joined { IfOk result (λ set. AreJoined self.now.policy (any_edge self.now node) (bits_of set)) }
+        ensures { IfOk result (λ set. AreJoined self.now.policy (any_edge self.now node) (bits_of set)) }
     {
         if self.reverse {
             self.joined_to(alloc, node)
@@ -171,44 +176,19 @@ impl<'p> FlowGraph<'p> {
         }
     }
 
-    // Whether a type is excluded.
-    fn is_excluded(&self, node: u32) -> bool
-        ensures has { result ≡ has_bit self.now.excluded node }
-        ensures least { 1 ≤ self.now.least }
-    {
-        self.excluded.has(node)
-    }
-
     // Whether a type may be an end of an edge.
     fn is_open(&self, node: u32) -> bool
         ensures may { result ≡ is_open self.now node }
         ensures least { 1 ≤ self.now.least }
     {
-        let excluded = self.is_excluded(node);
-        is_type(self.policy(), node) && !excluded
+        self.open_types.has(node)
     }
 
-    // Whether a joined type is a successor of a node.
-    fn is_successor(&self, node: u32, other: u32) -> bool
-        ensures { result ≡ is_successor self.now node other }
+    // Those of some types that may be an end.
+    fn open_among(&self, alloc: Global, types: &Set) -> Result<Set, AllocError>
+        ensures { IfOk result (λ set. IsOpenPart self.now (bits_of types.now) (bits_of set)) }
     {
-        other != node && self.is_open(other)
-    }
-
-    // The successors of a node among joined types, rising.
-    fn successors_among(
-        &self,
-        alloc: Global,
-        node: u32,
-        joined: &Set,
-    ) -> Result<Vec<u32>, AllocError>
-        ensures { IfOk result (λ found. found.items ≡ filter (is_successor self.now node) (bits_of joined.now)) }
-    {
-        let mut found = Vec::new(alloc);
-        for other in joined.bits() {
-            push_where(&mut found, self.is_successor(node, other), other)?;
-        }
-        Ok(found)
+        types.common(alloc, &self.open_types)
     }
 
     // The joined types that are successors of a node which may be an end.
@@ -218,8 +198,8 @@ impl<'p> FlowGraph<'p> {
         ensures { IfOk result (λ set. AreEnds (flow_edge self.now) node (bits_of set)) }
     {
         let joined = self.joined(alloc, node)?;
-        let found = self.successors_among(alloc, node, &joined)?;
-        Set::from_rising(alloc, &found)
+        let found = self.open_among(alloc, &joined)?;
+        without(alloc, found, node)
     }
 
     /// The types that a type has an edge to. There are none where it is excluded.
@@ -232,6 +212,17 @@ impl<'p> FlowGraph<'p> {
             Set::empty(alloc)
         }
     }
+}
+
+// The numbers of two lists, rising, and each once.
+fn distinct_of(some: Vec<u32>, others: &[u32]) -> Result<Vec<u32>, AllocError>
+    ensures { IfOk result (λ numbers. AreDistinct (some.items ++ others.now) numbers.items) }
+{
+    let mut numbers = some;
+    numbers.extend_from_slice(others)?;
+    // a rule that gives a flow both ways counts once
+    make_distinct(&mut numbers);
+    Ok(numbers)
 }
 
 // Sorts numbers, and leaves each once.

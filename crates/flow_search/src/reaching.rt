@@ -5,6 +5,7 @@ ghost use Rattle.perm_map.specs.PermissionMap.{weights_of};
 ghost use Rattle.flow_search.specs.FlowWeights.{inwards, outwards};
 ghost use Rattle.flow_search.specs.FlowParts.{rules_reaching};
 
+use crate::reach_test::ReachTest;
 use crate::weigher::Weigher;
 use std::alloc::{AllocError, Global};
 
@@ -24,16 +25,19 @@ pub fn rules_reaching(
     weigher: &Weigher<'_>,
     least: u8,
 ) -> Result<Reaching, AllocError>
+    requires { 1 ≤ least }
     ensures out { IfOk result (λ found. found.out.items ≡ rules_reaching outwards (weights_of weigher.now.entries) weigher.now.policy least) }
     ensures into { IfOk result (λ found. found.into.items ≡ rules_reaching inwards (weights_of weigher.now.entries) weigher.now.policy least) }
     ensures few { length (stored_rules weigher.now.policy) ≤ 400000000 }
 {
+    let count = weigher.policy().rule_count();
+    let test = ReachTest::new(alloc, weigher, least)?;
     let mut out = Vec::new(alloc);
     let mut into = Vec::new(alloc);
-    for number in 0..weigher.policy().rule_count() {
-        let weights = weigher.weigh(number);
-        push_where(&mut out, least <= weights.out, number)?;
-        push_where(&mut into, least <= weights.into, number)?;
+    for number in 0..count {
+        let ways = test.ways(number);
+        push_where(&mut out, ways.out, number)?;
+        push_where(&mut into, ways.into, number)?;
     }
     Ok(Reaching { out, into })
 }

@@ -1,13 +1,14 @@
-ghost use Rattle.std.specs.Prelude.{◌≡◌, ◌<◌, [], IfOk, length, slice_index_or, if◌then◌else◌};
+ghost use Rattle.std.specs.Prelude.{◌≡◌, ◌≤◌, ◌<◌, [], IfOk, length, slice_index_or, if◌then◌else◌};
 ghost use Rattle.pol_rules.specs.declared.RuleKind.TheVariants.{Allow};
 ghost use Rattle.pol_rules.specs.StoredRules.{stored, stored_rules};
 ghost use Rattle.perm_map.specs.PermissionMap.{weights_of};
 ghost use Rattle.flow_search.specs.FlowWeights.{class_of, inwards, mask_weight, outwards, part_weight, rule_weight};
 ghost use Rattle.flow_search.specs.Flows.{flow_weight, given_by, weight_of_rule};
-ghost use Rattle.flow_search.specs.WeightTables.{AreWeights, greatest_into, greatest_out};
+ghost use Rattle.flow_search.specs.WeightTables.{AreBitsOf, AreWeights, HaveReachBits, greatest_into, greatest_out};
 
 use crate::class_weights::{ClassWeights, RuleWeights};
 use crate::holding::{are_two_types, is_rule_from_to};
+use crate::reach_bits::ReachBits;
 use perm_map::PermMap;
 use pol_cursor::TableKind;
 use pol_read::{Policy, Rule, RuleKind, RulePart};
@@ -63,6 +64,14 @@ impl<'p> Weigher<'p> {
         self.policy
     }
 
+    /// For each class, in the order of the file, the bits of the permissions whose weight reaches the least one.
+    pub fn reaching(&self, alloc: Global, least: u8) -> Result<Vec<ReachBits>, AllocError>
+        requires { 1 ≤ least }
+        ensures { IfOk result (λ classes. HaveReachBits (weights_of self.now.entries) self.now.policy.symbols least classes.items) }
+    {
+        bits_of_classes(alloc, &self.classes, least)
+    }
+
     // The weights of a rule of a class that allows what a mask has.
     fn weigh_mask(&self, class: u32, mask: u32) -> RuleWeights
         ensures out { result.out ≡ mask_weight outwards (weights_of self.now.entries) self.now.policy.symbols (class_of self.now.policy.symbols class) mask }
@@ -95,16 +104,6 @@ impl<'p> Weigher<'p> {
             RuleKind::Allow => self.weigh_part(rule.class, &rule.part),
             _ => NONE,
         }
-    }
-
-    /// The weights of the rule of that number.
-    #[tactic(auto, unfolding(crate::specs::Flows::weight_of_rule))]
-    pub fn weigh(&self, number: u32) -> RuleWeights
-        requires { number < length (stored_rules self.now.policy) }
-        ensures out { result.out ≡ weight_of_rule outwards (weights_of self.now.entries) self.now.policy number }
-        ensures into { result.into ≡ weight_of_rule inwards (weights_of self.now.entries) self.now.policy number }
-    {
-        self.weigh_rule(&self.policy.rule(number))
     }
 
     /// What the rule of that number gives to the flow from a type to another.
@@ -143,6 +142,22 @@ fn greatest_at(classes: &[ClassWeights], number: u32, mask: u32) -> RuleWeights
     ensures into { result.into ≡ greatest_into mask (slice_index_or classes.now number []) }
 {
     classes[number as usize].greatest(mask)
+}
+
+// For each of some classes the bits of the permissions whose weight reaches the least one.
+fn bits_of_classes(
+    alloc: Global,
+    classes: &[ClassWeights],
+    least: u8,
+) -> Result<Vec<ReachBits>, AllocError>
+    requires { 1 ≤ least }
+    ensures { IfOk result (λ bits. AreBitsOf least classes.now bits.items) }
+{
+    let mut bits = Vec::with_capacity(alloc, classes.len())?;
+    for class in classes {
+        bits.push(class.reaching(least))?;
+    }
+    Ok(bits)
 }
 
 // A weight where a test holds, and else 0.

@@ -8,10 +8,10 @@ use Rattle.flow_search.proofs.Results.{if_ok}
 use Rattle.flow_search.proofs.Successors.{rules_join_from}
 use Rattle.flow_search.proofs.flow_graph.FlowGraph.joined_from.Goals as goal
 
-pub returns-clause-joined : goal.returns-clause-joined
-returns-clause-joined c = rw (← c.self.view_is) (
+pub returns : goal.returns
+returns c = rw (← c.self.view_is) (
     if_ok (λ (set : List Node). IsUnion (bits_of c.in_ok-out.out) (bits_of c.in_ok-into.into) (bits_of set))
     (λ (set : List Node). AreJoined c.self.inside.weigher.policy (λ other. any_flow (weights_of c.self.inside.weigher.entries) c.self.inside.weigher.policy c.self.inside.least c.args.node other) (bits_of set))
-    c.union.result
+    c.either.result
     (λ set union. rules_join_from (weights_of c.self.inside.weigher.entries) c.self.inside.weigher.policy c.self.inside.least c.args.node c.self.inside.out c.self.inside.into c.self.invariant.1 (bits_of c.in_ok-out.out) (bits_of c.in_ok-into.into) (bits_of set) c.in_ok-out.ensures c.in_ok-into.ensures union)
-    c.union.ensures.bits)
+    c.either.ensures)
