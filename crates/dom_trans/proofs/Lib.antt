@@ -5,3 +5,6 @@ pub mod Steps
 pub mod Chosen
 pub mod Ways
 pub mod Listed
+pub mod Targets
+pub mod Defaults
+pub mod Sources

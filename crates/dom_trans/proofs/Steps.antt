@@ -1,73 +1,158 @@
 -- The steps of the graph.
-use Rattle.std.proofs.Common.{◌≡◌, ℕ, Bool, true, false, List, Result, Ok, Err, IfOk, ◌↔◌, sym, subst, inl, inr, arith}
-use Rattle.std.specs.Prelude.{◌&&◌, not, if◌then◌else◌}
-use Rattle.std.specs.List.{Contains, filter, list_any, range_with_len}
+use Rattle.std.proofs.Common.{◌≡◌, ℕ, Bool, true, false, List, [], ◌∷◌, Result, Ok, Err, IfOk, ◌↔◌, refl, sym, ap, subst, ◌∙◌, arith}
+use Rattle.std.specs.Prelude.{◌==◌, ◌&&◌, ◌||◌, not, nat_le, if◌then◌else◌}
+use Rattle.std.specs.List.{Contains, filter, range_with_len}
 use Rattle.std.specs.List.Sorted.{IsStrictlyIncreasing}
-use Rattle.std.proofs.lemmas.Bool.{and_parts, or_cases}
+use Rattle.std.proofs.lemmas.Bool.{and_parts, and_from, false≢true, leb-true, eqb-true, eq-eqb}
 use Rattle.std.proofs.lemmas.List.Kept.{IsStrictlyIncreasing-filter}
 use Rattle.pol_bitmap.specs.declared.Node.{Node}
 use Rattle.pol_bitmap.specs.Nodes.{bits_of, has_bit}
-use Rattle.pol_bitmap.specs.Sets.{IsSet, IsUnion}
+use Rattle.pol_bitmap.specs.Sets.{IsSet, IsCommon, IsDifference}
 use Rattle.pol_bitmap.proofs.BitLists.{bits_increasing}
-use Rattle.pol_bitmap.proofs.Elements.{kept, keeps, contains_range}
+use Rattle.pol_bitmap.proofs.Elements.{contains_nothing, contains_first, contains_one, kept, keeps, contains_range}
+use Rattle.pol_datums.specs.declared.Flavour.TheVariants.{Plain}
+use Rattle.pol_expand.specs.PolicyMap.{has_flavour}
+use Rattle.pol_expand.proofs.Values.{filter_rises}
 use Rattle.pol_file.specs.declared.Parts.{Parts}
 use Rattle.walk_enum.specs.Walks.{AreEnds}
-use Rattle.rule_ends.specs.ChosenRules.{any_joins, targets_from, sources_to}
-use Rattle.dom_trans.specs.Grants.{granting_rules, grants, process, transition, dyntransition, setcurrent}
-use Rattle.dom_trans.specs.Transitions.{are_two_types, is_entry, is_standard, is_dynamic, is_transition}
+use Rattle.rule_ends.specs.ChosenRules.{any_joins, sources_to}
+use Rattle.rule_ends.specs.EndTables.{is_type_value}
+use Rattle.dom_trans.specs.Transitions.{are_two_types, is_transition}
 use Rattle.dom_trans.specs.DomainEdges.{Domains, is_step, domain_edge}
-use Rattle.dom_trans.specs.EdgesBetween.{transition_types, two_are_nodes}
-
-standard_grants : (policy : Parts) (a b : ℕ) → is_standard policy a b ≡ true → grants policy a b process transition ≡ true
-unfolding is_standard
-standard_grants policy a b e = (and_parts (are_two_types policy a b) (grants policy a b process transition) (and_parts (are_two_types policy a b && grants policy a b process transition) (list_any (is_entry policy a b) (range_with_len 1 policy.symbols.types.nprim)) e).0).1
-
-dynamic_grants : (policy : Parts) (a b : ℕ) → is_dynamic policy a b ≡ true → grants policy a b process dyntransition ≡ true
-unfolding is_dynamic
-dynamic_grants policy a b e = (and_parts (are_two_types policy a b) (grants policy a b process dyntransition) (and_parts (are_two_types policy a b && grants policy a b process dyntransition) (grants policy a a process setcurrent) e).0).1
-
--- all targets are among those of the two grants
-pub covers_targets : (policy : Parts) (a b : ℕ) (standard dynamic all : List ℕ) → standard ≡ targets_from policy (granting_rules policy process transition) a → dynamic ≡ targets_from policy (granting_rules policy process dyntransition) a → IsUnion standard dynamic all
-    → is_transition policy a b ≡ true → Contains all b
-unfolding targets_from
-covers_targets policy a b standard dynamic all s d union e =
-    let nodes = two_are_nodes policy a b (transition_types policy a b e) in
-    let range = range_with_len 1 policy.symbols.types.nprim in
-    let there = contains_range 1 policy.symbols.types.nprim b nodes.2 (omega (arith, nodes.3)) in
-    (union.each b).1 (elim (or_cases (is_standard policy a b) (is_dynamic policy a b) e) [
-      | inl one ↦ inl (subst (λ (xs : List ℕ). Contains xs b) (sym s) (keeps (any_joins policy (granting_rules policy process transition) a) range b there (standard_grants policy a b one)))
-      | inr other ↦ inr (subst (λ (xs : List ℕ). Contains xs b) (sym d) (keeps (any_joins policy (granting_rules policy process dyntransition) a) range b there (dynamic_grants policy a b other)))
-    ])
-
--- and all sources
-pub covers_sources : (policy : Parts) (a b : ℕ) (standard dynamic all : List ℕ) → standard ≡ sources_to policy (granting_rules policy process transition) b → dynamic ≡ sources_to policy (granting_rules policy process dyntransition) b → IsUnion standard dynamic all
-    → is_transition policy a b ≡ true → Contains all a
-unfolding sources_to
-covers_sources policy a b standard dynamic all s d union e =
-    let nodes = two_are_nodes policy a b (transition_types policy a b e) in
-    let range = range_with_len 1 policy.symbols.types.nprim in
-    let there = contains_range 1 policy.symbols.types.nprim a nodes.0 (omega (arith, nodes.1)) in
-    (union.each a).1 (elim (or_cases (is_standard policy a b) (is_dynamic policy a b) e) [
-      | inl one ↦ inl (subst (λ (xs : List ℕ). Contains xs a) (sym s) (keeps (λ source. any_joins policy (granting_rules policy process transition) source b) range a there (standard_grants policy a b one)))
-      | inr other ↦ inr (subst (λ (xs : List ℕ). Contains xs a) (sym d) (keeps (λ source. any_joins policy (granting_rules policy process dyntransition) source b) range a there (dynamic_grants policy a b other)))
-    ])
+use Rattle.dom_trans.specs.EdgesBetween.{transition_types}
+use Rattle.dom_trans.specs.Targets.{AreOpen, AreSources, AreTargets, is_open, is_outside, types_outside}
+use Rattle.dom_trans.proofs.Ways.{step_by_transition, step_excluded}
 
 pub step_is_transition : (domains : Domains) (a b : ℕ) → is_step domains a b ≡ true → is_transition domains.policy a b ≡ true
 unfolding is_step
 step_is_transition domains a b e =
     (and_parts (is_transition domains.policy a b) (not (has_bit domains.excluded a)) (and_parts (is_transition domains.policy a b && not (has_bit domains.excluded a)) (not (has_bit domains.excluded b)) e).0).0
 
--- what a filter of all ends keeps are the ends
-pub ends_of_filter : (edge : ℕ → ℕ → Bool) (a : ℕ) (candidates found : List ℕ) → found ≡ filter (edge a) candidates → ((b : ℕ) → edge a b ≡ true → Contains candidates b) → AreEnds edge a found
-ends_of_filter edge a candidates found is covers = record {
+-- ---- two different types, none of them excluded
+
+-- a type that is not excluded is in their set
+pub in_outside : (policy : Parts) (excluded open_set : List Node) (b : ℕ) → bits_of open_set ≡ types_outside policy excluded → Contains (bits_of open_set) b ↔ (is_outside policy excluded b ≡ true)
+unfolding types_outside
+in_outside policy excluded open_set b is =
+    let range = range_with_len 1 policy.symbols.types.nprim in (
+      λ there. (kept (is_outside policy excluded) range b (subst (λ (xs : List ℕ). Contains xs b) is there)).1,
+      λ e.
+          let type = and_parts (is_type_value policy b) (not (has_bit excluded b)) e in
+          let within = and_parts (nat_le 1 b && nat_le b policy.symbols.types.nprim) (has_flavour policy.symbols Plain b) type.0 in
+          let ends = and_parts (nat_le 1 b) (nat_le b policy.symbols.types.nprim) within.0 in
+          let most = leb-true b policy.symbols.types.nprim ends.1 in
+          subst (λ (xs : List ℕ). Contains xs b) (sym is) (keeps (is_outside policy excluded) range b (contains_range 1 policy.symbols.types.nprim b (leb-true 1 b ends.0) (omega (arith, most))) e),
+    )
+
+pub outside_rises : (policy : Parts) (excluded : List Node) → IsStrictlyIncreasing (types_outside policy excluded)
+unfolding types_outside
+outside_rises policy excluded = filter_rises (is_outside policy excluded) 1 policy.symbols.types.nprim
+
+open_sides : (s t apart x y : Bool) → (((s && t) && apart) && not (x || y)) ≡ (((s && not x) && (t && not y)) && apart)
+open_sides false t apart x y = refl
+open_sides true false apart true y = refl
+open_sides true false apart false y = refl
+open_sides true true false true y = refl
+open_sides true true true true y = refl
+open_sides true true false false true = refl
+open_sides true true false false false = refl
+open_sides true true true false true = refl
+open_sides true true true false false = refl
+
+-- both are in the set of those that are not excluded, and they differ
+open_by_sides : (domains : Domains) (a b : ℕ) → is_open domains a b ≡ ((is_outside domains.policy domains.excluded a && is_outside domains.policy domains.excluded b) && not (a == b))
+open_by_sides domains a b = open_sides (is_type_value domains.policy a) (is_type_value domains.policy b) (not (a == b)) (has_bit domains.excluded a) (has_bit domains.excluded b)
+
+not_false : (b : Bool) → not b ≡ true → b ≡ false
+not_false true h = absurd (false≢true h)
+not_false false h = refl
+
+not_from : (b : Bool) → (b ≡ true → ⊥) → not b ≡ true
+not_from true h = absurd (h refl)
+not_from false h = refl
+
+-- an excluded type has no step
+pub none_open : (domains : Domains) (open_set : List Node) (a : ℕ) (types found : List ℕ) → bits_of open_set ≡ types_outside domains.policy domains.excluded → ¬ Contains (bits_of open_set) a → found ≡ [] → AreOpen domains a types found
+none_open domains open_set a types found is out none = record {
   each = λ b. (
-    λ there. (kept (edge a) candidates b (subst (λ (xs : List ℕ). Contains xs b) is there)).1,
-    λ e. subst (λ (xs : List ℕ). Contains xs b) (sym is) (keeps (edge a) candidates b (covers b e) e),
+    λ there. absurd (contains_nothing b (subst (λ (xs : List ℕ). Contains xs b) none there)),
+    λ h.
+        let sides = and_parts (is_outside domains.policy domains.excluded a && is_outside domains.policy domains.excluded b) (not (a == b)) (sym (open_by_sides domains a b) ∙ h.1) in
+        let first = (and_parts (is_outside domains.policy domains.excluded a) (is_outside domains.policy domains.excluded b) sides.0).0 in
+        absurd (out ((in_outside domains.policy domains.excluded open_set a is).1 first)),
   );
 }
 
+-- the others have steps to those in the set that are not themselves
+pub open_are : (domains : Domains) (open_set : List Node) (a : ℕ) (types both itself found : List ℕ) → bits_of open_set ≡ types_outside domains.policy domains.excluded → Contains (bits_of open_set) a → IsCommon types (bits_of open_set) both → itself ≡ a ∷ []
+    → IsDifference both itself found → AreOpen domains a types found
+open_are domains open_set a types both itself found is there common one less = record {
+  each = λ b.
+      let outside = is_outside domains.policy domains.excluded in
+      let other = in_outside domains.policy domains.excluded open_set b is in (
+        λ m.
+            let parts = (less.each b).0 m in
+            let sides = (common.each b).0 parts.0 in
+            let apart : not (a == b) ≡ true = not_from (a == b) (λ e. parts.1 (subst (λ (xs : List ℕ). Contains xs b) (sym one) (subst (λ (x : ℕ). Contains (x ∷ []) b) (sym (eqb-true a b e)) (contains_first b [])))) in
+            (sides.0, open_by_sides domains a b ∙ and_from (outside a && outside b) (not (a == b)) (and_from (outside a) (outside b) ((in_outside domains.policy domains.excluded open_set a is).0 there) (other.0 sides.1)) apart),
+        λ h.
+            let sides = and_parts (outside a && outside b) (not (a == b)) (sym (open_by_sides domains a b) ∙ h.1) in
+            let second = (and_parts (outside a) (outside b) sides.0).1 in
+            (less.each b).1 ((common.each b).1 (h.0, other.1 second), λ m. false≢true (sym (not_false (a == b) sides.1) ∙ eq-eqb a b (contains_one b a (subst (λ (xs : List ℕ). Contains xs b) one m)))),
+      );
+}
+
+-- a step is a transition that is open
+step_opens : (domains : Domains) (a b : ℕ) → is_step domains a b ≡ true → is_open domains a b ≡ true
+step_opens domains a b e = and_from (are_two_types domains.policy a b) (not (has_bit domains.excluded a || has_bit domains.excluded b)) (transition_types domains.policy a b (step_is_transition domains a b e))
+    (not_from (has_bit domains.excluded a || has_bit domains.excluded b) (λ h. false≢true (step_excluded domains a b h ∙ e)))
+
+open_steps : (domains : Domains) (a b : ℕ) → is_open domains a b ≡ true → is_transition domains.policy a b ≡ true → is_step domains a b ≡ true
+open_steps domains a b e t =
+    let parts = and_parts (are_two_types domains.policy a b) (not (has_bit domains.excluded a || has_bit domains.excluded b)) e in
+    sym (step_by_transition domains a b (not_false (has_bit domains.excluded a || has_bit domains.excluded b) parts.1)) ∙ t
+
+open_turns : (domains : Domains) (a b : ℕ) → is_open domains a b ≡ true → is_open domains b a ≡ true
+open_turns domains a b e =
+    let outside = is_outside domains.policy domains.excluded in
+    let sides = and_parts (outside a && outside b) (not (a == b)) (sym (open_by_sides domains a b) ∙ e) in
+    let both = and_parts (outside a) (outside b) sides.0 in
+    open_by_sides domains b a
+    ∙ and_from (outside b && outside a) (not (b == a)) (and_from (outside b) (outside a) both.1 both.0) (not_from (b == a) (λ h. false≢true (sym (not_false (a == b) sides.1) ∙ eq-eqb a b (sym (eqb-true b a h)))))
+
+two_types : (domains : Domains) (a b : ℕ) → is_open domains a b ≡ true → are_two_types domains.policy a b ≡ true
+two_types domains a b e = (and_parts (are_two_types domains.policy a b) (not (has_bit domains.excluded a || has_bit domains.excluded b)) e).0
+
+-- the steps from a type, and those to a type
+pub ends_from : (domains : Domains) (a : ℕ) (targets found : List ℕ) → AreTargets domains.policy a targets → AreOpen domains a targets found → AreEnds (is_step domains) a found
+ends_from domains a targets found are opened = record {
+  each = λ b. (
+    λ there. let h = (opened.each b).0 there in open_steps domains a b h.1 ((are.each b (two_types domains a b h.1)).0 h.0),
+    λ e. let way = step_opens domains a b e in (opened.each b).1 ((are.each b (two_types domains a b way)).1 (step_is_transition domains a b e), way),
+  );
+}
+
+pub ends_to : (domains : Domains) (b : ℕ) (sources found : List ℕ) → AreSources domains.policy b sources → AreOpen domains b sources found → AreEnds (λ node a. is_step domains a node) b found
+ends_to domains b sources found are opened = record {
+  each = λ a. (
+    λ there.
+        let h = (opened.each a).0 there in
+        let way = open_turns domains b a h.1 in
+        open_steps domains a b way ((are.each a (two_types domains a b way)).0 h.0),
+    λ e. let way = step_opens domains a b e in (opened.each a).1 ((are.each a (two_types domains a b way)).1 (step_is_transition domains a b e), open_turns domains a b way),
+  );
+}
+
+-- ---- edges
+
 pub filter_of_set_rises : (p : ℕ → Bool) (set : List Node) (found : List ℕ) → IsSet set → found ≡ filter p (bits_of set) → IsStrictlyIncreasing found
 filter_of_set_rises p set found form is = subst IsStrictlyIncreasing (sym is) (IsStrictlyIncreasing-filter p (bits_of set) (bits_increasing 0 set form.0))
+
+pub filter_of_sources_rises : (policy : Parts) (rules : List ℕ) (b : ℕ) (p : ℕ → Bool) (sources found : List ℕ) → sources ≡ sources_to policy rules b → found ≡ filter p sources → IsStrictlyIncreasing found
+unfolding sources_to
+filter_of_sources_rises policy rules b p sources found are is =
+    let joined = λ (source : ℕ). any_joins policy rules source b in
+    subst IsStrictlyIncreasing (sym (is ∙ ap (filter p) are)) (IsStrictlyIncreasing-filter p (filter joined (range_with_len 1 policy.symbols.types.nprim)) (filter_rises joined 1 policy.symbols.types.nprim))
 
 -- edges forward, and edges turned round
 pub ends_forward : {E : Type 0} (domains : Domains) (node : ℕ) (r : Result (List Node) E) → domains.reverse ≡ false → IfOk r (λ set. AreEnds (is_step domains) node (bits_of set)) → IfOk r (λ set. AreEnds (domain_edge domains) node (bits_of set))

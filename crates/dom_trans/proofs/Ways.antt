@@ -1,16 +1,13 @@
 -- The two ways of a transition, and the steps, test by test.
 use Rattle.std.proofs.Common.{◌≡◌, ℕ, Bool, true, false, refl, sym, ap, ◌∙◌}
 use Rattle.std.specs.Prelude.{◌&&◌, ◌||◌, not}
-use Rattle.std.specs.List.{list_any, range_with_len}
-use Rattle.std.proofs.lemmas.Bool.{and_left, and_right, and_from, false≢true, true≢false}
+use Rattle.std.proofs.lemmas.Bool.{and_left, and_right, false≢true, true≢false}
 use Rattle.pol_bitmap.specs.Nodes.{has_bit}
 use Rattle.pol_file.specs.declared.Parts.{Parts}
 use Rattle.dom_trans.specs.Grants.{grants, process, transition, dyntransition, setcurrent}
-use Rattle.dom_trans.specs.Transitions.{are_two_types, is_entry, is_standard, is_dynamic, is_transition}
+use Rattle.dom_trans.specs.Transitions.{are_two_types, is_standard, is_dynamic, is_transition}
 use Rattle.dom_trans.specs.DomainEdges.{Domains, is_step}
-
-abbrev pub any_entry : Parts → ℕ → ℕ → Bool
-any_entry policy a b = list_any (is_entry policy a b) (range_with_len 1 policy.symbols.types.nprim)
+use Rattle.dom_trans.specs.Targets.{has_entry}
 
 and_true : (x y : Bool) → y ≡ true → (x && y) ≡ x
 and_true true y e = e
@@ -20,15 +17,15 @@ module _ (policy : Parts) (a b : ℕ) where
   -- by executing a file
   pub standard_of_others : are_two_types policy a b ≡ false → false ≡ is_standard policy a b
   unfolding is_standard
-  standard_of_others e = sym (and_left (are_two_types policy a b && grants policy a b process transition) (any_entry policy a b) (and_left (are_two_types policy a b) (grants policy a b process transition) e))
+  standard_of_others e = sym (and_left (are_two_types policy a b && grants policy a b process transition) (has_entry policy a b) (and_left (are_two_types policy a b) (grants policy a b process transition) e))
 
-  pub standard_refused : grants policy a b process transition ≡ false → false ≡ is_standard policy a b
+  pub standard_without : has_entry policy a b ≡ false → false ≡ is_standard policy a b
   unfolding is_standard
-  standard_refused e = sym (and_left (are_two_types policy a b && grants policy a b process transition) (any_entry policy a b) (and_right (are_two_types policy a b) (grants policy a b process transition) e))
+  standard_without e = sym (and_right (are_two_types policy a b && grants policy a b process transition) (has_entry policy a b) e)
 
-  pub standard_by_entry : are_two_types policy a b ≡ true → grants policy a b process transition ≡ true → any_entry policy a b ≡ is_standard policy a b
+  pub standard_by_grant : are_two_types policy a b ≡ true → has_entry policy a b ≡ true → grants policy a b process transition ≡ is_standard policy a b
   unfolding is_standard
-  standard_by_entry two granted = sym (ap (λ (t : Bool). t && any_entry policy a b) (and_from (are_two_types policy a b) (grants policy a b process transition) two granted))
+  standard_by_grant two there = sym (and_true (are_two_types policy a b && grants policy a b process transition) (has_entry policy a b) there ∙ ap (λ (t : Bool). t && grants policy a b process transition) two)
 
   -- without one
   pub dynamic_of_others : are_two_types policy a b ≡ false → false ≡ is_dynamic policy a b

@@ -5,3 +5,4 @@ pub mod DomainEdges
 pub mod EdgesBetween
 pub mod Keeping
 pub mod RuleLists
+pub mod Targets

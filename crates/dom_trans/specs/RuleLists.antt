@@ -1,8 +1,8 @@
 -- The rules that transitions rest on, each list as chosen rules. It serves the code alone.
-use Rattle.std.specs.Prelude.{◌≡◌, ℕ, ◌<◌, ◌^◌, Bool, true, ◌&&◌, ◌||◌, List, [], ◌∷◌, length, map}
+use Rattle.std.specs.Prelude.{◌≡◌, ℕ, ◌<◌, ◌^◌, Bool, true, ◌||◌, List, [], ◌∷◌, length, map}
 use Rattle.std.specs.List.{All}
 use Rattle.pol_bitmap.specs.declared.Node.{Node}
-use Rattle.pol_bitmap.specs.Nodes.{bits_of, has_bit}
+use Rattle.pol_bitmap.specs.Nodes.{bits_of}
 use Rattle.pol_file.specs.declared.Parts.{Parts}
 use Rattle.rule_ends.specs.ChosenRules.{ChosenRules, is_between_types, targets_from}
 use Rattle.dom_trans.specs.declared.grant.Grant.{Grant}
@@ -50,6 +50,6 @@ pub record IsSourceOf (policy : Parts) (a : ℕ) (executable : List Node) (sets_
   pub asks : sets_exec ≡ grants policy a a process setexec
   pub changes : sets_current ≡ grants policy a a process setcurrent
 
--- an entry point of a domain is an entry from a type, by the set of what the type may execute
-abbrev pub leads : Parts → ℕ → ℕ → List Node → ℕ → Bool
-leads policy a b executable entry = has_bit executable entry && (grants policy a a process setexec || is_default policy a b entry)
+-- an entry point of a domain, which a type may execute, is an entry
+abbrev pub leads : Parts → ℕ → ℕ → ℕ → Bool
+leads policy a b entry = grants policy a a process setexec || is_default policy a b entry

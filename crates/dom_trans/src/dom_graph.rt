@@ -1,14 +1,12 @@
-ghost use Rattle.std.specs.Prelude.{◌≡◌, ◌||◌, IfOk};
-ghost use Rattle.std.specs.List.{filter};
-ghost use Rattle.pol_bitmap.specs.Nodes.{bits_of, has_bit};
+ghost use Rattle.std.specs.Prelude.{◌≡◌, IfOk};
+ghost use Rattle.pol_bitmap.specs.Nodes.{bits_of};
 ghost use Rattle.pol_expand.specs.PolicyMap.{IsPolicyMap};
 ghost use Rattle.walk_enum.specs.Walks.{AreEnds};
 ghost use Rattle.dom_trans.specs.ReasonLists.{reasons_between};
 ghost use Rattle.dom_trans.specs.DomainEdges.{domain_edge, is_step};
-ghost use Rattle.dom_trans.specs.RuleLists.{IsSourceOf};
+ghost use Rattle.dom_trans.specs.Targets.{AreOpen};
 
-use crate::dom_rules::{DomRules, Source};
-use crate::keeping::push_if;
+use crate::dom_rules::DomRules;
 use crate::reasons::Reasons;
 use pol_bitmap::Set;
 use pol_expand::TypeMap;
@@ -26,15 +24,22 @@ use walk_enum::{Graph, Steps};
 pub struct DomGraph<'p> {
     rules: DomRules<'p>,
     excluded: Set,
+    // The types that are not excluded.
+    included: Set,
     reverse: bool,
 }
 
 impl<'p> Model for DomGraph<'p> {
+    ghost use Rattle.std.specs.Prelude.{◌≡◌};
+    ghost use Rattle.pol_bitmap.specs.Nodes.{bits_of};
     ghost use Rattle.dom_trans.specs.DomainEdges.{Domains};
+    ghost use Rattle.dom_trans.specs.Targets.{types_outside};
 
     ghost Value = { Domains };
 
     ghost view = { λ g. record { policy = g.rules; excluded = g.excluded; reverse = g.reverse } };
+
+    ghost invariant = { λ g. bits_of g.included ≡ types_outside g.rules g.excluded };
 }
 
 impl<'p> DomGraph<'p> {
@@ -49,9 +54,12 @@ impl<'p> DomGraph<'p> {
         requires { IsPolicyMap policy.now types.now }
         ensures { IfOk result (λ graph. graph ≡ record { policy = policy.now; excluded = excluded.now; reverse = reverse }) }
     {
+        let rules = DomRules::new(alloc, policy, types)?;
+        let included = rules.types_outside(alloc, excluded)?;
         Ok(DomGraph {
-            rules: DomRules::new(alloc, policy, types)?,
+            rules,
             excluded: excluded.share()?,
+            included,
             reverse,
         })
     }
@@ -82,68 +90,16 @@ impl<'p> DomGraph<'p> {
         self.rules.reasons(alloc, from, to)
     }
 
-    // Whether a type is excluded.
-    fn is_excluded(&self, node: u32) -> bool
-        ensures { result ≡ has_bit self.now.excluded node }
+    // Those of some types between which and a type a step may be: two different types, none of them excluded.
+    fn open_among(&self, alloc: Global, a: u32, types: &Set) -> Result<Set, AllocError>
+        ensures { IfOk result (λ found. AreOpen self.now a (bits_of types.now) (bits_of found)) }
     {
-        self.excluded.has(node)
-    }
-
-    // Whether one of two types is.
-    fn is_one_excluded(&self, a: u32, b: u32) -> bool
-        ensures { result ≡ (has_bit self.now.excluded a || has_bit self.now.excluded b) }
-    {
-        self.is_excluded(a) || self.is_excluded(b)
-    }
-
-    // Whether there is a step from a type, of which this is known, to a type.
-    fn is_step(&self, alloc: Global, a: u32, source: &Source, b: u32) -> Result<bool, AllocError>
-        requires { IsSourceOf self.now.policy a source.now.executable source.now.setexec source.now.setcurrent }
-        ensures { IfOk result (λ holds. holds ≡ is_step self.now a b) }
-    {
-        if self.is_one_excluded(a, b) {
-            return Ok(false);
+        if !self.included.has(a) {
+            return Set::empty(alloc);
         }
-        self.rules.is_transition(alloc, a, source, b)
-    }
-
-    // Whether there is a step from a type to a type.
-    fn is_step_from(&self, alloc: Global, a: u32, b: u32) -> Result<bool, AllocError>
-        ensures { IfOk result (λ holds. holds ≡ is_step self.now a b) }
-    {
-        let source = self.rules.source(alloc, a)?;
-        self.is_step(alloc, a, &source, b)
-    }
-
-    // Those of some types that a type, of which this is known, has a step to.
-    fn steps_among(
-        &self,
-        alloc: Global,
-        a: u32,
-        source: &Source,
-        targets: &Set,
-    ) -> Result<Vec<u32>, AllocError>
-        requires { IsSourceOf self.now.policy a source.now.executable source.now.setexec source.now.setcurrent }
-        ensures { IfOk result (λ found. found.items ≡ filter (is_step self.now a) (bits_of targets.now)) }
-    {
-        let mut found = Vec::new(alloc);
-        for b in targets.bits() {
-            let holds = self.is_step(alloc, a, source, b)?;
-            push_if(&mut found, b, holds)?;
-        }
-        Ok(found)
-    }
-
-    // Those of some types that have a step to a type.
-    fn steps_into(&self, alloc: Global, b: u32, sources: &Set) -> Result<Vec<u32>, AllocError>
-        ensures { IfOk result (λ found. found.items ≡ filter (λ a. is_step self.now a b) (bits_of sources.now)) }
-    {
-        let mut found = Vec::new(alloc);
-        for a in sources.bits() {
-            let holds = self.is_step_from(alloc, a, b)?;
-            push_if(&mut found, a, holds)?;
-        }
-        Ok(found)
+        let itself = Set::from_rising(alloc, &[a])?;
+        let both = types.common(alloc, &self.included)?;
+        both.difference(alloc, &itself)
     }
 
     // The types that a type has a step to.
@@ -151,9 +107,8 @@ impl<'p> DomGraph<'p> {
         ensures { IfOk result (λ set. AreEnds (is_step self.now) a (bits_of set)) }
     {
         let source = self.rules.source(alloc, a)?;
-        let targets = self.rules.targets(alloc, a)?;
-        let found = self.steps_among(alloc, a, &source, &targets)?;
-        Set::from_rising(alloc, &found)
+        let targets = self.rules.targets(alloc, a, &source)?;
+        self.open_among(alloc, a, &targets)
     }
 
     // The types that have a step to a type.
@@ -161,8 +116,7 @@ impl<'p> DomGraph<'p> {
         ensures { IfOk result (λ set. AreEnds (λ node a. is_step self.now a node) b (bits_of set)) }
     {
         let sources = self.rules.sources(alloc, b)?;
-        let found = self.steps_into(alloc, b, &sources)?;
-        Set::from_rising(alloc, &found)
+        self.open_among(alloc, b, &sources)
     }
 }
 

@@ -1,12 +1,15 @@
-ghost use Rattle.std.specs.Prelude.{◌≡◌, ℕ, true, [], ◌∷◌, ◌++◌, IfOk, OnOk, map, if◌then◌else◌};
-ghost use Rattle.std.specs.List.{Contains, list_any, range_with_len};
+ghost use Rattle.std.specs.Prelude.{◌≡◌, ℕ, ◌+◌, ◌<◌, ◌||◌, false, [], ◌∷◌, ◌++◌, IfOk, IfSome, OnOk, length, map, if◌then◌else◌};
+ghost use Rattle.std.specs.List.{filter, list_any};
 ghost use Rattle.pol_bitmap.specs.Nodes.{bits_of};
-ghost use Rattle.pol_bitmap.specs.Sets.{IsSet};
+ghost use Rattle.pol_bitmap.specs.Sets.{IsCommon};
 ghost use Rattle.pol_expand.specs.PolicyMap.{IsPolicyMap};
-ghost use Rattle.rule_ends.specs.ChosenRules.{rules_between, targets_from};
+ghost use Rattle.rule_ends.specs.ChosenRules.{rules_between, targets_from, sources_to};
 ghost use Rattle.rule_ends.specs.EndTables.{is_type_value};
-ghost use Rattle.dom_trans.specs.Grants.{granting_rules, file, entrypoint};
-ghost use Rattle.dom_trans.specs.Transitions.{are_two_types, is_default, is_entry, entries, is_standard, is_dynamic, is_transition, defaults_between};
+ghost use Rattle.pol_rules.specs.StoredRules.{stored_rules};
+ghost use Rattle.value_groups.specs.Marking.{is_among};
+ghost use Rattle.dom_trans.specs.Targets.{AreEntered, AreTargets, AreEntering, AreSources, is_default_at, is_found, is_outside, may_enter, types_outside};
+ghost use Rattle.dom_trans.specs.Grants.{granting_rules, grants, default_rules, process, dyntransition, setcurrent, file, entrypoint};
+ghost use Rattle.dom_trans.specs.Transitions.{are_two_types, is_default, entries, is_standard, is_dynamic, defaults_between};
 ghost use Rattle.dom_trans.specs.ReasonLists.{entry_reason, reasons_between};
 ghost use Rattle.dom_trans.specs.RuleLists.{HaveTypeEnds, IsSourceOf, chosen, leads, rules_of};
 
@@ -19,9 +22,11 @@ use pol_cursor::{NumberList, OwnedList};
 use pol_datums::Flavour;
 use pol_expand::{TypeMap, is_flavour};
 use pol_read::Policy;
+use pol_rules::RulePart;
 use rule_ends::RuleEnds;
 use std::alloc::{AllocError, Global};
 use std::marker::Model;
+use value_groups::DenseSet;
 
 /// The rules of a policy that transitions rest on, by what they grant. Contracts see the policy.
 #[derive(Drop)]
@@ -90,13 +95,40 @@ impl<'p> DomRules<'p> {
         &self.lists[grant.place()]
     }
 
-    /// Whether a value is that of a type, and of no attribute.
-    pub fn is_type(&self, value: u32) -> bool
+    // Whether a value is that of a type, and of no attribute.
+    fn is_type(&self, value: u32) -> bool
         ensures { result ≡ is_type_value self.now value }
     {
         1 <= value
             && value <= self.policy.type_count()
             && is_flavour(Flavour::Plain, self.policy.symbols().flavour(value))
+    }
+
+    /// The types that are not in a set.
+    pub fn types_outside(&self, alloc: Global, excluded: &Set) -> Result<Set, AllocError>
+        ensures { IfOk result (λ set. bits_of set ≡ types_outside self.now excluded.now) }
+    {
+        let values = self.values_outside(alloc, excluded)?;
+        Set::from_rising(alloc, &values)
+    }
+
+    // Their values, rising.
+    fn values_outside(&self, alloc: Global, excluded: &Set) -> Result<Vec<u32>, AllocError>
+        ensures { IfOk result (λ values. values.items ≡ types_outside self.now excluded.now) }
+    {
+        let mut values = Vec::new(alloc);
+        for i in 0..self.policy.type_count() {
+            let outside = self.is_outside(i + 1, excluded);
+            push_if(&mut values, i + 1, outside)?;
+        }
+        Ok(values)
+    }
+
+    // Whether a value is that of a type that is not in a set.
+    fn is_outside(&self, value: u32, excluded: &Set) -> bool
+        ensures { result ≡ is_outside self.now excluded.now value }
+    {
+        self.is_type(value) && !excluded.has(value)
     }
 
     /// What a type may do.
@@ -119,6 +151,14 @@ impl<'p> DomRules<'p> {
         self.list(Grant::Entrypoint).targets_of(alloc, b)
     }
 
+    // Those of some types from which a process that a type starts has a default domain.
+    fn starts(&self, alloc: Global, a: u32, entries: &Set) -> Result<Set, AllocError>
+        ensures { IfOk result (λ starts. IsCommon (targets_from self.now (default_rules self.now) a) (bits_of entries.now) (bits_of starts)) }
+    {
+        let all = self.list(Grant::Default).targets_of(alloc, a)?;
+        all.common(alloc, entries)
+    }
+
     // Whether the one type is the default domain of a process that the other starts from an entry type.
     fn is_default(&self, alloc: Global, a: u32, b: u32, entry: u32) -> Result<bool, AllocError>
         ensures { IfOk result (λ found. found ≡ is_default self.now a b entry) }
@@ -126,6 +166,24 @@ impl<'p> DomRules<'p> {
         let numbers = self.list(Grant::Default).between(alloc, a, entry)?;
         for number in &numbers {
             if has_default(b, &self.policy.rule(*number)) {
+                return Ok(true);
+            }
+        }
+        Ok(false)
+    }
+
+    // Whether it is for one of some entry types.
+    fn is_any_default(
+        &self,
+        alloc: Global,
+        a: u32,
+        b: u32,
+        entries: &Set,
+    ) -> Result<bool, AllocError>
+        ensures { IfOk result (λ found. found ≡ list_any (is_default self.now a b) (bits_of entries.now)) }
+    {
+        for entry in entries.bits() {
+            if self.is_default(alloc, a, b, entry)? {
                 return Ok(true);
             }
         }
@@ -151,7 +209,7 @@ impl<'p> DomRules<'p> {
         Ok(OwnedList::from_vec(found))
     }
 
-    // Whether an entry point of a domain is an entry from a type.
+    // Whether an entry point of a domain, which a type may execute, is an entry.
     fn leads(
         &self,
         alloc: Global,
@@ -161,29 +219,12 @@ impl<'p> DomRules<'p> {
         entry: u32,
     ) -> Result<bool, AllocError>
         requires { IsSourceOf self.now a source.now.executable source.now.setexec source.now.setcurrent }
-        ensures { IfOk result (λ found. found ≡ leads self.now a b source.now.executable entry) }
+        ensures { IfOk result (λ found. found ≡ leads self.now a b entry) }
     {
-        if !source.executable.has(entry) {
-            return Ok(false);
+        if !source.setexec {
+            return self.is_default(alloc, a, b, entry);
         }
-        if source.setexec {
-            return Ok(true);
-        }
-        self.is_default(alloc, a, b, entry)
-    }
-
-    // Whether there is an entry from a type to a domain.
-    fn has_entry(&self, alloc: Global, a: u32, source: &Source, b: u32) -> Result<bool, AllocError>
-        requires { IsSourceOf self.now a source.now.executable source.now.setexec source.now.setcurrent }
-        ensures { IfOk result (λ found. found ≡ list_any (is_entry self.now a b) (range_with_len 1 self.now.symbols.types.nprim)) }
-    {
-        let points = self.points(alloc, b)?;
-        for entry in points.bits() {
-            if self.leads(alloc, a, source, b, entry)? {
-                return Ok(true);
-            }
-        }
-        Ok(false)
+        Ok(true)
     }
 
     // The entries from a type to a domain, rising.
@@ -198,14 +239,18 @@ impl<'p> DomRules<'p> {
         ensures { IfOk result (λ found. found.items ≡ entries self.now a b) }
     {
         let points = self.points(alloc, b)?;
+        let both = points.common(alloc, &source.executable)?;
         let mut found = Vec::new(alloc);
-        for entry in points.bits() {
+        for entry in both.bits() {
             let leads = self.leads(alloc, a, source, b, entry)?;
             push_if(&mut found, entry, leads)?;
         }
         Ok(found)
     }
+}
 
+// The ways from a type and to a type.
+impl<'p> DomRules<'p> {
     // Whether two values are those of different types, and of no attributes.
     fn are_two_types(&self, a: u32, b: u32) -> bool
         ensures { result ≡ are_two_types self.now a b }
@@ -213,24 +258,18 @@ impl<'p> DomRules<'p> {
         self.is_type(a) && self.is_type(b) && a != b
     }
 
-    // Whether there is a transition by executing a file.
-    fn is_standard(
-        &self,
-        alloc: Global,
-        a: u32,
-        source: &Source,
-        b: u32,
-    ) -> Result<bool, AllocError>
-        requires { IsSourceOf self.now a source.now.executable source.now.setexec source.now.setcurrent }
+    // Whether there is a transition by executing a file, of which these are the entries.
+    fn is_standard(&self, alloc: Global, a: u32, b: u32, found: &[u32]) -> Result<bool, AllocError>
+        requires { found.now ≡ entries self.now a b }
         ensures { IfOk result (λ holds. holds ≡ is_standard self.now a b) }
     {
         if !self.are_two_types(a, b) {
             return Ok(false);
         }
-        if !self.list(Grant::Transition).has_between(alloc, a, b)? {
+        if found.is_empty() {
             return Ok(false);
         }
-        self.has_entry(alloc, a, source, b)
+        self.list(Grant::Transition).has_between(alloc, a, b)
     }
 
     // Whether there is a transition without one.
@@ -241,47 +280,176 @@ impl<'p> DomRules<'p> {
         if !self.are_two_types(a, b) {
             return Ok(false);
         }
-        if !source.setcurrent {
-            return Ok(false);
+        if source.setcurrent {
+            return self.list(Grant::Dyntransition).has_between(alloc, a, b);
         }
-        self.list(Grant::Dyntransition).has_between(alloc, a, b)
+        Ok(false)
     }
 
-    /// Whether there is a transition from a type, of which this is known, to another.
-    pub fn is_transition(
+    // The types that have an entry from a type, of which this is known.
+    fn entered(&self, alloc: Global, a: u32, source: &Source) -> Result<Set, AllocError>
+        requires { IsSourceOf self.now a source.now.executable source.now.setexec source.now.setcurrent }
+        ensures { IfOk result (λ set. AreEntered self.now a (bits_of set)) }
+    {
+        if source.setexec {
+            self.list(Grant::Entrypoint)
+                .sources_of_any(alloc, &source.executable)
+        } else {
+            self.entered_by_default(alloc, a, source)
+        }
+    }
+
+    // The types that are the default domain of a process that a type starts from one of their entry points.
+    fn entered_by_default(&self, alloc: Global, a: u32, source: &Source) -> Result<Set, AllocError>
+        requires source { IsSourceOf self.now a source.now.executable source.now.setexec source.now.setcurrent }
+        requires without { source.now.setexec ≡ false }
+        ensures { IfOk result (λ set. AreEntered self.now a (bits_of set)) }
+    {
+        let entries = self.starts(alloc, a, &source.executable)?;
+        let mut found = DenseSet::new(alloc, self.policy.type_count() as usize + 1)?;
+        for entry in entries.bits() {
+            self.add_defaults(alloc, a, entry, &mut found)?;
+        }
+        found.to_set(alloc)
+    }
+
+    // Adds the default domains of a process that a type starts from an entry type, where that is an entry point of theirs.
+    fn add_defaults(
         &self,
         alloc: Global,
         a: u32,
-        source: &Source,
-        b: u32,
-    ) -> Result<bool, AllocError>
-        requires { IsSourceOf self.now a source.now.executable source.now.setexec source.now.setcurrent }
-        ensures { IfOk result (λ holds. holds ≡ is_transition self.now a b) }
+        entry: u32,
+        found: &mut DenseSet,
+    ) -> Result<(), AllocError>
+        requires { found.old.count ≡ self.now.symbols.types.nprim + 1 }
+        ensures count { found.new.count ≡ found.old.count }
+        ensures each { OnOk result ((b : ℕ) → is_among found.new.values b ≡ (is_among found.old.values b || list_any (is_default_at self.now entry b) (rules_between self.now (default_rules self.now) a entry))) }
     {
-        if self.is_standard(alloc, a, source, b)? {
-            return Ok(true);
+        let numbers = self.list(Grant::Default).between(alloc, a, entry)?;
+        for number in &numbers {
+            self.add_default(alloc, *number, entry, found)?;
         }
-        self.is_dynamic(alloc, a, source, b)
+        Ok(())
     }
 
-    /// Types among which are all that a type has a transition to.
-    pub fn targets(&self, alloc: Global, a: u32) -> Result<Set, AllocError>
-        ensures form { IfOk result IsSet }
-        ensures all { IfOk result (λ set. (b : ℕ) → is_transition self.now a b ≡ true → Contains (bits_of set) b) }
+    // Adds the default of a rule, where a type is an entry point of it.
+    fn add_default(
+        &self,
+        alloc: Global,
+        number: u32,
+        entry: u32,
+        found: &mut DenseSet,
+    ) -> Result<(), AllocError>
+        requires rule { number < length (stored_rules self.now) }
+        requires count { found.old.count ≡ self.now.symbols.types.nprim + 1 }
+        ensures count { found.new.count ≡ found.old.count }
+        ensures each { OnOk result ((b : ℕ) → is_among found.new.values b ≡ (is_among found.old.values b || is_default_at self.now entry b number)) }
     {
-        let standard = self.list(Grant::Transition).targets_of(alloc, a)?;
+        let Some(b) = self.default_at(alloc, number, entry)? else {
+            return Ok(());
+        };
+        found.add(b);
+        Ok(())
+    }
+
+    // The default of a rule, where it is a type that an entry type is an entry point of.
+    fn default_at(&self, alloc: Global, number: u32, entry: u32) -> Result<Option<u32>, AllocError>
+        requires { number < length (stored_rules self.now) }
+        ensures each { IfOk result (λ found. (b : ℕ) → is_found found b ≡ is_default_at self.now entry b number) }
+        ensures small { IfOk result (λ found. IfSome found (λ b. b < self.now.symbols.types.nprim + 1)) }
+    {
+        let RulePart::Default(b) = self.policy.rule(number).part else {
+            return Ok(None);
+        };
+        if !self.is_type(b) {
+            return Ok(None);
+        }
+        if !self.list(Grant::Entrypoint).has_between(alloc, b, entry)? {
+            return Ok(None);
+        }
+        Ok(Some(b))
+    }
+
+    /// The types that a type, of which this is known, may change to, itself among them where it may.
+    pub fn targets(&self, alloc: Global, a: u32, source: &Source) -> Result<Set, AllocError>
+        requires { IsSourceOf self.now a source.now.executable source.now.setexec source.now.setcurrent }
+        ensures { IfOk result (λ set. AreTargets self.now a (bits_of set)) }
+    {
+        let entered = self.entered(alloc, a, source)?;
+        let allowed = self.list(Grant::Transition).targets_of(alloc, a)?;
+        let standard = allowed.common(alloc, &entered)?;
+        if !source.setcurrent {
+            return Ok(standard);
+        }
         let dynamic = self.list(Grant::Dyntransition).targets_of(alloc, a)?;
         standard.union(alloc, &dynamic)
     }
 
-    /// Types among which are all that have a transition to a type.
+    /// The types that may change to a type, itself among them where it may.
     pub fn sources(&self, alloc: Global, b: u32) -> Result<Set, AllocError>
-        ensures form { IfOk result IsSet }
-        ensures all { IfOk result (λ set. (a : ℕ) → is_transition self.now a b ≡ true → Contains (bits_of set) a) }
+        ensures { IfOk result (λ set. AreSources self.now b (bits_of set)) }
     {
-        let standard = self.list(Grant::Transition).sources_of(alloc, b)?;
-        let dynamic = self.list(Grant::Dyntransition).sources_of(alloc, b)?;
-        standard.union(alloc, &dynamic)
+        let entering = self.entering(alloc, b)?;
+        let turning = self.turning(alloc, b)?;
+        entering.union(alloc, &turning)
+    }
+
+    // The types that may change to a type by executing a file.
+    fn entering(&self, alloc: Global, b: u32) -> Result<Set, AllocError>
+        ensures { IfOk result (λ set. AreEntering self.now b (bits_of set)) }
+    {
+        let points = self.points(alloc, b)?;
+        let executing = self.list(Grant::Execute).sources_of_any(alloc, &points)?;
+        let allowed = self.list(Grant::Transition).sources_of(alloc, b)?;
+        let among = allowed.common(alloc, &executing)?;
+        let found = self.entering_among(alloc, b, &points, &among)?;
+        Set::from_rising(alloc, &found)
+    }
+
+    // Those of some types that enter a domain, of which these are the entry points, where they may execute one.
+    fn entering_among(
+        &self,
+        alloc: Global,
+        b: u32,
+        points: &Set,
+        types: &Set,
+    ) -> Result<Vec<u32>, AllocError>
+        requires { bits_of points.now ≡ targets_from self.now (granting_rules self.now file entrypoint) b }
+        ensures { IfOk result (λ found. found.items ≡ filter (λ a. may_enter self.now a b) (bits_of types.now)) }
+    {
+        let mut found = Vec::new(alloc);
+        for a in types.bits() {
+            let enters = self.may_enter(alloc, a, b, points)?;
+            push_if(&mut found, a, enters)?;
+        }
+        Ok(found)
+    }
+
+    // Whether a type may ask for a domain, or starts it by default from one of its entry points.
+    fn may_enter(&self, alloc: Global, a: u32, b: u32, points: &Set) -> Result<bool, AllocError>
+        requires { bits_of points.now ≡ targets_from self.now (granting_rules self.now file entrypoint) b }
+        ensures { IfOk result (λ holds. holds ≡ may_enter self.now a b) }
+    {
+        if self.list(Grant::Setexec).has_between(alloc, a, a)? {
+            return Ok(true);
+        }
+        let starts = self.starts(alloc, a, points)?;
+        let executable = self.list(Grant::Execute).targets_of(alloc, a)?;
+        let entries = starts.common(alloc, &executable)?;
+        self.is_any_default(alloc, a, b, &entries)
+    }
+
+    // The types that may change to a type without executing a file.
+    fn turning(&self, alloc: Global, b: u32) -> Result<Set, AllocError>
+        ensures { IfOk result (λ set. bits_of set ≡ filter (λ a. grants self.now a a process setcurrent) (sources_to self.now (granting_rules self.now process dyntransition) b)) }
+    {
+        let allowed = self.list(Grant::Dyntransition).sources_of(alloc, b)?;
+        let mut found = Vec::new(alloc);
+        for a in allowed.bits() {
+            let turns = self.list(Grant::Setcurrent).has_between(alloc, a, a)?;
+            push_if(&mut found, a, turns)?;
+        }
+        Set::from_rising(alloc, &found)
     }
 }
 
@@ -304,19 +472,18 @@ impl<'p> DomRules<'p> {
         })
     }
 
-    // Those of all entries.
+    // Those of entries.
     fn entry_reasons(
         &self,
         alloc: Global,
         a: u32,
-        source: &Source,
         b: u32,
+        entries: &[u32],
     ) -> Result<EntryReasonList, AllocError>
-        requires { IsSourceOf self.now a source.now.executable source.now.setexec source.now.setcurrent }
-        ensures { IfOk result (λ reasons. reasons ≡ map (entry_reason self.now a b) (entries self.now a b)) }
+        ensures { IfOk result (λ reasons. reasons ≡ map (entry_reason self.now a b) entries.now) }
     {
         let mut reasons = Vec::new(alloc);
-        for entry in &self.entries(alloc, a, source, b)? {
+        for entry in entries {
             reasons.push(self.entry_reason(alloc, a, b, *entry)?)?;
         }
         Ok(OwnedList::from_vec(reasons))
@@ -327,31 +494,31 @@ impl<'p> DomRules<'p> {
         ensures { IfOk result (λ reasons. reasons ≡ reasons_between self.now a b) }
     {
         let source = self.source(alloc, a)?;
-        let standard = self.is_standard(alloc, a, &source, b)?;
+        let entries = self.entries(alloc, a, &source, b)?;
+        let standard = self.is_standard(alloc, a, b, &entries)?;
         let dynamic = self.is_dynamic(alloc, a, &source, b)?;
         Ok(Reasons {
             transition: between_where(alloc, standard, self.list(Grant::Transition), a, b)?,
             setexec: between_where(alloc, standard, self.list(Grant::Setexec), a, a)?,
-            entries: self.entries_where(alloc, standard, a, &source, b)?,
+            entries: self.entries_where(alloc, standard, a, b, &entries)?,
             dyntransition: between_where(alloc, dynamic, self.list(Grant::Dyntransition), a, b)?,
             setcurrent: between_where(alloc, dynamic, self.list(Grant::Setcurrent), a, a)?,
         })
     }
 
-    // The rules of all entries where a test holds.
+    // The rules of entries where a test holds.
     fn entries_where(
         &self,
         alloc: Global,
         holds: bool,
         a: u32,
-        source: &Source,
         b: u32,
+        entries: &[u32],
     ) -> Result<EntryReasonList, AllocError>
-        requires { IsSourceOf self.now a source.now.executable source.now.setexec source.now.setcurrent }
-        ensures { IfOk result (λ reasons. reasons ≡ (if holds then map (entry_reason self.now a b) (entries self.now a b) else [])) }
+        ensures { IfOk result (λ reasons. reasons ≡ (if holds then map (entry_reason self.now a b) entries.now else [])) }
     {
         if holds {
-            self.entry_reasons(alloc, a, source, b)
+            self.entry_reasons(alloc, a, b, entries)
         } else {
             Ok(OwnedList::from_vec(Vec::new(alloc)))
         }
