@@ -1,6 +1,6 @@
 -- The lines of single rules that are left.
-use Rattle.std.proofs.Common.{inl, inr, ◌≡◌, ◌∙◌, ◌≤◌, ◌<◌, ◌+◌, ℕ, zero, suc, List, [], ◌∷◌, Option, Some, None, length, map, take, drop, refl, sym, ap, arith, subst}
-use Rattle.std.specs.Prelude.{min, slice_get}
+use Rattle.std.proofs.Common.{inl, inr, true, false, ◌≡◌, ◌∙◌, ◌≤◌, ◌<◌, ◌+◌, ℕ, zero, suc, List, [], ◌∷◌, Option, Some, None, length, map, take, drop, refl, sym, ap, arith, subst}
+use Rattle.std.specs.Prelude.{min, slice_get, IfSome, IsSome}
 use Rattle.std.specs.List.{All, concat}
 use Rattle.std.specs.List.{flat_map}
 use Rattle.std.proofs.lemmas.Bool.{cases_lt}
@@ -18,7 +18,9 @@ use Rattle.rule_singles.specs.Singles.{ends_found, ends_of_rule}
 use Rattle.se_items.specs.Paging.{limited, most_items, page}
 use Rattle.se_words.specs.SearchRequest.{SearchAsks}
 use Rattle.se_search.specs.SearchAnswer.{found_rules, single_line, singles_text}
-use Rattle.se_search.specs.SingleLines.{AreOfRules, lines_after}
+use Rattle.rule_text.specs.RuleFrames.{frame_line}
+use Rattle.se_search.specs.declared.single_lines.LastFrame.{LastFrame}
+use Rattle.se_search.specs.SingleLines.{AreOfRules, IsFrame, IsFrameFor, IsFrameOf, IsHeadOf, lines_after}
 
 -- ---- lists
 
@@ -107,6 +109,21 @@ none_next ps k (Some x) gives none = absurd (none x refl)
 
 pub few_lines_left : (policy : Parts) (ps : List Product) (k : ℕ) → length (lines_after policy ps k) ≤ most_items
 few_lines_left policy ps k = few_taken most_items k (map (single_line policy) (members ps))
+
+-- ---- the frame of the last line
+
+-- it stays where it is that of the rule and its source
+pub frame_kept : (policy : Parts) (single : Single) (frame : Option LastFrame) → IsFrame policy frame → IfSome frame (λ last. (last.rule ≡ single.rule) × (last.source ≡ single.source)) × IsSome frame → IsFrameFor policy single frame
+frame_kept policy single None is h = let no : false ≡ true = h.1 in absurd cc
+frame_kept policy single (Some last) is h = (subst (λ (rule : ℕ). IsFrameOf policy rule last) h.0.0 is.0, subst (λ (source : ℕ). IsHeadOf source last) h.0.1 is.1)
+
+pub frame_made : (policy : Parts) (single : Single) (last : LastFrame) → IsFrameOf policy single.rule last → IsHeadOf single.source last → IsFrame policy (Some last)
+frame_made policy single last of_rule head = (subst (λ (rule : ℕ). IsFrameOf policy rule last) (sym of_rule.rule_is) of_rule, subst (λ (source : ℕ). IsHeadOf source last) (sym head.source_is) head)
+
+-- its line with the target is that of the rule
+pub framed_line : (policy : Parts) (single : Single) (last : LastFrame) → IsFrameFor policy single (Some last) → frame_line last.frame last.head.items single.target ≡ single_line policy single
+unfolding single_line
+framed_line policy single last is = ap (λ (head : List ℕ). frame_line last.frame head single.target) is.1.head ∙ is.0.line single.source single.target
 
 -- ---- rules
 

@@ -1,12 +1,11 @@
 // The lines of rules between single types, as items that are written one after the other.
-ghost use Rattle.std.specs.Prelude.{◌≡◌, ◌<◌, ◌++◌, OnOk, IfSome, IsSome, IsTrue, length, min};
+ghost use Rattle.std.specs.Prelude.{◌≡◌, ℕ, ◌<◌, ◌++◌, OnOk, IfOk, IfSome, IsSome, IsTrue, length, min};
 ghost use Rattle.pol_places.specs.Members.{members};
 ghost use Rattle.pol_rules.specs.StoredRules.{stored_rules};
 ghost use Rattle.se_items.specs.Paging.{most_items};
 ghost use Rattle.se_search.specs.SearchAnswer.{single_line};
 ghost use Rattle.pol_file.specs.declared.Parts.{Parts};
-ghost use Rattle.rule_text.specs.RuleTexts.{single_text};
-ghost use Rattle.se_search.specs.SingleLines.{AreOfRules, IsFrame, IsFrameFor};
+ghost use Rattle.se_search.specs.SingleLines.{AreOfRules, IsFrame, IsFrameFor, IsFrameOf, IsHeadOf};
 
 use pol_places::{Place, Places, Single};
 use rule_text::{RuleFrame, RuleTexts};
@@ -28,11 +27,13 @@ pub struct SingleLines<'s, 'p, 'a> {
     frame: Option<LastFrame<'p, 'a>>,
 }
 
-/// The text of the rule that was written last, with its ends left open.
+/// The line of the rule that was written last, with its ends left open, and what stood before its target.
 #[derive(Drop)]
 pub struct LastFrame<'p, 'a> {
     pub rule: u32,
-    pub text: RuleFrame<'p, 'a>,
+    pub frame: RuleFrame<'p, 'a>,
+    pub source: u32,
+    pub head: Vec<u8>,
 }
 
 impl<'s, 'p, 'a> Model for SingleLines<'s, 'p, 'a> {
@@ -107,8 +108,7 @@ fn passed_of(places: &Places<'_>, from: u64) -> u64
     wanted.min(places.count()) as u64
 }
 
-// Adds the line of a single rule. The frame is that of the last rule, and becomes that of this one.
-#[tactic(auto, unfolding(crate::specs::SearchAnswer::single_line))]
+// Adds the line of a single rule. The frame is that of the last one, and becomes that of this one.
 fn push_line<'p, 'a>(
     texts: &RuleTexts<'p, 'a>,
     frame: &mut Option<LastFrame<'p, 'a>>,
@@ -120,51 +120,98 @@ fn push_line<'p, 'a>(
     ensures frame { IsFrame texts.now frame.new }
     ensures line { OnOk result (buffer.new.items ≡ buffer.old.items ++ single_line texts.now single) }
 {
-    keep_frame(*buffer.allocator(), texts, frame, single.rule)?;
-    push_text(frame, single, buffer)?;
-    Ok(buffer.push(b'\n')?)
+    keep_frame(*buffer.allocator(), texts, frame, single)?;
+    push_framed(frame, single, buffer)
 }
 
-// Makes a frame that of a rule, where it is that of another one.
+// Makes a frame that of a rule and its source, where it is that of others.
 fn keep_frame<'p, 'a>(
     alloc: Global,
     texts: &RuleTexts<'p, 'a>,
     frame: &mut Option<LastFrame<'p, 'a>>,
-    rule: u32,
+    single: Single,
 ) -> Result<(), AllocError>
-    requires rule { rule < length (stored_rules texts.now) }
+    requires rule { single.rule < length (stored_rules texts.now) }
     requires frame { IsFrame texts.now frame.old }
     ensures frame { IsFrame texts.now frame.new }
-    ensures kept { OnOk result (IsFrameFor texts.now rule frame.new) }
+    ensures kept { OnOk result (IsFrameFor texts.now single frame.new) }
 {
-    if is_of(frame, rule) {
+    if is_of(frame, single) {
         return Ok(());
     }
-    let text = texts.frame(alloc, rule)?;
-    *frame = Some(LastFrame { rule, text });
+    let of_rule = frame_of(alloc, texts, frame.take(), single.rule)?;
+    *frame = Some(with_source(of_rule, single.source)?);
     Ok(())
 }
 
-// Whether a frame is that of a rule.
-fn is_of(frame: &Option<LastFrame<'_, '_>>, rule: u32) -> bool
-    ensures { IsTrue result → IfSome frame.now (λ last. last.rule ≡ rule) × IsSome frame.now }
+// Whether a frame is that of a rule and its source.
+fn is_of(frame: &Option<LastFrame<'_, '_>>, single: Single) -> bool
+    ensures { IsTrue result → IfSome frame.now (λ last. (last.rule ≡ single.rule) × (last.source ≡ single.source)) × IsSome frame.now }
 {
     match frame {
-        Some(last) => last.rule == rule,
+        Some(last) => last.rule == single.rule && last.source == single.source,
         None => false,
     }
 }
 
-// Adds the text of a single rule in the frame of its rule.
-fn push_text(
+// The frame of a rule, with any source: the last one, where it is that of the rule.
+fn frame_of<'p, 'a>(
+    alloc: Global,
+    texts: &RuleTexts<'p, 'a>,
+    last: Option<LastFrame<'p, 'a>>,
+    rule: u32,
+) -> Result<LastFrame<'p, 'a>, AllocError>
+    requires rule { rule < length (stored_rules texts.now) }
+    requires last { IsFrame texts.now last }
+    ensures { IfOk result (IsFrameOf texts.now rule) }
+{
+    if let Some(last) = last {
+        if last.rule == rule {
+            return Ok(last);
+        }
+    }
+    Ok(LastFrame {
+        rule,
+        frame: texts.frame(alloc, rule)?,
+        source: 0,
+        head: Vec::new(alloc),
+    })
+}
+
+// The frame of the same rule with a source.
+fn with_source<'p, 'a>(
+    of_rule: LastFrame<'p, 'a>,
+    source: u32,
+) -> Result<LastFrame<'p, 'a>, AllocError>
+    ensures rule { (policy : Parts) (rule : ℕ) → IsFrameOf policy rule of_rule.entry → IfOk result (IsFrameOf policy rule) }
+    ensures head { IfOk result (IsHeadOf source) }
+{
+    let LastFrame {
+        rule,
+        frame,
+        source: _,
+        mut head,
+    } = of_rule;
+    head.clear();
+    frame.push_head(source, &mut head)?;
+    Ok(LastFrame {
+        rule,
+        frame,
+        source,
+        head,
+    })
+}
+
+// Adds the line of a single rule in its frame.
+fn push_framed(
     frame: &Option<LastFrame<'_, '_>>,
     single: Single,
     buffer: &mut Vec<u8>,
 ) -> Result<(), AllocError>
-    ensures { (policy : Parts) → IsFrameFor policy single.rule frame.now → OnOk result (buffer.new.items ≡ buffer.old.items ++ single_text policy single.rule single.source single.target) }
+    ensures { (policy : Parts) → IsFrameFor policy single frame.now → OnOk result (buffer.new.items ≡ buffer.old.items ++ single_line policy single) }
 {
     match frame {
-        Some(last) => last.text.push(single.source, single.target, buffer),
+        Some(last) => last.frame.push(&last.head, single.target, buffer),
         None => Ok(()),
     }
 }
