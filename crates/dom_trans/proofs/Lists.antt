@@ -1,6 +1,6 @@
 -- A list that is gone through item by item, and what passes a test in it.
 use Rattle.std.proofs.Common.{◌≡◌, ℕ, zero, suc, ◌+◌, ◌<◌, length, get_or, take, Bool, true, false, cond, List, [], ◌∷◌, refl, ap, ◌∙◌, arith}
-use Rattle.std.specs.Prelude.{◌||◌, ◌&&◌}
+use Rattle.std.specs.Prelude.{◌&&◌}
 use Rattle.std.specs.List.{All, filter, list_any}
 use Rattle.std.proofs.lemmas.Bool.{or_left, or_right, or_from}
 use Rattle.std.proofs.lemmas.List.{take_more}
@@ -17,21 +17,9 @@ filter_twice p q (x ∷ xs) = go (p x) (filter_twice p q xs)
     go true later = ap (λ (ys : List ℕ). cond (q x) (x ∷ ys) ys) later
     go false later = later
 
-pub any_twice : (p q : ℕ → Bool) (xs : List ℕ) → list_any q (filter p xs) ≡ list_any (λ x. p x && q x) xs
-any_twice p q [] = refl
-any_twice p q (x ∷ xs) = go (p x) (any_twice p q xs)
-  where
-    go : (a : Bool) → list_any q (filter p xs) ≡ list_any (λ y. p y && q y) xs → list_any q (cond a (x ∷ filter p xs) (filter p xs)) ≡ ((a && q x) || list_any (λ y. p y && q y) xs)
-    go true later = ap (λ (b : Bool). q x || b) later
-    go false later = later
-
 pub filter_alike : (p q : ℕ → Bool) (xs : List ℕ) → All (λ x. p x ≡ q x) xs → filter p xs ≡ filter q xs
 filter_alike p q [] h = refl
 filter_alike p q (x ∷ xs) h = rw (All-head (λ (x : ℕ). p x ≡ q x) x xs h, filter_alike p q xs (All-tail (λ (x : ℕ). p x ≡ q x) x xs h)) refl
-
-pub any_alike : (p q : ℕ → Bool) (xs : List ℕ) → All (λ x. p x ≡ q x) xs → list_any p xs ≡ list_any q xs
-any_alike p q [] h = refl
-any_alike p q (x ∷ xs) h = rw (All-head (λ (x : ℕ). p x ≡ q x) x xs h, any_alike p q xs (All-tail (λ (x : ℕ). p x ≡ q x) x xs h)) refl
 
 -- ---- by places
 
