@@ -5,16 +5,13 @@ ghost use Rattle.pol_context.specs.EntryLists.{table_at};
 ghost use Rattle.pol_contexts.specs.ContextTables.{table_if, contexts_at};
 
 use crate::fsuse_rec::FsUseRec;
-use crate::fsuse_view::FsUse;
 use crate::ibendport_rec::IbEndPortRec;
-use crate::ibendport_view::IbEndPort;
 use crate::ibpkey_rec::IbPkeyRec;
-use crate::ibpkey_view::IbPkey;
-use crate::kinds::{Fs, FsRec, Netif, NetifRec, Node, Node6, Node6Rec, NodeRec};
+use crate::kinds::{
+    Fs, FsRec, FsUse, IbEndPort, IbPkey, Netif, NetifRec, Node, Node6, Node6Rec, NodeRec, Port, Sid,
+};
 use crate::port_rec::PortRec;
-use crate::port_view::Port;
 use crate::sid_rec::SidRec;
-use crate::sid_view::Sid;
 use pol_context::read_table;
 use pol_cursor::{Cursor, OwnedList, ReadAlone, ReadError, Records};
 use std::alloc::Global;

@@ -1,0 +1,85 @@
+ghost use Rattle.std.specs.Prelude.{◌≡◌};
+ghost use Rattle.pol_contexts.specs.NamedRecord.{named_at, named_in, spell_named, HasNamed, named_references, context_place, second_place};
+
+use crate::entry::{Entry, EntryKind, Standing};
+use crate::kinds::NamedView;
+use crate::named_rec::NamedRec;
+use pol_context::{ContextView, context_end, name_end, name_standing, read_context};
+use pol_cursor::{ByteList, Cursor, Fault, Names, Part, ReadAlone, Written, read_name};
+use std::alloc::{AllocError, Global};
+
+impl Standing for NamedRec {
+    ghost standing = { named_in };
+
+    ghost has = { HasNamed };
+}
+
+impl<'a> NamedView<'a> {
+    /// Its name.
+    pub fn name(&self) -> &'a [u8]
+        ensures { result.now ≡ self.now.value.name }
+    {
+        name_standing(self.bytes, self.place)
+    }
+
+    /// Its own context.
+    #[tactic(auto, using(pol_cursor::proofs::Facts::length_part, pol_context::proofs::Places::context_ends))]
+    pub fn context(&self) -> ContextView<'a>
+        ensures { result ≡ record { place = context_place self.now; value = self.now.value.context } }
+    {
+        ContextView::at(self.bytes, name_end(self.bytes, self.place))
+    }
+
+    /// The context of its files, or of the packets that it receives.
+    #[tactic(auto, using(pol_cursor::proofs::Facts::length_part, pol_context::proofs::Places::context_ends))]
+    pub fn second_context(&self) -> ContextView<'a>
+        ensures { result ≡ record { place = second_place self.now; value = self.now.value.second_context } }
+    {
+        let place = context_end(self.bytes, name_end(self.bytes, self.place));
+        ContextView::at(self.bytes, place)
+    }
+}
+
+impl Entry for NamedRec {
+    ghost references = { named_references };
+
+    fn copy_of(view: &NamedView<'_>, alloc: Global) -> Result<NamedRec, AllocError> {
+        Ok(NamedRec {
+            name: ByteList::copy_of(alloc, view.name())?,
+            context: view.context().rec(alloc)?,
+            second_context: view.second_context().rec(alloc)?,
+        })
+    }
+
+    #[tactic(auto, using(pol_cursor::proofs::DanglingLists::dangling_none, pol_cursor::proofs::DanglingLists::undeclared_first))]
+    fn dangling_in<N: Names>(view: &NamedView<'_>, names: &N) -> Option<Fault> {
+        match view.context().dangling(names) {
+            Some(fault) => Some(fault),
+            None => view.second_context().dangling(names),
+        }
+    }
+}
+
+impl<const ROW: u8> ReadAlone for EntryKind<NamedRec, ROW> {
+    ghost reads = { named_at ROW };
+
+    #[tactic(auto, unfolding(crate::specs::NamedRecord::named_at), using(pol_cursor::proofs::Facts::number_is))]
+    fn pass(c: &mut Cursor<'_>) -> Result<(), Fault> {
+        read_name(c, ROW, 2)?;
+        read_context(c)?;
+        read_context(c)?;
+        Ok(())
+    }
+}
+
+impl Written for NamedRec {
+    ghost spelling = { spell_named };
+
+    fn write(&self, out: &mut Vec<u8>) -> Result<(), AllocError> {
+        let name = (
+            Part::U32(self.name.len() as u64),
+            Part::Bytes(self.name.as_slice()),
+        );
+        (name, &self.context, &self.second_context).write(out)
+    }
+}
