@@ -2,69 +2,30 @@ ghost use Rattle.std.specs.Prelude.{◌≡◌, IfOk};
 ghost use Rattle.pol_cursor.specs.Outcome.{Answers};
 ghost use Rattle.pol_datums.specs.BooleanRecord.{boolean_at, boolean_in, HasBoolean};
 
-use crate::boolean_kind::Boolean;
 use crate::boolean_rec::BooleanRec;
+use crate::datum::{CopiedDatum, DatumView};
 use crate::flags::read_flag;
 use crate::rows::BOOLEAN;
 use crate::symbol_values::read_new_value;
-use pol_cursor::{ByteList, Copied, Cursor, Fault, string_in, u32_in};
+use pol_cursor::{ByteList, Cursor, Fault, u32_in};
 use pol_symtab::{Taken, read_symbol_length, read_symbol_name};
 use std::alloc::{AllocError, Global};
-use std::marker::Model;
+use std::marker::PhantomData;
 
 /// A boolean in the buffer.
-#[derive(Drop)]
-pub struct BooleanView<'a> {
-    bytes: &'a [u8],
-    place: u32,
-}
-
-impl<'a> Model for BooleanView<'a> {
-    ghost use Rattle.pol_cursor.specs.References.{Placed};
-    ghost use Rattle.pol_datums.specs.declared.boolean_rec.BooleanRec.{BooleanRec};
-    ghost use Rattle.pol_datums.specs.BooleanRecord.{boolean_in, HasBoolean};
-
-    ghost Value = { Placed BooleanRec };
-
-    ghost view = { λ v. record { place = v.place; value = boolean_in v.bytes.now v.place } };
-
-    ghost invariant = { λ v. HasBoolean v.bytes.now v.place };
-}
+pub type BooleanView<'a> = DatumView<'a, BooleanRec>;
 
 impl<'a> BooleanView<'a> {
-    /// The boolean at a place that has one.
-    pub fn at(bytes: &'a [u8], place: u32) -> BooleanView<'a>
-        requires { HasBoolean bytes.now place }
-        ensures { result ≡ record { place = place; value = boolean_in bytes.now place } }
-    {
-        BooleanView { bytes, place }
-    }
-
-    /// The value of the boolean.
-    pub fn value(&self) -> u32
-        ensures { result ≡ self.now.value.value }
-    {
-        u32_in(self.bytes, self.place as usize)
-    }
-
     /// 1 where it is true by default, else 0.
     pub fn state(&self) -> u32
         ensures { result ≡ self.now.value.state }
     {
         u32_in(self.bytes, self.place as usize + 4)
     }
-
-    /// The name of the boolean.
-    pub fn name(&self) -> &'a [u8]
-        ensures { result.now ≡ self.now.value.name }
-    {
-        let len = u32_in(self.bytes, self.place as usize + 8);
-        string_in(self.bytes, self.place as usize + 12, len as usize)
-    }
 }
 
-impl<'a> Copied<'a> for Boolean {
-    fn rec(view: &BooleanView<'a>, alloc: Global) -> Result<BooleanRec, AllocError> {
+impl CopiedDatum for BooleanRec {
+    fn rec(view: &BooleanView<'_>, alloc: Global) -> Result<BooleanRec, AllocError> {
         Ok(BooleanRec {
             value: view.value(),
             state: view.state(),
@@ -90,5 +51,9 @@ pub fn read_boolean<'a>(
     read_flag(c, BOOLEAN, 2)?;
     let len = read_symbol_length(c, BOOLEAN, 3)?;
     read_symbol_name(c, BOOLEAN, 4, len, taken)?;
-    Ok(BooleanView { bytes, place })
+    Ok(DatumView {
+        bytes,
+        place,
+        kind: PhantomData,
+    })
 }

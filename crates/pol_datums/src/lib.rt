@@ -10,7 +10,7 @@ mod category_rec;
 mod category_view;
 mod category_write;
 mod causes;
-mod declared;
+mod datum;
 mod flags;
 mod flavour;
 mod record_laws;
@@ -38,6 +38,7 @@ pub use category_kind::Category;
 pub use category_rec::{CategoryRec, CategoryRecList};
 pub use category_view::{CategoryView, read_category};
 pub use category_write::write_category;
+pub use datum::{CopiedDatum, Datum, DatumKind, DatumView, ReferringDatum};
 pub use flavour::Flavour;
 pub use record_laws::{
     booleans_have_laws, categories_have_laws, roles_have_laws, sensitivities_have_laws,

@@ -1,54 +1,22 @@
+use crate::datum::{Datum, DatumKind};
 use crate::role_rec::RoleRec;
 use crate::role_view::{RoleView, read_role};
-use pol_cursor::{Cursor, ReadAfter, ReadError, Record, RecordView};
-use pol_symtab::{Symbol, SymbolKind, TableContext};
+use pol_cursor::{Cursor, Fault, string_in, u32_in};
+use pol_symtab::TableContext;
 
 /// The kind of roles. Each of them is primary.
-#[derive(Drop)]
-pub struct Role;
+pub type Role = DatumKind<RoleRec>;
 
-impl Record for Role {
-    ghost use Rattle.pol_datums.specs.RoleRecord.{role_in, HasRole};
-
-    type Owned = RoleRec;
+impl Datum for RoleRec {
+    ghost use Rattle.std.specs.Prelude.{true};
+    ghost use Rattle.pol_datums.specs.RoleRecord.{role_at, role_in, HasRole, RoleFits};
+    ghost use Rattle.pol_datums.specs.DatumFreshness.{role_is_fresh};
 
     ghost standing = { role_in };
 
     ghost has = { HasRole };
-}
 
-impl<'a> RecordView<'a> for Role {
-    type View = RoleView<'a>;
-
-    ghost shown = { λ v. v };
-
-    fn at(bytes: &'a [u8], place: u32) -> RoleView<'a> {
-        RoleView::at(bytes, place)
-    }
-}
-
-impl<'a> ReadAfter<'a> for Role {
-    ghost use Rattle.std.specs.Prelude.{true};
-    ghost use Rattle.pol_symtab.specs.Freshness.{claims_after};
-    ghost use Rattle.pol_datums.specs.RoleRecord.{role_at};
-
-    type Context = TableContext<'a>;
-
-    ghost reads = { λ context. role_at context.taken context.nprim };
-
-    ghost after = { λ context role. record context { taken = claims_after context.taken role.name true role.value } };
-
-    fn pass(c: &mut Cursor<'a>, context: TableContext<'a>) -> Result<TableContext<'a>, ReadError> {
-        let view = read_role(c, &context.taken, context.nprim)?;
-        let mut context = context;
-        context.taken.add(view.name(), Some(view.value()))?;
-        Ok(context)
-    }
-}
-
-impl SymbolKind for Role {
-    ghost use Rattle.pol_datums.specs.RoleRecord.{spell_role, RoleFits};
-    ghost use Rattle.std.specs.Prelude.{true};
+    ghost reads = { role_at };
 
     ghost name_of = { λ role. role.name };
 
@@ -56,32 +24,24 @@ impl SymbolKind for Role {
 
     ghost is_primary = { λ role. true };
 
-    ghost spelling = { spell_role };
-
     ghost fits = { RoleFits };
-}
 
-impl<'a> Symbol<'a> for Role {
-    ghost use Rattle.std.specs.Prelude.{refl};
-    ghost use Rattle.pol_datums.specs.DatumFreshness.{role_is_fresh};
-
-    ghost nprim_of = { λ context. context.nprim };
-
-    ghost claims_of = { λ context. context.taken };
-
-    fn name(view: &RoleView<'a>) -> &'a [u8] {
-        view.name()
+    fn read<'a>(c: &mut Cursor<'a>, context: &TableContext<'a>) -> Result<RoleView<'a>, Fault> {
+        read_role(c, &context.taken, context.nprim)
     }
 
-    fn value(view: &RoleView<'a>) -> u32 {
-        view.value()
+    fn name<'a>(view: &RoleView<'a>) -> &'a [u8] {
+        let len = u32_in(view.bytes, view.place as usize);
+        string_in(view.bytes, view.place as usize + 12, len as usize)
     }
 
-    fn is_primary(_view: &RoleView<'a>) -> bool {
+    fn value(view: &RoleView<'_>) -> u32 {
+        u32_in(view.bytes, view.place as usize + 4)
+    }
+
+    fn is_primary(_view: &RoleView<'_>) -> bool {
         true
     }
 
-    ghost fresh = { λ context. role_is_fresh context.taken context.nprim };
-
-    ghost claimed = { λ context role. (refl, refl) };
+    ghost fresh = { role_is_fresh };
 }

@@ -2,67 +2,26 @@ ghost use Rattle.std.specs.Prelude.{◌≡◌, IfOk};
 ghost use Rattle.pol_cursor.specs.Outcome.{Answers};
 ghost use Rattle.pol_datums.specs.RoleRecord.{role_at, role_in, HasRole, dominates_place};
 
-use crate::role_kind::Role;
+use crate::datum::{CopiedDatum, DatumView, ReferringDatum};
 use crate::role_rec::RoleRec;
 use crate::rows::ROLE;
 use crate::symbol_references::dangling_bounds;
 use crate::symbol_values::{read_bounds, read_new_value};
 use pol_bitmap::{BitmapView, Set};
-use pol_cursor::{
-    ByteList, Copied, Cursor, Fault, Mention, Names, Referring, TableKind, string_in, u32_in,
-};
+use pol_cursor::{ByteList, Cursor, Fault, Mention, Names, TableKind, u32_in};
 use pol_symtab::{Taken, read_symbol_length, read_symbol_name};
 use std::alloc::{AllocError, Global};
-use std::marker::Model;
+use std::marker::PhantomData;
 
 /// A role in the buffer.
-#[derive(Drop)]
-pub struct RoleView<'a> {
-    bytes: &'a [u8],
-    place: u32,
-}
-
-impl<'a> Model for RoleView<'a> {
-    ghost use Rattle.pol_cursor.specs.References.{Placed};
-    ghost use Rattle.pol_datums.specs.declared.role_rec.RoleRec.{RoleRec};
-    ghost use Rattle.pol_datums.specs.RoleRecord.{role_in, HasRole};
-
-    ghost Value = { Placed RoleRec };
-
-    ghost view = { λ v. record { place = v.place; value = role_in v.bytes.now v.place } };
-
-    ghost invariant = { λ v. HasRole v.bytes.now v.place };
-}
+pub type RoleView<'a> = DatumView<'a, RoleRec>;
 
 impl<'a> RoleView<'a> {
-    /// The role at a place that has one.
-    pub fn at(bytes: &'a [u8], place: u32) -> RoleView<'a>
-        requires { HasRole bytes.now place }
-        ensures { result ≡ record { place = place; value = role_in bytes.now place } }
-    {
-        RoleView { bytes, place }
-    }
-
-    /// The value of the role.
-    pub fn value(&self) -> u32
-        ensures { result ≡ self.now.value.value }
-    {
-        u32_in(self.bytes, self.place as usize + 4)
-    }
-
     /// The value of the role that bounds it, or 0.
     pub fn bounds(&self) -> u32
         ensures { result ≡ self.now.value.bounds }
     {
         u32_in(self.bytes, self.place as usize + 8)
-    }
-
-    /// The name of the role.
-    pub fn name(&self) -> &'a [u8]
-        ensures { result.now ≡ self.now.value.name }
-    {
-        let len = u32_in(self.bytes, self.place as usize);
-        string_in(self.bytes, self.place as usize + 12, len as usize)
     }
 
     /// The roles that it dominates: bit v - 1 stands for the value v.
@@ -82,20 +41,20 @@ impl<'a> RoleView<'a> {
     }
 }
 
-impl<'a> Referring<'a> for Role {
+impl ReferringDatum for RoleRec {
     ghost use Rattle.pol_datums.specs.RoleRecord.{role_references};
 
     ghost references = { role_references };
 
     /// The role that bounds it as a fault at its field, where no primary record declares it.
-    fn dangling<N: Names>(view: &RoleView<'a>, names: &N) -> Option<Fault> {
+    fn dangling<N: Names>(view: &RoleView<'_>, names: &N) -> Option<Fault> {
         let bounds = Mention::new(ROLE, 3, view.place + 8, TableKind::Roles, view.bounds());
         dangling_bounds(names, bounds)
     }
 }
 
-impl<'a> Copied<'a> for Role {
-    fn rec(view: &RoleView<'a>, alloc: Global) -> Result<RoleRec, AllocError> {
+impl CopiedDatum for RoleRec {
+    fn rec(view: &RoleView<'_>, alloc: Global) -> Result<RoleRec, AllocError> {
         Ok(RoleRec {
             value: view.value(),
             bounds: view.bounds(),
@@ -133,5 +92,9 @@ pub fn read_role<'a>(
     read_symbol_name(c, ROLE, 4, len, taken)?;
     BitmapView::read(c)?;
     BitmapView::read(c)?;
-    Ok(RoleView { bytes, place })
+    Ok(DatumView {
+        bytes,
+        place,
+        kind: PhantomData,
+    })
 }

@@ -1,55 +1,23 @@
-use crate::declared::declared_value;
+use crate::datum::{Datum, DatumKind};
+use crate::flags::is_primary_flag;
 use crate::sensitivity_rec::SensitivityRec;
 use crate::sensitivity_view::{SensitivityView, read_sensitivity};
-use pol_cursor::{Cursor, ReadAfter, ReadError, Record, RecordView};
-use pol_symtab::{Symbol, SymbolKind, TableContext};
+use pol_cursor::{Cursor, Fault, string_in, u32_in};
+use pol_symtab::TableContext;
 
 /// The kind of sensitivities. Aliases are among them.
-#[derive(Drop)]
-pub struct Sensitivity;
+pub type Sensitivity = DatumKind<SensitivityRec>;
 
-impl Record for Sensitivity {
-    ghost use Rattle.pol_datums.specs.SensitivityRecord.{sensitivity_in, HasSensitivity};
-
-    type Owned = SensitivityRec;
+impl Datum for SensitivityRec {
+    ghost use Rattle.pol_datums.specs.Flags.{is_primary_flag};
+    ghost use Rattle.pol_datums.specs.SensitivityRecord.{sensitivity_at, sensitivity_in, HasSensitivity, SensitivityFits};
+    ghost use Rattle.pol_datums.specs.DatumFreshness.{sensitivity_is_fresh};
 
     ghost standing = { sensitivity_in };
 
     ghost has = { HasSensitivity };
-}
 
-impl<'a> RecordView<'a> for Sensitivity {
-    type View = SensitivityView<'a>;
-
-    ghost shown = { λ v. v };
-
-    fn at(bytes: &'a [u8], place: u32) -> SensitivityView<'a> {
-        SensitivityView::at(bytes, place)
-    }
-}
-
-impl<'a> ReadAfter<'a> for Sensitivity {
-    ghost use Rattle.pol_datums.specs.Flags.{is_primary_flag};
-    ghost use Rattle.pol_symtab.specs.Freshness.{claims_after};
-    ghost use Rattle.pol_datums.specs.SensitivityRecord.{sensitivity_at};
-
-    type Context = TableContext<'a>;
-
-    ghost reads = { λ context. sensitivity_at context.taken context.nprim };
-
-    ghost after = { λ context level. record context { taken = claims_after context.taken level.name (is_primary_flag level.isalias) level.sens } };
-
-    fn pass(c: &mut Cursor<'a>, context: TableContext<'a>) -> Result<TableContext<'a>, ReadError> {
-        let view = read_sensitivity(c, &context.taken, context.nprim)?;
-        let mut context = context;
-        context.taken.add(view.name(), declared_value(view.is_primary(), view.sens()))?;
-        Ok(context)
-    }
-}
-
-impl SymbolKind for Sensitivity {
-    ghost use Rattle.pol_datums.specs.SensitivityRecord.{spell_sensitivity, SensitivityFits};
-    ghost use Rattle.pol_datums.specs.Flags.{is_primary_flag};
+    ghost reads = { sensitivity_at };
 
     ghost name_of = { λ level. level.name };
 
@@ -57,32 +25,27 @@ impl SymbolKind for Sensitivity {
 
     ghost is_primary = { λ level. is_primary_flag level.isalias };
 
-    ghost spelling = { spell_sensitivity };
-
     ghost fits = { SensitivityFits };
-}
 
-impl<'a> Symbol<'a> for Sensitivity {
-    ghost use Rattle.std.specs.Prelude.{refl};
-    ghost use Rattle.pol_datums.specs.DatumFreshness.{sensitivity_is_fresh};
-
-    ghost nprim_of = { λ context. context.nprim };
-
-    ghost claims_of = { λ context. context.taken };
-
-    fn name(view: &SensitivityView<'a>) -> &'a [u8] {
-        view.name()
+    fn read<'a>(
+        c: &mut Cursor<'a>,
+        context: &TableContext<'a>,
+    ) -> Result<SensitivityView<'a>, Fault> {
+        read_sensitivity(c, &context.taken, context.nprim)
     }
 
-    fn value(view: &SensitivityView<'a>) -> u32 {
+    fn name<'a>(view: &SensitivityView<'a>) -> &'a [u8] {
+        let len = u32_in(view.bytes, view.place as usize);
+        string_in(view.bytes, view.place as usize + 8, len as usize)
+    }
+
+    fn value(view: &SensitivityView<'_>) -> u32 {
         view.sens()
     }
 
-    fn is_primary(view: &SensitivityView<'a>) -> bool {
-        view.is_primary()
+    fn is_primary(view: &SensitivityView<'_>) -> bool {
+        is_primary_flag(view.isalias())
     }
 
-    ghost fresh = { λ context. sensitivity_is_fresh context.taken context.nprim };
-
-    ghost claimed = { λ context level. (refl, refl) };
+    ghost fresh = { sensitivity_is_fresh };
 }

@@ -1,65 +1,29 @@
 ghost use Rattle.std.specs.Prelude.{◌≡◌, ◌+◌, ◌≤◌, IfOk, OnOk, length};
 ghost use Rattle.pol_cursor.specs.Parts.{num};
 ghost use Rattle.pol_cursor.specs.Outcome.{Answers};
-ghost use Rattle.pol_datums.specs.Flags.{is_primary_flag};
 ghost use Rattle.pol_datums.specs.SensitivityRecord.{sens_at, sensitivity_at, sensitivity_in, HasSensitivity, sens_place};
 
 use crate::causes::sens_cause;
-use crate::flags::{is_primary_flag, read_flag};
+use crate::datum::{CopiedDatum, DatumView, ReferringDatum};
+use crate::flags::read_flag;
 use crate::rows::SENSITIVITY;
-use crate::sensitivity_kind::Sensitivity;
 use crate::sensitivity_rec::SensitivityRec;
 use crate::symbol_references::dangling_alias;
 use pol_bitmap::{BitmapView, Set};
-use pol_cursor::{
-    ByteList, Copied, Cursor, Fault, Field, Mention, Names, Referring, TableKind, refuse,
-    string_in, u32_in,
-};
+use pol_cursor::{ByteList, Cursor, Fault, Field, Mention, Names, TableKind, refuse, u32_in};
 use pol_symtab::{Taken, read_symbol_length, read_symbol_name};
 use std::alloc::{AllocError, Global};
-use std::marker::Model;
+use std::marker::PhantomData;
 
 /// A sensitivity or an alias of one in the buffer.
-#[derive(Drop)]
-pub struct SensitivityView<'a> {
-    bytes: &'a [u8],
-    place: u32,
-}
-
-impl<'a> Model for SensitivityView<'a> {
-    ghost use Rattle.pol_cursor.specs.References.{Placed};
-    ghost use Rattle.pol_datums.specs.declared.sensitivity_rec.SensitivityRec.{SensitivityRec};
-    ghost use Rattle.pol_datums.specs.SensitivityRecord.{sensitivity_in, HasSensitivity};
-
-    ghost Value = { Placed SensitivityRec };
-
-    ghost view = { λ v. record { place = v.place; value = sensitivity_in v.bytes.now v.place } };
-
-    ghost invariant = { λ v. HasSensitivity v.bytes.now v.place };
-}
+pub type SensitivityView<'a> = DatumView<'a, SensitivityRec>;
 
 impl<'a> SensitivityView<'a> {
-    /// The sensitivity at a place that has one.
-    pub fn at(bytes: &'a [u8], place: u32) -> SensitivityView<'a>
-        requires { HasSensitivity bytes.now place }
-        ensures { result ≡ record { place = place; value = sensitivity_in bytes.now place } }
-    {
-        SensitivityView { bytes, place }
-    }
-
     /// 1 for an alias, else 0.
     pub fn isalias(&self) -> u32
         ensures { result ≡ self.now.value.isalias }
     {
         u32_in(self.bytes, self.place as usize + 4)
-    }
-
-    /// The name of the sensitivity.
-    pub fn name(&self) -> &'a [u8]
-        ensures { result.now ≡ self.now.value.name }
-    {
-        let len = u32_in(self.bytes, self.place as usize);
-        string_in(self.bytes, self.place as usize + 8, len as usize)
     }
 
     /// The value of the sensitivity. An alias has that of the sensitivity that it stands for.
@@ -75,30 +39,23 @@ impl<'a> SensitivityView<'a> {
     {
         BitmapView::at(self.bytes, sens_place(self.bytes, self.place) + 4)
     }
-
-    /// Whether it declares its value, which an alias does not.
-    pub fn is_primary(&self) -> bool
-        ensures { result ≡ is_primary_flag self.now.value.isalias }
-    {
-        is_primary_flag(self.isalias())
-    }
 }
 
-impl<'a> Referring<'a> for Sensitivity {
+impl ReferringDatum for SensitivityRec {
     ghost use Rattle.pol_datums.specs.SensitivityRecord.{sensitivity_references};
 
     ghost references = { sensitivity_references };
 
     /// The sensitivity that an alias stands for as a fault at its field, where no primary record declares it.
-    fn dangling<N: Names>(view: &SensitivityView<'a>, names: &N) -> Option<Fault> {
+    fn dangling<N: Names>(view: &SensitivityView<'_>, names: &N) -> Option<Fault> {
         let place = view.place + 8 + view.name().len() as u32;
         let stands_for = Mention::new(SENSITIVITY, 4, place, TableKind::Levels, view.sens());
         dangling_alias(names, view.is_primary(), stands_for)
     }
 }
 
-impl<'a> Copied<'a> for Sensitivity {
-    fn rec(view: &SensitivityView<'a>, alloc: Global) -> Result<SensitivityRec, AllocError> {
+impl CopiedDatum for SensitivityRec {
+    fn rec(view: &SensitivityView<'_>, alloc: Global) -> Result<SensitivityRec, AllocError> {
         Ok(SensitivityRec {
             isalias: view.isalias(),
             name: ByteList::copy_of(alloc, view.name())?,
@@ -135,7 +92,11 @@ pub fn read_sensitivity<'a>(
     read_symbol_name(c, SENSITIVITY, 3, len, taken)?;
     read_sens(c, taken, nprim, isalias)?;
     BitmapView::read(c)?;
-    Ok(SensitivityView { bytes, place })
+    Ok(DatumView {
+        bytes,
+        place,
+        kind: PhantomData,
+    })
 }
 
 // The value of a sensitivity at the cursor, behind its name.

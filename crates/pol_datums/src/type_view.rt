@@ -1,57 +1,23 @@
 ghost use Rattle.std.specs.Prelude.{◌≡◌, IfOk};
 ghost use Rattle.pol_cursor.specs.Outcome.{Answers};
-ghost use Rattle.pol_datums.specs.TypeRecord.{type_at, type_in, HasType, is_primary_type, flavour_of};
+ghost use Rattle.pol_datums.specs.TypeRecord.{type_at, type_in, HasType, flavour_of};
 
 use crate::causes::{is_attribute, is_primary_type, properties_cause};
+use crate::datum::{CopiedDatum, DatumView, ReferringDatum};
 use crate::flavour::Flavour;
 use crate::rows::TYPE;
 use crate::symbol_references::{dangling_alias, dangling_bounds};
 use crate::symbol_values::{read_bounds, read_value};
-use crate::type_kind::Type;
 use crate::type_rec::TypeRec;
-use pol_cursor::{
-    ByteList, Copied, Cursor, Fault, Field, Mention, Names, Referring, TableKind, refuse,
-    string_in, u32_in,
-};
+use pol_cursor::{ByteList, Cursor, Fault, Field, Mention, Names, TableKind, refuse, u32_in};
 use pol_symtab::{Taken, read_symbol_length, read_symbol_name};
 use std::alloc::{AllocError, Global};
-use std::marker::Model;
+use std::marker::PhantomData;
 
 /// A type, an attribute or an alias of a type in the buffer.
-#[derive(Drop)]
-pub struct TypeView<'a> {
-    bytes: &'a [u8],
-    place: u32,
-}
-
-impl<'a> Model for TypeView<'a> {
-    ghost use Rattle.pol_cursor.specs.References.{Placed};
-    ghost use Rattle.pol_datums.specs.declared.type_rec.TypeRec.{TypeRec};
-    ghost use Rattle.pol_datums.specs.TypeRecord.{type_in, HasType};
-
-    ghost Value = { Placed TypeRec };
-
-    ghost view = { λ v. record { place = v.place; value = type_in v.bytes.now v.place } };
-
-    ghost invariant = { λ v. HasType v.bytes.now v.place };
-}
+pub type TypeView<'a> = DatumView<'a, TypeRec>;
 
 impl<'a> TypeView<'a> {
-    /// The type at a place that has one.
-    pub fn at(bytes: &'a [u8], place: u32) -> TypeView<'a>
-        requires { HasType bytes.now place }
-        ensures { result ≡ record { place = place; value = type_in bytes.now place } }
-    {
-        TypeView { bytes, place }
-    }
-
-    /// The value of the type. An alias has the value of the type that it stands for.
-    pub fn value(&self) -> u32
-        ensures { result ≡ self.now.value.value }
-    {
-        u32_in(self.bytes, self.place as usize + 4)
-    }
-
     /// The properties of the type: bit 0x1 is primary and bit 0x2 attribute.
     pub fn properties(&self) -> u32
         ensures { result ≡ self.now.value.properties }
@@ -64,21 +30,6 @@ impl<'a> TypeView<'a> {
         ensures { result ≡ self.now.value.bounds }
     {
         u32_in(self.bytes, self.place as usize + 12)
-    }
-
-    /// The name of the type.
-    pub fn name(&self) -> &'a [u8]
-        ensures { result.now ≡ self.now.value.name }
-    {
-        let len = u32_in(self.bytes, self.place as usize);
-        string_in(self.bytes, self.place as usize + 16, len as usize)
-    }
-
-    /// Whether it declares its value, which an alias does not.
-    pub fn is_primary(&self) -> bool
-        ensures { result ≡ is_primary_type self.now.value.properties }
-    {
-        is_primary_type(self.properties())
     }
 
     /// Whether it is an attribute or none, and `None` for an alias.
@@ -96,14 +47,14 @@ impl<'a> TypeView<'a> {
     }
 }
 
-impl<'a> Referring<'a> for Type {
+impl ReferringDatum for TypeRec {
     ghost use Rattle.pol_datums.specs.TypeRecord.{type_references};
 
     ghost references = { type_references };
 
     /// The first reference, in file order, whose value no primary record declares, as a fault at its field: the type that an
     /// alias stands for, and the type that bounds it.
-    fn dangling<N: Names>(view: &TypeView<'a>, names: &N) -> Option<Fault> {
+    fn dangling<N: Names>(view: &TypeView<'_>, names: &N) -> Option<Fault> {
         let types = TableKind::Types;
         let stands_for = Mention::new(TYPE, 2, view.place + 4, types, view.value());
         match dangling_alias(names, view.is_primary(), stands_for) {
@@ -116,8 +67,8 @@ impl<'a> Referring<'a> for Type {
     }
 }
 
-impl<'a> Copied<'a> for Type {
-    fn rec(view: &TypeView<'a>, alloc: Global) -> Result<TypeRec, AllocError> {
+impl CopiedDatum for TypeRec {
+    fn rec(view: &TypeView<'_>, alloc: Global) -> Result<TypeRec, AllocError> {
         Ok(TypeRec {
             value: view.value(),
             properties: view.properties(),
@@ -149,8 +100,9 @@ pub fn read_type<'a>(
     refuse(properties_cause(taken, value, properties), place, field)?;
     read_bounds(c, TYPE, 4)?;
     read_symbol_name(c, TYPE, 5, len, taken)?;
-    Ok(TypeView {
+    Ok(DatumView {
         bytes,
         place: first,
+        kind: PhantomData,
     })
 }
