@@ -6,5 +6,5 @@ mod rules;
 mod sorting;
 
 pub use pol_file::{TypeMap, TypeMapRow};
-pub use pol_rules::{Condition, Rule, RuleKey, RuleKind, RulePart};
+pub use pol_rules::{Condition, Rule, RuleEnds, RuleKey, RuleKind, RulePart};
 pub use policy::{Policy, read};

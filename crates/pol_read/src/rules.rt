@@ -1,10 +1,10 @@
 // The stored rules of a policy.
-ghost use Rattle.std.specs.Prelude.{◌≡◌, ◌<◌, ◌≤◌, Some, length, slice_get};
-ghost use Rattle.pol_rules.specs.StoredRules.{stored, stored_rules};
-ghost use Rattle.pol_rules.specs.DeclaredRules.{IsDeclaredRule};
+ghost use Rattle.std.specs.Prelude.{◌≡◌, ◌<◌, ◌≤◌, Some, length, option_map, slice_get};
+ghost use Rattle.pol_rules.specs.StoredRules.{stored, ends_of, stored_rules};
+ghost use Rattle.pol_rules.specs.DeclaredRules.{IsDeclaredRule, AreDeclaredEnds};
 
 use crate::policy::Policy;
-use pol_rules::{Rule, rule_at};
+use pol_rules::{Rule, RuleEnds, ends_at, rule_at};
 
 impl<'a> Policy<'a> {
     /// How many stored rules there are, at most 400,000,000.
@@ -16,8 +16,8 @@ impl<'a> Policy<'a> {
         self.index.count()
     }
 
-    /// The stored rule of that number, from 0 on, in file order. In a group of file-name transitions it goes through the data and
-    /// their sources.
+    /// The stored rule of that number, from 0 on, in file order. One of the table of access vectors is found at once, and
+    /// the others are found by halves: in a group of file-name transitions, by the node of its source.
     ///
     /// What it names is declared: its ends, its class and its default, and the conditional node that it stands under is there.
     pub fn rule(&self, n: u32) -> Rule<'a>
@@ -26,5 +26,17 @@ impl<'a> Policy<'a> {
         ensures declared { IsDeclaredRule self.now (stored result) }
     {
         rule_at(&self.parts, &self.index, n)
+    }
+
+    /// The ends of the stored rule of that number, with its kind and its class. It is found in the same way, and neither its part
+    /// nor its name is read.
+    ///
+    /// What they name is declared.
+    pub fn rule_ends(&self, n: u32) -> RuleEnds
+        requires { n < length (stored_rules self.now) }
+        ensures is { option_map ends_of (slice_get (stored_rules self.now) n) ≡ Some result }
+        ensures declared { AreDeclaredEnds self.now result }
+    {
+        ends_at(&self.parts, &self.index, n)
     }
 }

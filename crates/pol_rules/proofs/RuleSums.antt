@@ -6,10 +6,11 @@ use Rattle.std.proofs.lemmas.List.{length-map, length-append, take-map}
 use Rattle.std.proofs.lemmas.List.FromFn.{take-map-range_with_len, map-range_with_len_more, length-range_with_len, get_or-range_with_len, length-map-range_with_len}
 use Rattle.std.proofs.lemmas.List.Concat.{flat_map-cons, length-flat_map}
 use Rattle.std.proofs.lemmas.List.Sums.{sum-map, sum_by-cons}
-use Rattle.std.proofs.lemmas.Option.{same_Some, slice_get-map, slice_get-get_or, get_or_from_slice_get}
+use Rattle.std.proofs.lemmas.Option.{same_Some, slice_get-map, slice_get-get_or, slice_get_within, get_or_from_slice_get}
 use Rattle.pol_cursor.specs.References.{Placed}
 use Rattle.pol_symtab.specs.SymbolTables.{primary_index, primary_name}
 use Rattle.pol_symtab.proofs.Searches.{primary_within, primary_name_at, primary_name_none, place_of}
+use Rattle.pol_avtab.specs.declared.AvRec.{AvRec}
 use Rattle.pol_avtab.specs.declared.CondNodeRec.{CondNodeRec}
 use Rattle.pol_avtab.specs.declared.AvPart.{AvPart}
 use Rattle.pol_avtab.specs.declared.AvPart.TheVariants.{Data, Extended}
@@ -17,7 +18,7 @@ use Rattle.pol_avtab.specs.XPerms.{Numbers, xperms_of, mask_of}
 use Rattle.pol_rules.specs.declared.rule.RulePart.TheVariants as parts
 use Rattle.pol_avtab.specs.CondNodeRecord.{rules_of_branch as access_vectors_of}
 use Rattle.pol_file.specs.declared.Parts.{Parts}
-use Rattle.pol_rules.specs.StoredRules.{plain_part, rule_part, rules_of_branch, rules_of_node, rules_of_nodes, name_rules, stored_rules}
+use Rattle.pol_rules.specs.StoredRules.{StoredRule, plain_part, rule_part, av_rule, rules_of_branch, rules_of_node, rules_of_nodes, name_rules, rule_sections, stored_rules}
 use Rattle.pol_rules.specs.RuleNumbers.{lengths_of, node_lengths}
 
 -- ---- one list behind another
@@ -121,6 +122,13 @@ section_sizes policy =
     let whole : length (stored_rules policy) ≡ length rules.table + (length (rules_of_nodes rules.conditionals) + (length rules.role_trans + (length rules.role_allows + (length (name_rules policy.symbols rules.name_trans) + (length policy.labels.range_trans + 0))))) =
     simp (length-append, length-map) in
     omega (arith, whole)
+
+-- those of the table come first
+pub table_first : (policy : Parts) (n : ℕ) (av : Placed AvRec) → slice_get policy.rules.table n ≡ Some av → slice_get (stored_rules policy) n ≡ Some (av_rule None av)
+table_first policy n av e =
+    let rules = map (av_rule None) policy.rules.table in
+    let within : n < length rules = omega (arith, slice_get_within policy.rules.table n av e, length-map (av_rule None) policy.rules.table) in
+    found (λ (rules : List StoredRule). rules) (rule_sections policy) 0 n n rules refl (omega arith) within ∙ get_map (av_rule None) policy.rules.table n av e
 
 -- ---- the part of an access vector
 

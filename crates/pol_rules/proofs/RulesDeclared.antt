@@ -1,11 +1,11 @@
 -- In a policy whose references are declared, what each stored rule names is declared.
 use Rattle.std.proofs.Common.{◌≡◌, ℕ, zero, suc, ◌+◌, ◌<◌, ◌^◌, Bool, true, false, Option, Some, None, List, [], ◌∷◌, ◌++◌, length, map, get_or, slice_get, Ok, All, refl, ap, subst, arith}
-use Rattle.std.specs.Prelude.{◌==◌, ◌&&◌, is_some, nat_lt, if◌then◌else◌}
+use Rattle.std.specs.Prelude.{◌==◌, ◌&&◌, is_some, option_map, nat_lt, if◌then◌else◌}
 use Rattle.std.specs.List.{flat_map, filter, range_with_len}
 use Rattle.std.proofs.lemmas.List.Elements.{All-nil, All-cons, All-same, All-append, All-map}
 use Rattle.std.proofs.lemmas.List.Concat.{flat_map-cons}
 use Rattle.std.proofs.lemmas.List.FromFn.{length-range_with_len, get_or-range_with_len}
-use Rattle.std.proofs.lemmas.Option.{slice_get_within, get_or_from_slice_get}
+use Rattle.std.proofs.lemmas.Option.{none-some, same_Some, slice_get_within, get_or_from_slice_get}
 use Rattle.pol_cursor.specs.declared.Fault.{Fault}
 use Rattle.pol_cursor.specs.declared.TableKind.TheVariants.{Types, Classes}
 use Rattle.pol_cursor.specs.Outcome.{field}
@@ -45,9 +45,10 @@ use Rattle.pol_rules.specs.declared.rule.RuleKind.{RuleKind}
 use Rattle.pol_rules.specs.declared.rule.RuleKind.TheVariants.{Allow, Auditallow, Dontaudit, AllowXperm, AuditallowXperm, DontauditXperm, TypeTransition, TypeChange, TypeMember}
 use Rattle.pol_rules.specs.declared.rule.RulePart.TheVariants as parts
 use Rattle.pol_rules.specs.declared.rule.Condition.{Condition}
-use Rattle.pol_rules.specs.StoredRules.{StoredRule, rule_kind, rule_part, av_rule, rules_of_branch, rules_of_node, rules_of_nodes, role_trans_rule, role_allow_rule, range_trans_rule, name_rule, name_trans_rule, is_declared_type, declared_sources, rules_of_datum, rules_of_group, name_rules, stored_rules}
+use Rattle.pol_rules.specs.declared.rule.RuleEnds.{RuleEnds}
+use Rattle.pol_rules.specs.StoredRules.{StoredRule, ends_of, rule_kind, rule_part, av_rule, rules_of_branch, rules_of_node, rules_of_nodes, role_trans_rule, role_allow_rule, range_trans_rule, name_rule, name_trans_rule, is_declared_type, declared_sources, rules_of_datum, rules_of_group, name_rules, stored_rules}
 use Rattle.pol_rules.specs.RuleOrder.{source_table, target_table}
-use Rattle.pol_rules.specs.DeclaredRules.{IsDeclaredIn, ClassIsDeclared, default_table, DefaultIsDeclared, StandsUnder, IsDeclaredRule}
+use Rattle.pol_rules.specs.DeclaredRules.{IsDeclaredIn, ClassIsDeclared, default_table, DefaultIsDeclared, StandsUnder, IsDeclaredRule, AreDeclaredEnds}
 use Rattle.pol_rules.proofs.RuleParts.{HasRightPart, HaveRightParts, HaveParts, parts_read}
 
 -- ---- what is true of all items
@@ -307,3 +308,18 @@ pub rule_is_declared : (bytes : List ℕ) (policy : Parts) (n : ℕ) (rule : Sto
 rule_is_declared bytes policy n rule accepted e =
     let was = accepted_was_read bytes policy accepted in
     All-at (IsDeclaredRule policy) (stored_rules policy) n rule (rules_declared policy was.declared (parts_read bytes policy was.next was.read)) e
+
+-- the ends of the rule of a number
+with_ends : (o : Option StoredRule) (ends : RuleEnds) → option_map ends_of o ≡ Some ends → (rule : StoredRule) × (o ≡ Some rule) × (ends_of rule ≡ ends)
+with_ends None ends e = absurd (none-some ends e)
+with_ends (Some rule) ends e = (rule, refl, same_Some (ends_of rule) ends e)
+
+-- they are those of a rule that is there
+pub rule_with_ends : (policy : Parts) (n : ℕ) (ends : RuleEnds) → option_map ends_of (slice_get (stored_rules policy) n) ≡ Some ends → (rule : StoredRule) × (slice_get (stored_rules policy) n ≡ Some rule) × (ends_of rule ≡ ends)
+rule_with_ends policy n ends e = with_ends (slice_get (stored_rules policy) n) ends e
+
+pub ends_are_declared : (bytes : List ℕ) (policy : Parts) (n : ℕ) (ends : RuleEnds) → accept bytes ≡ Ok policy → option_map ends_of (slice_get (stored_rules policy) n) ≡ Some ends → AreDeclaredEnds policy ends
+ends_are_declared bytes policy n ends accepted e =
+    let found = rule_with_ends policy n ends e in
+    let declared = rule_is_declared bytes policy n found.0 accepted found.1 in
+    subst (λ (these : RuleEnds). AreDeclaredEnds policy these) found.2 (record { source = declared.source; target = declared.target; class = declared.class })

@@ -12,6 +12,7 @@ use Rattle.pol_rules.specs.declared.rule.RuleKind.TheVariants.{Allow, Auditallow
 use Rattle.pol_rules.specs.declared.rule.RulePart.{RulePart}
 use Rattle.pol_rules.specs.declared.rule.RulePart.TheVariants.{Perms, Numbers, Default, Range, Nothing}
 use Rattle.pol_rules.specs.declared.rule.Condition.{Condition}
+use Rattle.pol_rules.specs.declared.rule.RuleEnds.{RuleEnds}
 use Rattle.pol_file.specs.declared.Parts.{Parts}
 use Rattle.pol_rules.specs.StoredRules.{StoredRule}
 use Rattle.pol_rules.specs.RuleOrder.{source_table, target_table}
@@ -64,3 +65,9 @@ pub record IsDeclaredRule (policy : Parts) (rule : StoredRule) : Type 0 where
   pub part : goes_with rule.kind rule.part ≡ true
   pub default : DefaultIsDeclared policy.symbols rule.kind rule.part
   pub condition : StandsUnder policy.rules.conditionals rule.condition
+
+-- What the ends of a rule and its class name is declared.
+pub record AreDeclaredEnds (policy : Parts) (ends : RuleEnds) : Type 0 where
+  pub source : IsDeclaredIn policy.symbols (source_table ends.kind) ends.source
+  pub target : IsDeclaredIn policy.symbols (target_table ends.kind) ends.target
+  pub class : ClassIsDeclared policy.symbols ends.kind ends.class

@@ -30,6 +30,7 @@ use Rattle.pol_rules.specs.declared.rule.RulePart.{RulePart}
 use Rattle.pol_rules.specs.declared.rule.RulePart.TheVariants.{Perms, Numbers, Default, Range, Nothing}
 use Rattle.pol_rules.specs.declared.rule.Condition.{Condition}
 use Rattle.pol_rules.specs.declared.rule.Rule.{Rule}
+use Rattle.pol_rules.specs.declared.rule.RuleEnds.{RuleEnds}
 use Rattle.pol_file.specs.declared.Parts.{Parts}
 
 -- a rule, with the bytes of its name
@@ -45,6 +46,10 @@ pub record StoredRule : Type 0 where
 -- a rule of the code
 abbrev pub stored : Rule → StoredRule
 stored rule = record { kind = rule.kind; source = rule.source; target = rule.target; class = rule.class; part = rule.part; name = option_map (λ name. name.now) rule.name; condition = rule.condition }
+
+-- its ends, with its kind and its class
+abbrev pub ends_of : StoredRule → RuleEnds
+ends_of rule = record { kind = rule.kind; source = rule.source; target = rule.target; class = rule.class }
 
 -- ---- access vectors
 

@@ -8,12 +8,13 @@ mod name_index;
 mod rule;
 mod rule_index;
 mod rule_order;
+mod rule_record;
 mod rules;
 mod sums;
 
 pub use declared_law::declared_types_have_law;
 pub use key_law::rule_keys_have_law;
-pub use rule::{Condition, Rule, RuleKind, RulePart};
+pub use rule::{Condition, Rule, RuleEnds, RuleKind, RulePart};
 pub use rule_index::{RuleIndex, index_rules};
 pub use rule_order::{RuleKey, rule_key};
-pub use rules::rule_at;
+pub use rules::{ends_at, rule_at};

@@ -52,3 +52,13 @@ pub struct Rule<'a> {
     pub name: Option<&'a [u8]>,
     pub condition: Option<Condition>,
 }
+
+/// The ends of a stored rule, with its kind and its class.
+#[derive(Clone, Copy, Debug, PartialEq, Eq)]
+pub struct RuleEnds {
+    pub kind: RuleKind,
+    pub source: u32,
+    pub target: u32,
+    /// 0 in a role allow, which has none.
+    pub class: u32,
+}
