@@ -3,8 +3,10 @@
 
 mod policy;
 mod rules;
+mod rules_from;
 mod sorting;
 
 pub use pol_file::{TypeMap, TypeMapRow};
 pub use pol_rules::{Condition, Rule, RuleEnds, RuleKey, RuleKind, RulePart};
 pub use policy::{Policy, read};
+pub use rules_from::Rules;

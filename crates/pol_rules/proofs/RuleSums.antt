@@ -127,7 +127,7 @@ section_sizes policy =
 pub table_first : (policy : Parts) (n : ℕ) (av : Placed AvRec) → slice_get policy.rules.table n ≡ Some av → slice_get (stored_rules policy) n ≡ Some (av_rule None av)
 table_first policy n av e =
     let rules = map (av_rule None) policy.rules.table in
-    let within : n < length rules = omega (arith, slice_get_within policy.rules.table n av e, length-map (av_rule None) policy.rules.table) in
+    let within : n < length rules = omega (arith, slice_get_within policy.rules.table n av e, length-map policy.rules.table (av_rule None)) in
     found (λ (rules : List StoredRule). rules) (rule_sections policy) 0 n n rules refl (omega arith) within ∙ get_map (av_rule None) policy.rules.table n av e
 
 -- ---- the part of an access vector
