@@ -1,21 +1,27 @@
--- How the lists of the attributes grow.
-use Rattle.std.proofs.Common.{◌≡◌, inl, inr, ℕ, zero, suc, ◌+◌, ◌-◌, ◌<◌, ◌≤◌, Bool, true, false, List, [], ◌∷◌, ◌++◌, length, map, take, drop, refl, sym, ap, subst, ◌∙◌, cond, append_assoc, append-nil, arith}
-use Rattle.std.specs.Prelude.{◌==◌, ◌&&◌, slice_index_or}
+-- How the words of the bits and the lists of the attributes grow.
+use Rattle.std.proofs.Common.{◌≡◌, inl, inr, ℕ, zero, suc, ◌+◌, ◌-◌, ◌*◌, ◌%◌, ◌^◌, ◌<◌, ◌≤◌, Bool, true, false, List, [], ◌∷◌, ◌++◌, length, map, set, get_or, take, drop, refl, sym, ap, ◌∙◌, cond, append-nil, add-zero, arith}
+use Rattle.std.specs.Prelude.{◌==◌, ◌&&◌, ◌||◌, nat_lt, bit_or, slice_index_or}
+use Rattle.std.specs.Int.{bit_at, w64}
 use Rattle.std.specs.List.{All, Contains, filter, list_any, range_with_len}
-use Rattle.std.proofs.lemmas.Bool.{eqb-true, eq-eqb, ne_eqb, or_cases, or_left, or_right, cases_Bool, cases_lt, false≢true}
-use Rattle.std.proofs.lemmas.List.{get_or_past, get_or_read, take-append-le, take_all}
-use Rattle.std.proofs.lemmas.List.Elements.{All-filter, All-weaker}
+use Rattle.std.proofs.lemmas.Bool.{cases_eq, eqb-true, eq-eqb, ne_eqb, or_left, or_right, cases_Bool, cases_lt, lt-ltb, le-ltb, false≢true}
+use Rattle.std.proofs.lemmas.Nat.Bits.{bit_at_set_same, bit_at_set_other, bit_at-zero}
+use Rattle.std.proofs.lemmas.List.{get_or_past, get_or-set_same, get_or-set_other, length-set, take-append-le, take_all}
+use Rattle.std.proofs.lemmas.List.Elements.{All-contains, All-filter, All-weaker, filter-append}
 use Rattle.std.proofs.lemmas.List.FromFn.{get_or-map-range_with_len}
 use Rattle.std.proofs.lemmas.Map.Views.{Contains-from_any}
 use Rattle.pol_bitmap.specs.declared.node.Node.{Node}
-use Rattle.pol_bitmap.specs.Nodes.{bits_of, has_bit, IsRisingFrom}
-use Rattle.pol_bitmap.proofs.BitLists.{RisesFrom, rises_lower, bits_rise, has_bit-from_bits, bits-from_has_bit}
+use Rattle.pol_bitmap.specs.Nodes.{bits_of, node_has, node_bits, has_bit}
+use Rattle.pol_bitmap.proofs.BitLists.{has_bit-from_bits, bits-from_has_bit}
 use Rattle.pol_bitmap.proofs.Elements.{range_holds}
-use Rattle.pol_expand.specs.Inverting.{has_attribute, is_flagged, AreBelow, GainWhere, AreLists, times}
-use Rattle.pol_expand.proofs.Values.{same_tests, filter_range_more}
+use Rattle.pol_bitmap.specs.Sets.{IsSet, IsSetFrom}
+use Rattle.pol_bitmap.proofs.LowestBits.{no_bits}
+use Rattle.pol_bitmap.proofs.Merging.{IsRisingTo, fits-more, made-end, or_nothing}
+use Rattle.pol_bitmap.proofs.SetMaking.{starts_below}
+use Rattle.pol_expand.specs.Expansion.{HaveRows, row_of}
+use Rattle.pol_expand.specs.Inverting.{has_attribute, is_flagged, word_has_type, GainType, AreWords, HaveRoom, GainNodes, AreListsBelow, AreLists}
+use Rattle.pol_expand.proofs.Values.{same_tests}
 
 -- ---- flags
-
 -- a flag of a bit says whether its value is an attribute
 pub flagged_is : (flags : List Bool) (attributes : List Node) (n bit : ℕ) → flags ≡ map (has_bit attributes) (range_with_len 1 n) → bit < n → is_flagged flags bit ≡ has_bit attributes (bit + 1)
 flagged_is flags attributes n bit e lt = ap (λ (fs : List Bool). slice_index_or fs bit false) e ∙ get_or-map-range_with_len (has_bit attributes) 1 n bit (bit + 1) false (omega arith) (omega arith)
@@ -26,24 +32,59 @@ flagged_within flags bit is = elim (cases_lt bit (length flags)) [
   | inr le ↦ absurd (false≢true (sym (get_or_past flags bit false le) ∙ is))
 ]
 
--- ---- one bit
+-- ---- one type
+
+-- a bit of a word that is set
+word_with : (word place k : ℕ) → place < 64 → (bit_at (bit_or word (1 * 2 ^ place % 2 ^ 64)) k == 1) ≡ ((bit_at word k == 1) || (k == place))
+word_with word place k lt = elim (cases_eq k place) [
+  | inl same ↦
+      let is : bit_at (bit_or word (1 * 2 ^ place % 2 ^ 64)) k ≡ 1 = rw same (bit_at_set_same w64 word place lt) in
+      eq-eqb _ _ is ∙ sym (or_right (bit_at word k == 1) (k == place) (eq-eqb k place same))
+  | inr other ↦
+      ap (λ (v : ℕ). v == 1) (bit_at_set_other w64 word place lt k other)
+      ∙ sym (ap (λ (b : Bool). (bit_at word k == 1) || b) (ne_eqb k place other) ∙ or_nothing (bit_at word k == 1))
+]
+
+or_false : (a b : Bool) → b ≡ false → (a || b) ≡ a
+or_false a b e = rw e (or_nothing a)
+
+and_false : (a b : Bool) → b ≡ false → (a && b) ≡ false
+and_false true b e = e
+and_false false b e = refl
+
+-- the word of a bit gains a type
+pub gains_bit : (words : List ℕ) (bit place : ℕ) → place < 64 → bit < length words → GainType place (λ other. other == bit) words (set words bit (bit_or (get_or words bit 0) (1 * 2 ^ place % 2 ^ 64)))
+gains_bit words bit place lt within =
+    let new = bit_or (get_or words bit 0) (1 * 2 ^ place % 2 ^ 64) in
+    record {
+      count = length-set words bit new;
+      each = λ other k inside low. elim (cases_eq other bit) [
+        | inl same ↦
+            ap (λ (i : ℕ). bit_at (get_or (set words bit new) i 0) k == 1) same
+            ∙ ap (λ (w : ℕ). bit_at w k == 1) (get_or-set_same words bit new 0 within)
+            ∙ word_with (get_or words bit 0) place k lt
+            ∙ ap (λ (i : ℕ). (bit_at (get_or words i 0) k == 1) || (k == place)) (sym same)
+            ∙ ap (λ (b : Bool). (bit_at (get_or words other 0) k == 1) || b) (sym (and_true (k == place) (other == bit) (eq-eqb other bit same)))
+        | inr apart ↦
+            ap (λ (w : ℕ). bit_at w k == 1) (get_or-set_other words bit other new 0 apart)
+            ∙ sym (or_false (word_has_type words other k) ((k == place) && (other == bit)) (and_false (k == place) (other == bit) (ne_eqb other bit apart)))
+      ];
+    }
+  where
+    and_true : (a b : Bool) → b ≡ true → (a && b) ≡ a
+    and_true true b e = e
+    and_true false b e = refl
+
+-- a bit that has no word
+pub gains_nowhere : (words : List ℕ) (bit place : ℕ) → length words ≤ bit → GainType place (λ other. other == bit) words words
+gains_nowhere words bit place past = record {
+  count = refl;
+  each = λ other k inside low. sym (or_false (word_has_type words other k) ((k == place) && (other == bit)) (and_false (k == place) (other == bit) (ne_eqb other bit (λ (e : other ≡ bit). omega (arith, e, inside, past)))));
+}
 
 -- ---- the bits of a row
 
--- a type that is below all that is left
-times_below : (type bit least : ℕ) (xs : List ℕ) → bit < least → RisesFrom least xs → times type bit xs ≡ []
-times_below type bit least [] lt h = refl
-times_below type bit least (x ∷ xs) lt h =
-    let no : (bit == x) ≡ false = ne_eqb bit x (λ (e : bit ≡ x). omega (arith, h.0)) in
-    rw no (times_below type bit (x + 1) xs (omega (arith, h.0)) h.1)
-
-times_rising : (type bit least : ℕ) (xs : List ℕ) → RisesFrom least xs → times type bit xs ≡ cond (list_any (λ x. bit == x) xs) (type ∷ []) []
-times_rising type bit least [] h = refl
-times_rising type bit least (x ∷ xs) h = elim (cases_Bool (bit == x)) [
-  | inl is ↦ let same : bit ≡ x = eqb-true bit x is in rw is (ap (λ (ts : List ℕ). type ∷ ts) (times_below type bit (x + 1) xs (omega arith) h.1))
-  | inr not ↦ rw not (times_rising type bit (x + 1) xs h.1)
-]
-
+-- what is among the bits of a row is what the row has
 any_from : (bit : ℕ) (xs : List ℕ) → Contains xs bit → list_any (λ x. bit == x) xs ≡ true
 any_from bit [] (k, lt, is) = absurd (omega arith)
 any_from bit (x ∷ xs) (zero, lt, is) = let same : bit ≡ x = cc in or_left (bit == x) (list_any (λ x. bit == x) xs) (eq-eqb bit x same)
@@ -52,86 +93,231 @@ any_from bit (x ∷ xs) (suc k, lt, is) = or_right (bit == x) (list_any (λ x. b
 from_any : (bit : ℕ) (xs : List ℕ) → list_any (λ x. bit == x) xs ≡ true → Contains xs bit
 from_any bit xs h = Contains-from_any {eq = ◌==◌} eqb-true bit xs h
 
--- what is among the bits of a row is what the row has
 row_bits : (bit : ℕ) (row : List Node) → list_any (λ x. bit == x) (bits_of row) ≡ has_bit row bit
 row_bits bit row = same_tests _ (has_bit row bit) (λ t. has_bit-from_bits row bit (from_any bit (bits_of row) t)) (λ t. any_from bit (bits_of row) (bits-from_has_bit row bit t))
 
-times_bits : (type bit : ℕ) (row : List Node) → IsRisingFrom 0 row → times type bit (bits_of row) ≡ cond (has_bit row bit) (type ∷ []) []
-times_bits type bit row h = times_rising type bit 0 (bits_of row) (bits_rise 0 row h) ∙ ap (λ (b : Bool). cond b (type ∷ []) []) (row_bits bit row)
+-- some of a row's bits are added, and others left
+pub record Gaining (place : ℕ) (all left : List ℕ) (old now : List ℕ) : Type 0 where
+  pub count : length now ≡ length old
+  pub each : (bit k : ℕ) → bit < length old → k < 64 → (word_has_type now bit k || ((k == place) && list_any (λ x. bit == x) left)) ≡ (word_has_type old bit k || ((k == place) && list_any (λ x. bit == x) all))
 
--- a bit that is among those from one on
-any_above : (bit least : ℕ) (xs : List ℕ) → RisesFrom least xs → list_any (λ x. bit == x) xs ≡ true → least ≤ bit
-any_above bit least [] h e = absurd cc
-any_above bit least (x ∷ xs) h e = elim (or_cases (bit == x) (list_any (λ x. bit == x) xs) e) [
-  | inl is ↦ let same : bit ≡ x = eqb-true bit x is in omega (arith, h.0)
-  | inr there ↦ let above : x + 1 ≤ bit = any_above bit (x + 1) xs h.1 there in omega (arith, h.0)
+pub gaining_start : (place : ℕ) (all words : List ℕ) → Gaining place all all words words
+gaining_start place all words = record { count = refl; each = λ bit k inside low. refl }
+
+spread : (a p x y : Bool) → ((a || (p && x)) || (p && y)) ≡ (a || (p && (x || y)))
+spread true p x y = refl
+spread false true x y = refl
+spread false false x y = refl
+
+pub gaining_next : (place : ℕ) (all : List ℕ) (x : ℕ) (left : List ℕ) (old now next : List ℕ) → Gaining place all (x ∷ left) old now → GainType place (λ other. other == x) now next → Gaining place all left old next
+gaining_next place all x left old now next h g = record {
+  count = g.count ∙ h.count;
+  each = λ bit k inside low.
+      ap (λ (b : Bool). b || ((k == place) && list_any (λ y. bit == y) left)) (g.each bit k (omega (arith, h.count, inside)) low)
+      ∙ spread (word_has_type now bit k) (k == place) (bit == x) (list_any (λ y. bit == y) left)
+      ∙ h.each bit k inside low;
+}
+
+pub gaining_end : (place : ℕ) (row : List Node) (old now : List ℕ) → Gaining place (bits_of row) [] old now → GainType place (has_bit row) old now
+gaining_end place row old now h = record {
+  count = h.count;
+  each = λ bit k inside low.
+      sym (or_false (word_has_type now bit k) ((k == place) && false) (and_false (k == place) false refl))
+      ∙ h.each bit k inside low
+      ∙ ap (λ (b : Bool). word_has_type old bit k || ((k == place) && b)) (row_bits bit row);
+}
+
+-- ---- a type that is declared, or not
+
+pub gains_row : (rows : List (List Node)) (types : List Node) (value place : ℕ) (row : List Node) (old new : List ℕ) → has_bit types value ≡ true → row ≡ row_of rows value → GainType place (has_bit row) old new
+    → GainType place (λ bit. has_attribute rows types bit value) old new
+gains_row rows types value place row old new declared is g = record {
+  count = g.count;
+  each = λ bit k inside low. g.each bit k inside low ∙ ap (λ (b : Bool). word_has_type old bit k || ((k == place) && b)) (ap (λ (ns : List Node). has_bit ns bit) is ∙ ap (λ (b : Bool). b && has_bit (row_of rows value) bit) (sym declared));
+}
+
+pub gains_none : (rows : List (List Node)) (types : List Node) (value place : ℕ) (words : List ℕ) → has_bit types value ≡ false → GainType place (λ bit. has_attribute rows types bit value) words words
+gains_none rows types value place words not = record {
+  count = refl;
+  each = λ bit k inside low. sym (or_false (word_has_type words bit k) ((k == place) && has_attribute rows types bit value) (and_false (k == place) (has_attribute rows types bit value) (ap (λ (b : Bool). b && has_bit (row_of rows value) bit) not)));
+}
+
+-- a declared type has a row
+pub has_row : (rows : List (List Node)) (types : List Node) (value : ℕ) → HaveRows rows types → has_bit types value ≡ true → (1 ≤ value) × (value ≤ length rows)
+has_row rows types value have is = All-contains (λ (v : ℕ). (1 ≤ v) × (v ≤ length rows)) (bits_of types) value have (bits-from_has_bit types value is)
+
+-- ---- 64 types
+
+pub words_start : (rows : List (List Node)) (types : List Node) (start : ℕ) (words : List ℕ) → length words ≡ length rows → ((bit : ℕ) → slice_index_or words bit 0 ≡ 0) → AreWords rows types start 0 words
+words_start rows types start words count nothing = record {
+  count = count;
+  each = λ bit k inside low. ap (λ (w : ℕ). bit_at w k == 1) (nothing bit) ∙ ap (λ (b : ℕ). b == 1) (bit_at-zero k) ∙ ap (λ (b : Bool). b && has_attribute rows types bit (start + k)) (sym (le-ltb k 0 (omega arith)));
+}
+
+more_places : (k place : ℕ) (there here : Bool) → (k ≡ place → there ≡ here) → ((nat_lt k place && there) || ((k == place) && here)) ≡ (nat_lt k (place + 1) && there)
+more_places k place there here same = elim (cases_lt k place) [
+  | inl lt ↦ rw (lt-ltb k place lt, lt-ltb k (place + 1) (omega (arith, lt)), ne_eqb k place (λ (e : k ≡ place). omega (arith, e, lt))) (or_nothing there)
+  | inr le ↦ elim (cases_eq k place) [
+    | inl e ↦ rw (le-ltb k place le, lt-ltb k (place + 1) (omega (arith, e)), eq-eqb k place e) (sym (same e))
+    | inr n ↦ rw (le-ltb k place le, le-ltb k (place + 1) (omega (arith, le, n)), ne_eqb k place n) refl
+  ]
 ]
 
--- some of a row's bits are added, and others left
-pub record Gaining (flags : List Bool) (type : ℕ) (all left : List ℕ) (old now : List (List ℕ)) : Type 0 where
-  pub count : length now ≡ length old
-  pub each : (bit : ℕ) → is_flagged flags bit ≡ true → slice_index_or now bit [] ++ times type bit left ≡ slice_index_or old bit [] ++ times type bit all
-  pub rises : RisesFrom 0 left
-  pub below : AreBelow flags type (λ bit. list_any (λ x. bit == x) left) now
-
-pub gaining_start : (flags : List Bool) (type : ℕ) (row : List Node) (old : List (List ℕ)) → IsRisingFrom 0 row → AreBelow flags type (has_bit row) old → Gaining flags type (bits_of row) (bits_of row) old old
-gaining_start flags type row old rising below = record {
-  count = refl;
-  each = λ bit is. refl;
-  rises = bits_rise 0 row rising;
-  below = λ bit is there. below bit is (sym (row_bits bit row) ∙ there);
+pub words_next : (rows : List (List Node)) (types : List Node) (start place value : ℕ) (words next : List ℕ) → value ≡ start + place → AreWords rows types start place words → GainType place (λ bit. has_attribute rows types bit value) words next
+    → AreWords rows types start (place + 1) next
+words_next rows types start place value words next e h g = record {
+  count = g.count ∙ h.count;
+  each = λ bit k inside low.
+      g.each bit k (omega (arith, g.count, inside)) low
+      ∙ ap (λ (b : Bool). b || ((k == place) && has_attribute rows types bit value)) (h.each bit k (omega (arith, g.count, inside)) low)
+      ∙ more_places k place (has_attribute rows types bit (start + k)) (has_attribute rows types bit value) (λ at. ap (has_attribute rows types bit) (ap (λ (i : ℕ). start + i) at ∙ sym e));
 }
 
--- the lists of the bits that are left stay as they are
-stays_below : (flags : List Bool) (type x : ℕ) (left : List ℕ) (now next : List (List ℕ)) → RisesFrom (x + 1) left → AreBelow flags type (λ bit. list_any (λ y. bit == y) (x ∷ left)) now → GainWhere flags type (λ other. other == x) now next
-    → AreBelow flags type (λ bit. list_any (λ y. bit == y) left) next
-stays_below flags type x left now next rises below g bit is there =
-    let above : x + 1 ≤ bit = any_above bit (x + 1) left rises there in
-    let no : (bit == x) ≡ false = ne_eqb bit x (λ (e : bit ≡ x). omega arith) in
-    let same : slice_index_or next bit [] ≡ slice_index_or now bit [] = g.each bit is ∙ ap (λ (b : Bool). slice_index_or now bit [] ++ cond b (type ∷ []) []) no ∙ append-nil (slice_index_or now bit []) in
-    subst (All (λ (other : ℕ). other < type)) (sym same) (below bit is (or_right (bit == x) (list_any (λ y. bit == y) left) there))
+-- ---- the lists
 
-pub gaining_next : (flags : List Bool) (type : ℕ) (all : List ℕ) (x : ℕ) (left : List ℕ) (old now next : List (List ℕ)) → Gaining flags type all (x ∷ left) old now → GainWhere flags type (λ other. other == x) now next → Gaining flags type all left old next
-gaining_next flags type all x left old now next h g = record {
+filter_agree : (p q : ℕ → Bool) (a n : ℕ) → ((c : ℕ) → a ≤ c → c < a + n → p c ≡ q c) → filter p (range_with_len a n) ≡ filter q (range_with_len a n)
+filter_agree p q a zero h = refl
+filter_agree p q a (suc n) h =
+    let rest = filter_agree p q (a + 1) n (λ c low high. h c (omega arith) (omega arith)) in
+    ap (λ (xs : List ℕ). cond (p a) (a ∷ xs) xs) rest ∙ ap (λ (b : Bool). cond b (a ∷ filter q (range_with_len (a + 1) n)) (filter q (range_with_len (a + 1) n))) (h a (omega arith) (omega arith))
+
+filter_none : (p : ℕ → Bool) (a n : ℕ) → ((c : ℕ) → a ≤ c → c < a + n → p c ≡ false) → filter p (range_with_len a n) ≡ []
+filter_none p a zero h = refl
+filter_none p a (suc n) h = rw (h a (omega arith) (omega arith)) (filter_none p (a + 1) n (λ c low high. h c (omega arith) (omega arith)))
+
+from_zero : (k : ℕ) → 0 + k ≡ k
+from_zero k = omega arith
+
+range_parts : (a n m : ℕ) → range_with_len a (n + m) ≡ range_with_len a n ++ range_with_len (a + n) m
+range_parts a zero m = ap (range_with_len a) (from_zero m) ∙ ap (λ (b : ℕ). range_with_len b m) (sym (add-zero a))
+range_parts a (suc n) m =
+    let size : suc n + m ≡ suc (n + m) = omega arith in
+    let next : a + 1 + n ≡ a + suc n = omega arith in
+    ap (range_with_len a) size ∙ ap (λ (xs : List ℕ). a ∷ xs) (range_parts (a + 1) n m ∙ ap (λ (b : ℕ). range_with_len (a + 1) n ++ range_with_len b m) next)
+
+filter_parts : (p : ℕ → Bool) (a n m : ℕ) → filter p (range_with_len a (n + m)) ≡ filter p (range_with_len a n) ++ filter p (range_with_len (a + n) m)
+filter_parts p a n m = ap (filter p) (range_parts a n m) ∙ filter-append p (range_with_len a n) (range_with_len (a + n) m)
+
+-- the types of a word
+word_types : (rows : List (List Node)) (types : List Node) (start bit : ℕ) (words : List ℕ) → AreWords rows types start 64 words → bit < length words
+    → node_bits (record { start = start; map = slice_index_or words bit 0 }) ≡ filter (has_attribute rows types bit) (range_with_len start 64)
+unfolding node_bits
+word_types rows types start bit words h within = filter_agree (λ type. bit_at (slice_index_or words bit 0) (type - start) == 1) (has_attribute rows types bit) start 64 λ type low high.
+    let k : type - start < 64 = omega arith in
+    let at : start + (type - start) ≡ type = omega arith in
+    h.each bit (type - start) within k ∙ ap (λ (b : Bool). b && has_attribute rows types bit (start + (type - start))) (lt-ltb (type - start) 64 k) ∙ ap (has_attribute rows types bit) at
+
+-- a node behind those of lower bits
+rising_to : (base end : ℕ) (ns : List Node) → end % 64 ≡ 0 → base ≤ end → IsSetFrom base ns → ((c : ℕ) → has_bit ns c ≡ true → c < end) → IsRisingTo base end ns
+rising_to base end [] whole le h below = le
+rising_to base end (n ∷ ns) whole le h below =
+    let lt : n.start < end = starts_below base end (n ∷ ns) 0 n (omega arith) h below in
+    (h.0.0, h.0.1, h.0.2, rising_to (n.start + 64) end ns whole (omega (arith, lt, whole, h.0.1)) (h.0.3, h.1.1) (λ c there. below c (or_right (node_has c n) (has_bit ns c) there)))
+
+pub node_behind : (ns : List Node) (start map : ℕ) → IsSet ns → start % 64 ≡ 0 → start < 2 ^ 32 → 0 < map → map < 2 ^ 64 → All (λ c. c < start) (bits_of ns) → IsSet (ns ++ record { start = start; map = map } ∷ [])
+node_behind ns start map h whole fit some map_fit below =
+    let n : Node = record { start = start; map = map } in
+    let to = rising_to 0 start ns whole (omega arith) h (λ c there. All-contains (λ (c : ℕ). c < start) (bits_of ns) c below (bits-from_has_bit ns c there)) in
+    (made-end 0 start ns (n ∷ []) to (omega arith, whole, some, tt), fits-more ns (n ∷ []) h.1 ((fit, map_fit), tt))
+
+pub nothing_behind : (types : List ℕ) (start map : ℕ) → map ≡ 0 → types ≡ types ++ node_bits (record { start = start; map = map })
+nothing_behind types start map none = sym (ap (λ (xs : List ℕ). types ++ xs) (no_bits (record { start = start; map = map }) none) ∙ append-nil types)
+
+-- the lists of the first bits have gained the types of their words, and the others are left
+pub record Pushing (flags : List Bool) (start : ℕ) (words : List ℕ) (i : ℕ) (old now : List (List ℕ)) : Type 0 where
+  pub count : length now ≡ length old
+  pub each : (bit : ℕ) → is_flagged flags bit ≡ true → slice_index_or now bit [] ≡ slice_index_or old bit [] ++ cond (nat_lt bit i) (node_bits (record { start = start; map = slice_index_or words bit 0 })) []
+
+pub pushing_start : (flags : List Bool) (start : ℕ) (words : List ℕ) (old : List (List ℕ)) → Pushing flags start words 0 old old
+pushing_start flags start words old = record { count = refl; each = λ bit is. sym (ap (λ (b : Bool). slice_index_or old bit [] ++ cond b (node_bits (record { start = start; map = slice_index_or words bit 0 })) []) (le-ltb bit 0 (omega arith)) ∙ append-nil (slice_index_or old bit [])) }
+
+-- the list of the next bit has what it had
+pub pushing_here : (flags : List Bool) (start : ℕ) (words : List ℕ) (i : ℕ) (old now : List (List ℕ)) → Pushing flags start words i old now → is_flagged flags i ≡ true → slice_index_or now i [] ≡ slice_index_or old i []
+pushing_here flags start words i old now h is =
+    h.each i is ∙ ap (λ (b : Bool). slice_index_or old i [] ++ cond b (node_bits (record { start = start; map = slice_index_or words i 0 })) []) (le-ltb i i (omega arith)) ∙ append-nil (slice_index_or old i [])
+
+one_further : (i bit : ℕ) → (bit ≡ i → ⊥) → nat_lt bit i ≡ nat_lt bit (i + 1)
+one_further i bit apart = elim (cases_lt bit i) [
+  | inl lt ↦ lt-ltb bit i lt ∙ sym (lt-ltb bit (i + 1) (omega arith))
+  | inr le ↦ le-ltb bit i le ∙ sym (le-ltb bit (i + 1) (omega (arith, le, apart)))
+]
+
+pub pushing_next : (flags : List Bool) (start : ℕ) (words : List ℕ) (i : ℕ) (old now : List (List ℕ)) (list : List ℕ) → Pushing flags start words i old now → is_flagged flags i ≡ true → i < length now
+    → list ≡ slice_index_or now i [] ++ node_bits (record { start = start; map = slice_index_or words i 0 }) → Pushing flags start words (i + 1) old (set now i list)
+pushing_next flags start words i old now list h flag lt e = record {
+  count = length-set now i list ∙ h.count;
+  each = λ bit is. elim (cases_eq bit i) [
+    | inl same ↦
+        ap (λ (k : ℕ). slice_index_or (set now i list) k []) same
+        ∙ get_or-set_same now i list [] lt
+        ∙ e
+        ∙ ap (λ (xs : List ℕ). xs ++ node_bits (record { start = start; map = slice_index_or words i 0 })) (pushing_here flags start words i old now h flag)
+        ∙ ap (λ (k : ℕ). slice_index_or old k [] ++ node_bits (record { start = start; map = slice_index_or words k 0 })) (sym same)
+        ∙ ap (λ (b : Bool). slice_index_or old bit [] ++ cond b (node_bits (record { start = start; map = slice_index_or words bit 0 })) []) (sym (lt-ltb bit (i + 1) (omega (arith, same))))
+    | inr apart ↦
+        get_or-set_other now i bit list [] apart
+        ∙ h.each bit is
+        ∙ ap (λ (b : Bool). slice_index_or old bit [] ++ cond b (node_bits (record { start = start; map = slice_index_or words bit 0 })) []) (one_further i bit apart)
+  ];
+}
+
+pub pushing_skip : (flags : List Bool) (start : ℕ) (words : List ℕ) (i : ℕ) (old now : List (List ℕ)) → Pushing flags start words i old now → is_flagged flags i ≡ false → Pushing flags start words (i + 1) old now
+pushing_skip flags start words i old now h flag = record {
+  count = h.count;
+  each = λ bit is.
+      h.each bit is
+      ∙ ap (λ (b : Bool). slice_index_or old bit [] ++ cond b (node_bits (record { start = start; map = slice_index_or words bit 0 })) [])
+      (one_further i bit (λ (e : bit ≡ i). false≢true (sym flag ∙ ap (is_flagged flags) (sym e) ∙ is)));
+}
+
+pub pushing_end : (flags : List Bool) (start : ℕ) (words : List ℕ) (i : ℕ) (old now : List (List ℕ)) → Pushing flags start words i old now → length flags ≡ i → GainNodes flags start words old now
+pushing_end flags start words i old now h all = record {
+  count = h.count;
+  each = λ bit is.
+      h.each bit is ∙ ap (λ (b : Bool). slice_index_or old bit [] ++ cond b (node_bits (record { start = start; map = slice_index_or words bit 0 })) []) (lt-ltb bit i (omega (arith, all, flagged_within flags bit is)));
+}
+
+-- the types below a number leave room for others
+pub lists_room : (rows : List (List Node)) (types : List Node) (flags : List Bool) (n : ℕ) (lists : List (List ℕ)) → AreListsBelow rows types flags n lists → HaveRoom flags n lists
+lists_room rows types flags n lists h bit is = rw (h.each bit is) (All-filter (has_attribute rows types bit) (λ (other : ℕ). other < n) (range_with_len 0 n)
+    (All-weaker (λ (other : ℕ). (0 ≤ other) × (other < 0 + n)) (λ (other : ℕ). other < n) (λ other w. omega (arith, w.1)) (range_with_len 0 n) (range_holds 0 n)))
+
+pub lists_start : (rows : List (List Node)) (types : List Node) (flags : List Bool) (lists : List (List ℕ)) → length lists ≡ length rows → ((bit : ℕ) → slice_index_or lists bit [] ≡ []) → AreListsBelow rows types flags 0 lists
+lists_start rows types flags lists count nothing = record { count = count; each = λ bit is. nothing bit }
+
+pub lists_next : (rows : List (List Node)) (types : List Node) (flags : List Bool) (start : ℕ) (words : List ℕ) (lists next : List (List ℕ)) → length flags ≡ length rows → AreListsBelow rows types flags start lists → AreWords rows types start 64 words
+    → GainNodes flags start words lists next → AreListsBelow rows types flags (start + 64) next
+lists_next rows types flags start words lists next size h w g = record {
   count = g.count ∙ h.count;
   each = λ bit is.
-      ap (λ (ts : List ℕ). ts ++ times type bit left) (g.each bit is)
-      ∙ append_assoc (slice_index_or now bit []) (cond (bit == x) (type ∷ []) []) (times type bit left)
-      ∙ h.each bit is;
-  rises = rises_lower 0 (x + 1) left (omega arith) h.rises.1;
-  below = stays_below flags type x left now next h.rises.1 h.below g;
+      g.each bit is
+      ∙ ap (λ (xs : List ℕ). xs ++ node_bits (record { start = start; map = slice_index_or words bit 0 })) (h.each bit is)
+      ∙ ap (λ (xs : List ℕ). filter (has_attribute rows types bit) (range_with_len 0 start) ++ xs) (word_types rows types start bit words w (omega (arith, flagged_within flags bit is, size, w.count)))
+      ∙ sym (filter_parts (has_attribute rows types bit) 0 start 64 ∙ ap (λ (a : ℕ). filter (has_attribute rows types bit) (range_with_len 0 start) ++ filter (has_attribute rows types bit) (range_with_len a 64)) (from_zero start));
 }
 
-pub gaining_end : (flags : List Bool) (type : ℕ) (row : List Node) (old now : List (List ℕ)) → IsRisingFrom 0 row → Gaining flags type (bits_of row) [] old now → GainWhere flags type (has_bit row) old now
-gaining_end flags type row old now rising h = record {
+-- no type but those that have a row
+none_outside : (rows : List (List Node)) (types : List Node) (bit value : ℕ) → HaveRows rows types → ((1 ≤ value) × (value ≤ length rows) → ⊥) → has_attribute rows types bit value ≡ false
+none_outside rows types bit value have out = elim (cases_Bool (has_bit types value)) [
+  | inl is ↦ absurd (out (has_row rows types value have is))
+  | inr not ↦ ap (λ (b : Bool). b && has_bit (row_of rows value) bit) not
+]
+
+pub lists_end : (rows : List (List Node)) (attributes types : List Node) (flags : List Bool) (n : ℕ) (lists : List (List ℕ)) → flags ≡ map (has_bit attributes) (range_with_len 1 (length rows)) → HaveRows rows types → length rows < n → AreListsBelow rows types flags n lists
+    → AreLists rows attributes types lists
+lists_end rows attributes types flags n lists e have all h = record {
   count = h.count;
-  each = λ bit is. sym (append-nil (slice_index_or now bit [])) ∙ h.each bit is ∙ ap (λ (ts : List ℕ). slice_index_or old bit [] ++ ts) (times_bits type bit row rising);
-}
-
--- ---- the rows
-
--- the types of the first n rows are below the next one
-pub lists_below : (rows : List (List Node)) (attributes types : List Node) (flags : List Bool) (gains : ℕ → Bool) (n : ℕ) (lists : List (List ℕ)) → flags ≡ map (has_bit attributes) (range_with_len 1 (length rows)) → length lists ≡ length flags
-    → AreLists rows attributes types n lists → AreBelow flags (n + 1) gains lists
-lists_below rows attributes types flags gains n lists e count h bit is gain =
-    let within : bit < length lists = rw count (flagged_within flags bit is) in
-    let attribute : has_bit attributes (bit + 1) ≡ true = sym (flagged_is flags attributes (length rows) bit e (omega (arith, h.count))) ∙ is in
-    rw (h.each bit within attribute) (All-filter (has_attribute rows types bit) (λ (other : ℕ). other < n + 1) (range_with_len 1 n)
-    (All-weaker (λ (other : ℕ). (1 ≤ other) × (other < 1 + n)) (λ (other : ℕ). other < n + 1) (λ other w. omega (arith, w.1)) (range_with_len 1 n) (range_holds 1 n)))
-
-pub lists_next : (rows : List (List Node)) (attributes types : List Node) (flags : List Bool) (i type : ℕ) (row : List Node) (lists next : List (List ℕ))
-    → flags ≡ map (has_bit attributes) (range_with_len 1 (length rows)) → type ≡ i + 1 → i < length rows → row ≡ slice_index_or rows i row → AreLists rows attributes types i lists
-    → GainWhere flags type (λ bit. has_bit types type && has_bit row bit) lists next → AreLists rows attributes types (i + 1) next
-lists_next rows attributes types flags i type row lists next flag e lt is h g = record {
-  count = g.count ∙ h.count;
   each = λ bit within attribute.
-      let before : i + 1 - 1 ≡ i = omega arith in
-      let found : row ≡ slice_index_or rows (i + 1 - 1) [] = get_or_read rows i row lt is [] ∙ ap (λ (k : ℕ). slice_index_or rows k []) (sym before) in
-      g.each bit (flagged_is flags attributes (length rows) bit flag (omega (arith, g.count, h.count)) ∙ attribute)
-      ∙ ap (λ (xs : List ℕ). xs ++ cond (has_bit types type && has_bit row bit) (type ∷ []) []) (h.each bit (omega (arith, g.count)) attribute)
-      ∙ ap (λ (t : ℕ). filter (has_attribute rows types bit) (range_with_len 1 i) ++ cond (has_bit types t && has_bit row bit) (t ∷ []) []) e
-      ∙ ap (λ (ns : List Node). filter (has_attribute rows types bit) (range_with_len 1 i) ++ cond (has_bit types (i + 1) && has_bit ns bit) ((i + 1) ∷ []) []) found
-      ∙ sym (filter_range_more (has_attribute rows types bit) i);
+      let p = has_attribute rows types bit in
+      let flagged : is_flagged flags bit ≡ true = flagged_is flags attributes (length rows) bit e (omega (arith, within, h.count)) ∙ attribute in
+      let size : n ≡ 1 + (length rows + (n - length rows - 1)) = omega arith in
+      h.each bit flagged
+      ∙ ap (λ (m : ℕ). filter p (range_with_len 0 m)) size
+      ∙ filter_parts p 0 1 (length rows + (n - length rows - 1))
+      ∙ ap (λ (xs : List ℕ). xs ++ filter p (range_with_len 1 (length rows + (n - length rows - 1)))) (filter_none p 0 1 (λ c low high. none_outside rows types bit c have (λ w. omega (arith, w.0, high))))
+      ∙ filter_parts p 1 (length rows) (n - length rows - 1)
+      ∙ ap (λ (xs : List ℕ). filter p (range_with_len 1 (length rows)) ++ xs) (filter_none p (1 + length rows) (n - length rows - 1) (λ c low high. none_outside rows types bit c have (λ w. omega (arith, w.1, low))))
+      ∙ append-nil (filter p (range_with_len 1 (length rows)));
 }
 
 -- what a slice of a whole list became is the list

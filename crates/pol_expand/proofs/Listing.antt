@@ -35,13 +35,13 @@ type_listed attributes sets value e = rw e refl
 back : (value : ℕ) → 1 ≤ value → value - 1 + 1 ≡ value
 back value low = omega arith
 
-list_is : (rows : List (List Node)) (attributes types : List Node) (sets : List (List Node)) (value : ℕ) → AreLists rows attributes types (length rows) (map bits_of sets) → 1 ≤ value → value ≤ length sets → has_bit attributes value ≡ true
+list_is : (rows : List (List Node)) (attributes types : List Node) (sets : List (List Node)) (value : ℕ) → AreLists rows attributes types (map bits_of sets) → 1 ≤ value → value ≤ length sets → has_bit attributes value ≡ true
     → bits_of (slice_index_or sets (value - 1) []) ≡ filter (has_attribute rows types (value - 1)) (range_with_len 1 (length rows))
 list_is rows attributes types sets value h low high e =
     sym (get_or-map bits_of sets (value - 1) [] [] (omega arith))
     ∙ h.each (value - 1) (omega (arith, length-map sets bits_of)) (ap (has_bit attributes) (back value low) ∙ e)
 
-expands : (rows : List (List Node)) (attributes types : List Node) (sets : List (List Node)) (value : ℕ) → AreLists rows attributes types (length rows) (map bits_of sets) → 1 ≤ value → value ≤ length sets → listed attributes sets value ≡ expand_by rows attributes types value
+expands : (rows : List (List Node)) (attributes types : List Node) (sets : List (List Node)) (value : ℕ) → AreLists rows attributes types (map bits_of sets) → 1 ≤ value → value ≤ length sets → listed attributes sets value ≡ expand_by rows attributes types value
 unfolding expansion
 expands rows attributes types sets value h low high = elim (cases_Bool (has_bit attributes value)) [
   | inl is ↦ rw is (list_is rows attributes types sets value h low high is)
@@ -56,16 +56,16 @@ map_agrees f g a (suc n) h =
     ap (λ (x : List ℕ). x ∷ map f (range_with_len (a + 1) n)) first ∙ ap (λ (xs : List (List ℕ)). g a ∷ xs) rest
 
 -- there is a set for each row
-pub sets_count : (rows : List (List Node)) (attributes types : List Node) (sets : List (List Node)) → AreLists rows attributes types (length rows) (map bits_of sets) → length sets ≡ length rows
+pub sets_count : (rows : List (List Node)) (attributes types : List Node) (sets : List (List Node)) → AreLists rows attributes types (map bits_of sets) → length sets ≡ length rows
 sets_count rows attributes types sets h = sym (length-map sets bits_of) ∙ h.count
 
-pub listed_is_expanded : (rows : List (List Node)) (attributes types : List Node) (sets : List (List Node)) → AreLists rows attributes types (length rows) (map bits_of sets) → listed_all attributes sets ≡ expand_all rows attributes types
+pub listed_is_expanded : (rows : List (List Node)) (attributes types : List Node) (sets : List (List Node)) → AreLists rows attributes types (map bits_of sets) → listed_all attributes sets ≡ expand_all rows attributes types
 unfolding listed_all expand_all
 listed_is_expanded rows attributes types sets h =
     map_agrees (listed attributes sets) (expand_by rows attributes types) 1 (length sets) (λ x low high. expands rows attributes types sets x h low (omega arith))
     ∙ ap (λ (n : ℕ). map (expand_by rows attributes types) (range_with_len 1 n)) (sets_count rows attributes types sets h)
 
-pub inversion_of : (rows : List (List Node)) (attributes types : List Node) (sets : List (List Node)) → length rows ≤ 65535 → HaveRows rows attributes → HaveRows rows types → (ShareBit (bits_of attributes) (bits_of types) → ⊥) → AreLists rows attributes types (length rows) (map bits_of sets) → IsInversion sets attributes types
+pub inversion_of : (rows : List (List Node)) (attributes types : List Node) (sets : List (List Node)) → length rows ≤ 65535 → HaveRows rows attributes → HaveRows rows types → (ShareBit (bits_of attributes) (bits_of types) → ⊥) → AreLists rows attributes types (map bits_of sets) → IsInversion sets attributes types
 inversion_of rows attributes types sets few left right apart h =
     let count = sets_count rows attributes types sets h in
     record {

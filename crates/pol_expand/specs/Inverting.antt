@@ -1,8 +1,9 @@
 -- How the map is turned round: for each attribute the list of its types, and then their set.
-use Rattle.std.specs.Prelude.{◌≡◌, map, ℕ, ◌+◌, ◌-◌, ◌≤◌, ◌<◌, Bool, true, false, ◌&&◌, ◌==◌, Option, Some, None, is_some, List, [], ◌∷◌, ◌++◌, length, slice_index_or, if◌then◌else◌}
+use Rattle.std.specs.Prelude.{◌≡◌, map, ℕ, ◌+◌, ◌-◌, ◌≤◌, ◌<◌, Bool, true, false, ◌&&◌, ◌||◌, ◌==◌, nat_lt, Option, Some, None, is_some, List, [], ◌∷◌, ◌++◌, length, slice_index_or, if◌then◌else◌}
 use Rattle.std.specs.List.{All, filter, list_any, range_with_len, count_by}
 use Rattle.pol_bitmap.specs.declared.node.Node.{Node}
-use Rattle.pol_bitmap.specs.Nodes.{bits_of, has_bit}
+use Rattle.std.specs.Int.{bit_at}
+use Rattle.pol_bitmap.specs.Nodes.{bits_of, has_bit, node_bits}
 use Rattle.pol_expand.specs.Expansion.{row_of, expansion_of, IsDeclared}
 
 -- a declared type whose row has a bit
@@ -13,24 +14,42 @@ has_attribute rows types bit type = has_bit types type && has_bit (row_of rows t
 abbrev pub is_flagged : List Bool → ℕ → Bool
 is_flagged flags bit = slice_index_or flags bit false
 
--- The list of each attribute that is to gain a type has lower ones. The list of bit v - 1 is that of the value v.
-abbrev pub AreBelow : List Bool → ℕ → (ℕ → Bool) → List (List ℕ) → Type 0
-AreBelow flags type gains lists = (bit : ℕ) → is_flagged flags bit ≡ true → gains bit ≡ true → All (λ other. other < type) (slice_index_or lists bit [])
-
--- Each list of an attribute gains a type where a test of its bit says so.
-pub record GainWhere (flags : List Bool) (type : ℕ) (gains : ℕ → Bool) (old new : List (List ℕ)) : Type 0 where
-  pub count : length new ≡ length old
-  pub each : (bit : ℕ) → is_flagged flags bit ≡ true → slice_index_or new bit [] ≡ slice_index_or old bit [] ++ (if gains bit then type ∷ [] else [])
-
--- the lists after the first n rows
-pub record AreLists (rows : List (List Node)) (attributes types : List Node) (n : ℕ) (lists : List (List ℕ)) : Type 0 where
+-- the list of each attribute, all types of whose row have come
+pub record AreLists (rows : List (List Node)) (attributes types : List Node) (lists : List (List ℕ)) : Type 0 where
   pub count : length lists ≡ length rows
-  pub each : (bit : ℕ) → bit < length lists → has_bit attributes (bit + 1) ≡ true → slice_index_or lists bit [] ≡ filter (has_attribute rows types bit) (range_with_len 1 n)
+  pub each : (bit : ℕ) → bit < length lists → has_bit attributes (bit + 1) ≡ true → slice_index_or lists bit [] ≡ filter (has_attribute rows types bit) (range_with_len 1 (length rows))
 
--- The type, once for each of these bits that is the one.
-abbrev pub times : ℕ → ℕ → List ℕ → List ℕ
-times type bit [] = []
-times type bit (x ∷ xs) = (if bit == x then type ∷ [] else []) ++ times type bit xs
+-- ---- 64 types at a time
+
+-- Each bit has a word, with a bit for each of the 64 types from one on. Whether the k-th of these is there.
+abbrev pub word_has_type : List ℕ → ℕ → ℕ → Bool
+word_has_type words bit k = bit_at (slice_index_or words bit 0) k == 1
+
+-- The words gain a type, by its place among the 64, where a test of the bit says so.
+pub record GainType (place : ℕ) (gains : ℕ → Bool) (old new : List ℕ) : Type 0 where
+  pub count : length new ≡ length old
+  pub each : (bit k : ℕ) → bit < length old → k < 64 → word_has_type new bit k ≡ (word_has_type old bit k || ((k == place) && gains bit))
+
+-- the words after n of the 64 types from one on
+pub record AreWords (rows : List (List Node)) (types : List Node) (start n : ℕ) (words : List ℕ) : Type 0 where
+  pub count : length words ≡ length rows
+  pub each : (bit k : ℕ) → bit < length words → k < 64 → word_has_type words bit k ≡ (nat_lt k n && has_attribute rows types bit (start + k))
+
+-- the lists of the attributes have types below a number alone
+abbrev pub HaveRoom : List Bool → ℕ → List (List ℕ) → Type 0
+HaveRoom flags start lists = (bit : ℕ) → is_flagged flags bit ≡ true → All (λ other. other < start) (slice_index_or lists bit [])
+
+-- The list of each attribute gains the types of its word.
+pub record GainNodes (flags : List Bool) (start : ℕ) (words : List ℕ) (old new : List (List ℕ)) : Type 0 where
+  pub count : length new ≡ length old
+  pub each : (bit : ℕ) → is_flagged flags bit ≡ true → slice_index_or new bit [] ≡ slice_index_or old bit [] ++ node_bits (record { start = start; map = slice_index_or words bit 0 })
+
+-- the lists after the types below a number
+pub record AreListsBelow (rows : List (List Node)) (types : List Node) (flags : List Bool) (n : ℕ) (lists : List (List ℕ)) : Type 0 where
+  pub count : length lists ≡ length rows
+  pub each : (bit : ℕ) → is_flagged flags bit ≡ true → slice_index_or lists bit [] ≡ filter (has_attribute rows types bit) (range_with_len 0 n)
+
+-- ---- the sets
 
 -- what a value expands to, by the sets of the attributes' types
 abbrev pub listed : List Node → List (List Node) → ℕ → List ℕ

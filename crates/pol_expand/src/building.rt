@@ -1,8 +1,9 @@
-// The types of the attributes, gathered in one pass over the rows.
-ghost use Rattle.std.specs.Prelude.{◌≡◌, ◌≤◌, ◌&&◌, ◌==◌, ℕ, [], map, IfOk, OnOk, length, slice_index_or};
+// The types of the attributes, gathered in one pass over the rows, 64 types at a time.
+ghost use Rattle.std.specs.Prelude.{◌≡◌, ◌≤◌, ◌<◌, ◌%◌, ◌==◌, ℕ, [], map, IfOk, OnOk, length, replicate, slice_index_or};
 ghost use Rattle.std.specs.List.{range_with_len};
 ghost use Rattle.pol_bitmap.specs.Nodes.{bits_of, has_bit};
-ghost use Rattle.pol_expand.specs.Inverting.{is_flagged, AreBelow, AreLists, GainWhere};
+ghost use Rattle.pol_expand.specs.Expansion.{HaveRows};
+ghost use Rattle.pol_expand.specs.Inverting.{has_attribute, is_flagged, AreLists, AreListsBelow, AreWords, GainNodes, GainType, HaveRoom};
 
 use crate::type_list::TypeList;
 use pol_bitmap::{BitmapView, Set};
@@ -22,8 +23,9 @@ pub fn sets_of(
     attributes: &Set,
     types: &Set,
 ) -> Result<Vec<Set>, AllocError>
-    requires { length rows.now ≤ 65535 }
-    ensures { IfOk result (λ sets. AreLists rows.now attributes.now types.now (length rows.now) (map bits_of sets.items)) }
+    requires few { length rows.now ≤ 65535 }
+    requires types { HaveRows rows.now types.now }
+    ensures { IfOk result (λ sets. AreLists rows.now attributes.now types.now (map bits_of sets.items)) }
 {
     let lists = lists_of(alloc, rows, attributes, types)?;
     let empty = Set::empty(alloc)?;
@@ -41,13 +43,16 @@ fn lists_of(
     attributes: &Set,
     types: &Set,
 ) -> Result<Vec<TypeList>, AllocError>
-    requires { length rows.now ≤ 65535 }
-    ensures { IfOk result (λ lists. AreLists rows.now attributes.now types.now (length rows.now) lists.items) }
+    requires few { length rows.now ≤ 65535 }
+    requires types { HaveRows rows.now types.now }
+    ensures { IfOk result (λ lists. AreLists rows.now attributes.now types.now lists.items) }
 {
     let flags = attribute_flags(alloc, attributes, rows.len())?;
     let mut lists = empty_lists(alloc, rows.len())?;
-    for i in 0..rows.len() {
-        add_type(&mut lists, &rows[i], &flags, types, i as u32 + 1)?;
+    for block in 0..rows.len() / 64 + 1 {
+        let start = block as u32 * 64;
+        let words = words_of(alloc, rows, types, start)?;
+        push_words(&mut lists, &words, &flags, start)?;
     }
     Ok(lists)
 }
@@ -76,60 +81,80 @@ fn empty_lists(alloc: Global, count: usize) -> Result<Vec<TypeList>, AllocError>
     Ok(lists)
 }
 
-// Adds a type, if it is declared, to the lists of its row's attributes.
-fn add_type(
-    lists: &mut [TypeList],
-    row: &BitmapView<'_>,
-    flags: &[bool],
+// For each bit a word of the declared types, of the 64 from one on, whose row has it.
+fn words_of(
+    alloc: Global,
+    rows: &[BitmapView<'_>],
     types: &Set,
-    value: u32,
-) -> Result<(), AllocError>
-    requires count { length lists.old ≡ length flags.now }
-    requires below { AreBelow flags.now value (has_bit row.now) lists.old }
-    ensures { OnOk result (GainWhere flags.now value (λ bit. has_bit types.now value && has_bit row.now bit) lists.old lists.new) }
+    start: u32,
+) -> Result<Vec<u64>, AllocError>
+    requires start { start ≤ 65535 }
+    requires types { HaveRows rows.now types.now }
+    ensures { IfOk result (λ words. AreWords rows.now types.now start 64 words.items) }
+{
+    let mut words = no_words(alloc, rows.len())?;
+    for place in 0..64 {
+        add_type(&mut words, rows, types, start + place, place);
+    }
+    Ok(words)
+}
+
+// As many words, with no bit set.
+fn no_words(alloc: Global, count: usize) -> Result<Vec<u64>, AllocError>
+    ensures { IfOk result (λ words. words.items ≡ replicate count 0) }
+{
+    vec![in alloc; 0; count]
+}
+
+// Adds a type, if it is declared, to the words of its row's bits.
+fn add_type(words: &mut Vec<u64>, rows: &[BitmapView<'_>], types: &Set, value: u32, place: u32)
+    requires place { place < 64 }
+    requires types { HaveRows rows.now types.now }
+    ensures { GainType place (λ bit. has_attribute rows.now types.now bit value) words.old.items words.new.items }
 {
     if has_value(types, value) {
-        add_row(lists, row, flags, value)
-    } else {
-        Ok(())
+        add_row(words, &rows[value as usize - 1], place);
     }
 }
 
-// Adds a type to the lists of its row's attributes.
-fn add_row(
-    lists: &mut [TypeList],
-    row: &BitmapView<'_>,
-    flags: &[bool],
-    value: u32,
-) -> Result<(), AllocError>
-    requires count { length lists.old ≡ length flags.now }
-    requires below { AreBelow flags.now value (has_bit row.now) lists.old }
-    ensures { OnOk result (GainWhere flags.now value (has_bit row.now) lists.old lists.new) }
+// Adds a type to the words of its row's bits.
+fn add_row(words: &mut Vec<u64>, row: &BitmapView<'_>, place: u32)
+    requires { place < 64 }
+    ensures { GainType place (has_bit row.now) words.old.items words.new.items }
 {
-    // the clause of the count says that the nodes rise, so no bit comes twice
-    let _ = row.node_count();
     for bit in row.bits() {
-        add_bit(lists, flags, bit, value)?;
+        add_bit(words, bit, place);
     }
-    Ok(())
 }
 
-// Adds a type to the list of a bit, if that stands for an attribute.
-fn add_bit(lists: &mut [TypeList], flags: &[bool], bit: u32, value: u32) -> Result<(), AllocError>
-    requires count { length lists.old ≡ length flags.now }
-    requires below { AreBelow flags.now value (λ other. other == bit) lists.old }
-    ensures { OnOk result (GainWhere flags.now value (λ other. other == bit) lists.old lists.new) }
+// Adds a type to the word of a bit, if there is one.
+fn add_bit(words: &mut Vec<u64>, bit: u32, place: u32)
+    requires { place < 64 }
+    ensures { GainType place (λ other. other == bit) words.old.items words.new.items }
 {
-    if is_flagged(flags, bit) {
-        lists[bit as usize].push(value)?;
+    let bit = bit as usize;
+    if bit < words.len() {
+        words[bit] |= 1 << place;
     }
-    Ok(())
 }
 
-// Whether a bit stands for an attribute.
-fn is_flagged(flags: &[bool], bit: u32) -> bool
-    ensures { result ≡ is_flagged flags.now bit }
+// Adds the types of each attribute's word to its list.
+fn push_words(
+    lists: &mut [TypeList],
+    words: &[u64],
+    flags: &[bool],
+    start: u32,
+) -> Result<(), AllocError>
+    requires words { length words.now ≡ length lists.old }
+    requires flags { length flags.now ≡ length lists.old }
+    requires whole { start % 64 ≡ 0 }
+    requires room { HaveRoom flags.now start lists.old }
+    ensures { OnOk result (GainNodes flags.now start words.now lists.old lists.new) }
 {
-    let place = bit as usize;
-    place < flags.len() && flags[place]
+    for i in 0..words.len() {
+        if flags[i] {
+            lists[i].push_word(start, words[i])?;
+        }
+    }
+    Ok(())
 }

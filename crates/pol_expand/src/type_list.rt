@@ -1,5 +1,5 @@
-ghost use Rattle.std.specs.Prelude.{◌≡◌, ◌<◌, ◌++◌, ◌∷◌, [], All, IfOk, OnOk};
-ghost use Rattle.pol_bitmap.specs.Nodes.{bits_of};
+ghost use Rattle.std.specs.Prelude.{◌≡◌, ◌<◌, ◌++◌, ◌%◌, [], All, IfOk, OnOk};
+ghost use Rattle.pol_bitmap.specs.Nodes.{bits_of, node_bits};
 
 use pol_bitmap::{Node, Set};
 use std::alloc::{AllocError, Global};
@@ -33,19 +33,15 @@ impl TypeList {
         }
     }
 
-    /// Appends a type above all that are there.
-    pub fn push(&mut self, value: u32) -> Result<(), AllocError>
-        requires { All (λ other. other < value) self.old }
-        ensures { OnOk result (self.new ≡ self.old ++ value ∷ []) }
+    /// Appends the types of a word: a bit for each of the 64 from one on, which is a multiple of 64 and above all that are there.
+    pub fn push_word(&mut self, start: u32, map: u64) -> Result<(), AllocError>
+        requires whole { start % 64 ≡ 0 }
+        requires above { All (λ other. other < start) self.old }
+        ensures { OnOk result (self.new ≡ self.old ++ node_bits (record { start = start; map = map })) }
     {
-        let start = value - value % 64;
-        let map = 1 << (value % 64);
-        let count = self.nodes.len();
-        if count == 0 || self.nodes[count - 1].start < start {
+        if map != 0 {
             self.nodes.push(Node { start, map })?;
-            return Ok(());
         }
-        self.nodes[count - 1].map |= map;
         Ok(())
     }
 

@@ -1,18 +1,15 @@
-use Rattle.std.proofs.Common.{◌≡◌, ◌<◌, ℕ, [], true, refl, sym, subst, ◌∙◌, arith}
-use Rattle.std.specs.Prelude.{slice_index_or}
-use Rattle.std.specs.List.{All}
-use Rattle.std.proofs.lemmas.Bool.{eq-eqb}
-use Rattle.std.proofs.lemmas.List.{get_or_read}
-use Rattle.pol_expand.specs.Inverting.{is_flagged}
-use Rattle.pol_expand.proofs.Gains.{flagged_within}
+use Rattle.std.proofs.Common.{◌≡◌, ◌<◌, ◌*◌, ◌%◌, ◌^◌, ℕ, length, get_or, set, bit_or, sym, subst, ◌∙◌, arith}
+use Rattle.std.specs.Prelude.{◌==◌}
+use Rattle.std.proofs.lemmas.List.{get_or_default}
+use Rattle.pol_expand.specs.Inverting.{GainType}
+use Rattle.pol_expand.proofs.Gains.{gains_bit}
 use Rattle.pol_expand.proofs.building.add_bit.Goals as goal
 
-pub push-requires : goal.push-requires
-push-requires c =
-    let lists = c.args.lists.now in
+pub returns-then-bit-len : goal.returns-then-bit-len
+returns-then-bit-len c =
+    let words = c.args.words.now.items in
     let bit = c.args.bit in
-    let list = c.index-lists-bit.result in
-    let flagged : is_flagged c.args.flags.now bit ≡ true = sym c.is_flagged.ensures ∙ c.if-is_flagged.true in
-    let within = flagged_within c.args.flags.now bit flagged in
-    let here : list ≡ slice_index_or lists bit [] = get_or_read lists bit list (omega (arith, within, c.requires.count)) c.index-lists-bit.is [] in
-    subst (All (λ (other : ℕ). other < c.args.value)) (sym here ∙ c.index-lists-bit.is) (c.requires.below bit flagged (eq-eqb bit bit refl))
+    let place = c.args.place in
+    let within : bit < length words = omega (arith, c.if-bit-len.true, c.args.words.now.ok) in
+    let read : c.index_mut.result.now ≡ get_or words bit 0 = c.index_mut.ensures.value ∙ get_or_default words bit c.index_mut.result.now 0 within in
+    subst (λ (w : ℕ). GainType place (λ other. other == bit) words (set words bit (bit_or w (1 * 2 ^ place % 2 ^ 64)))) (sym read) (gains_bit words bit place c.requires within)

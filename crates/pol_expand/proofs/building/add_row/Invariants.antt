@@ -3,4 +3,4 @@ use Rattle.pol_expand.proofs.Gains.{Gaining}
 use Rattle.pol_expand.proofs.building.add_row.Given as goal
 
 abbrev pub invariant-loop-bit : goal.invariant-loop-bit
-invariant-loop-bit l = Gaining l.flags l.value (bits_of l.row) l.bit-iterator l.fn.lists l.lists
+invariant-loop-bit l = Gaining l.place (bits_of l.row) l.bit-iterator l.fn.words.items l.words.items

@@ -1,5 +1,6 @@
-use Rattle.pol_expand.specs.Inverting.{AreLists}
+use Rattle.std.proofs.Common.{◌*◌}
+use Rattle.pol_expand.specs.Inverting.{AreListsBelow}
 use Rattle.pol_expand.proofs.building.lists_of.Given as goal
 
-abbrev pub invariant-loop-i : goal.invariant-loop-i
-invariant-loop-i l = AreLists l.rows l.attributes l.types l.i l.lists.items
+abbrev pub invariant-loop-block : goal.invariant-loop-block
+invariant-loop-block l = AreListsBelow l.rows l.types l.flags.items (l.block * 64) l.lists.items
