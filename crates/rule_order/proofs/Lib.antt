@@ -1,4 +1,6 @@
 pub mod OrderedRules
 pub mod Ordered
+pub mod NameNumbers
 pub mod KeyOrder
 pub mod SortedNumbers
+pub mod GatheredKeys

@@ -1,18 +1,24 @@
 // What a rule is sorted by: ranks in place of names, so that no name is compared.
-ghost use Rattle.std.specs.Prelude.{◌≡◌, ◌<◌, IfOk, length, map};
+ghost use Rattle.std.specs.Prelude.{◌≡◌};
+ghost use Rattle.std.proofs.Common.{rules};
+ghost use Rattle.std.specs.Cmp.{partial_order_from_own_ties, partial_order_from_total};
+ghost use Rattle.std.specs.Cmp.Rules.{comparing};
+ghost use Rattle.std.specs.Ordering.{as_partial_cmp};
 ghost use Rattle.pol_symbols.specs.PolicySymbols.{rank_in};
-ghost use Rattle.pol_rules.specs.StoredRules.{stored, stored_rules};
-ghost use Rattle.rule_order.specs.Keys.{key_of, key_of_rule, rank_or_zero};
-ghost use Rattle.rule_order.specs.ListedOrder.{AreRules};
+ghost use Rattle.pol_rules.specs.StoredRules.{stored};
+ghost use Rattle.rule_order.specs.Keys.{AreWords, key_of_rule, keys_total, names_number, plain_cmp, rank_or_zero};
 
 use crate::ends::{table_of_source, table_of_target};
 use pol_cursor::TableKind;
-use pol_read::{Policy, Rule};
+use pol_read::Rule;
 use pol_symbols::Symbols;
-use std::alloc::{AllocError, Global};
+use std::cmp::Ordering;
+
+// How many values a u32 has.
+const WORD: u128 = 0x1_0000_0000;
 
 /// The key of a rule. Keys rise in the order in which rules are listed.
-#[derive(Clone, Copy, PartialEq, Eq, PartialOrd, Ord)]
+#[derive(Clone, Copy, PartialEq, Eq)]
 pub struct Key {
     pub kind: u32,
     pub source: u32,
@@ -21,37 +27,53 @@ pub struct Key {
     pub number: u32,
 }
 
-/// The keys of the rules of these numbers.
-pub fn keys_of(alloc: Global, policy: &Policy<'_>, numbers: &[u32]) -> Result<Vec<Key>, AllocError>
-    requires { AreRules policy.now numbers.now }
-    ensures { IfOk result (λ keys. keys.items ≡ map (key_of policy.now) numbers.now) }
-{
-    let mut keys = Vec::with_capacity(alloc, numbers.len())?;
-    for number in numbers {
-        keys.push(key_of(policy, *number))?;
+impl Key {
+    /// The key of a rule that has that number.
+    pub fn of(symbols: &Symbols<'_>, number: u32, rule: &Rule<'_>) -> Key
+        ensures { result ≡ key_of_rule symbols.now number (stored rule.now) }
+    {
+        Key {
+            kind: rule.kind as u32,
+            source: rank_or_zero(symbols, table_of_source(rule.kind), rule.source),
+            target: rank_or_zero(symbols, table_of_target(rule.kind), rule.target),
+            class: rank_or_zero(symbols, TableKind::Classes, rule.class),
+            number,
+        }
     }
-    Ok(keys)
+
+    // All but the number in one number, so that they are compared at once.
+    fn names(&self) -> u128
+        ensures exact { result ≡ names_number self.now }
+        ensures words { AreWords self.now }
+    {
+        ((self.kind as u128 * WORD + self.source as u128) * WORD + self.target as u128) * WORD
+            + self.class as u128
+    }
 }
 
-// The key of the rule of that number.
-#[tactic(auto, unfolding(crate::specs::Keys::key_of))]
-fn key_of(policy: &Policy<'_>, number: u32) -> Key
-    requires { number < length (stored_rules policy.now) }
-    ensures { result ≡ key_of policy.now number }
-{
-    key_of_rule(policy.symbols(), number, &policy.rule(number))
+impl Ord for Key {
+    ghost cmp = { plain_cmp };
+
+    ghost total = { keys_total };
+
+    ghost matches_partial_cmp = { Prim.search (comparing, rules) };
+
+    ghost matches_eq = { Prim.search (comparing, rules) };
+
+    fn cmp(&self, other: &Key) -> Ordering {
+        self.names()
+            .cmp(&other.names())
+            .then(self.number.cmp(&other.number))
+    }
 }
 
-// The key of a rule that has that number.
-fn key_of_rule(symbols: &Symbols<'_>, number: u32, rule: &Rule<'_>) -> Key
-    ensures { result ≡ key_of_rule symbols.now number (stored rule.now) }
-{
-    Key {
-        kind: rule.kind as u32,
-        source: rank_or_zero(symbols, table_of_source(rule.kind), rule.source),
-        target: rank_or_zero(symbols, table_of_target(rule.kind), rule.target),
-        class: rank_or_zero(symbols, TableKind::Classes, rule.class),
-        number,
+impl PartialOrd for Key {
+    ghost partial_cmp = { as_partial_cmp plain_cmp };
+
+    ghost laws = { partial_order_from_own_ties (partial_order_from_total keys_total) (Prim.search (comparing, rules)) };
+
+    fn partial_cmp(&self, other: &Key) -> Option<Ordering> {
+        Some(self.cmp(other))
     }
 }
 
