@@ -40,8 +40,8 @@ fn count_of(words: &'static str, kind: RuleKind, counts: &[u64; 12]) -> Entry
     count(words, counts[kind as usize])
 }
 
-// How many stored rules there are of each kind, by the numbers of the kinds. The access vectors are counted one by one, which the
-// file-name transitions are not: those of a group would be looked up by going through the group.
+// How many stored rules there are of each kind, by the numbers of the kinds. The access vectors, which are of many kinds, are counted one
+// by one; of the others it is enough how many there are.
 #[tactic(auto, using(crate::proofs::RuleCounting::all_rules))]
 fn count_rules(policy: &Policy<'_>) -> [u64; 12]
     ensures { result ≡ kind_counts (stored_rules policy.now) }
@@ -81,7 +81,7 @@ fn count_first(policy: &Policy<'_>, rules: u32) -> [u64; 12]
 {
     let mut counts = [0; 12];
     for n in 0..rules {
-        add(&mut counts, policy.rule(n).kind, 1);
+        add(&mut counts, policy.rule_ends(n).kind, 1);
     }
     counts
 }

@@ -1,5 +1,9 @@
-use Rattle.std.proofs.Common.{refl, ◌∙◌}
-use Rattle.pol_rules.specs.StoredRules.{stored, stored_rules}
+use Rattle.std.proofs.Common.{ℕ, ◌+◌, get_or, refl, slice_set, sym, take, ap, ◌∙◌}
+use Rattle.pol_rules.specs.declared.rule.RuleKind.{RuleKind}
+use Rattle.pol_rules.specs.declared.rule.RuleEnds.{RuleEnds}
+use Rattle.pol_rules.specs.RuleOrder.{kind_number}
+use Rattle.pol_rules.specs.StoredRules.{stored_rules}
+use Rattle.pol_rules.proofs.RulesDeclared.{rule_with_ends}
 use Rattle.info_summary.specs.RuleCounts.{kind_counts}
 use Rattle.info_summary.proofs.RuleCounting.{one_counted}
 use Rattle.info_summary.proofs.rule_counts.count_first.Goals as goal
@@ -9,4 +13,12 @@ unfolding kind_counts
 loop-n-init c = refl
 
 pub loop-n-preserved : goal.loop-n-preserved
-loop-n-preserved c = c.add.ensures ∙ rw c.loop-n.invariant (one_counted (stored_rules c.args.policy.now) c.loop-n.n (stored c.rule.result) c.rule.ensures.is)
+loop-n-preserved c =
+    let rules = stored_rules c.args.policy.now in
+    let n = c.loop-n.n in
+    let counts = kind_counts (take n rules) in
+    let found = rule_with_ends c.args.policy.now n c.rule_ends.result c.rule_ends.ensures.is in
+    c.add.ensures
+    ∙ rw c.loop-n.invariant
+      (ap (λ (kind : RuleKind). slice_set counts (kind_number kind) (get_or counts (kind_number kind) 0 + 1)) (sym (ap (λ (ends : RuleEnds). ends.kind) found.2))
+      ∙ one_counted rules n found.0 found.1)
