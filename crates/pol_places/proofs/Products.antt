@@ -1,5 +1,5 @@
 -- The members of products, by their index.
-use Rattle.std.proofs.Common.{◌≡◌, ℕ, zero, suc, ◌+◌, ◌-◌, ◌*◌, ◌/◌, ◌%◌, ◌^◌, ◌<◌, ◌≤◌, min, List, [], ◌∷◌, ◌++◌, map, length, take, get_or, refl, sym, ap, subst, ◌∙◌, arith, Option, Some, None, slice_get, inl, inr, mod-lt, div-add-mod'}
+use Rattle.std.proofs.Common.{◌≡◌, ℕ, zero, suc, ◌+◌, ◌-◌, ◌*◌, ◌/◌, ◌%◌, ◌^◌, ◌<◌, ◌≤◌, min, List, [], ◌∷◌, ◌++◌, map, length, length-drop, take, drop, get_or, refl, sym, ap, subst, ◌∙◌, arith, Option, Some, None, slice_get, inl, inr, mod-lt, div-add-mod'}
 use Rattle.std.specs.List.{All, flat_map}
 use Rattle.std.specs.Option.{option_map}
 use Rattle.std.proofs.lemmas.List.{length-append, length-map, length-take-le, take_all, take_more, get_or-map}
@@ -15,7 +15,8 @@ use Rattle.pol_places.specs.declared.entry.Entry.{Entry}
 use Rattle.pol_places.specs.declared.entry.Place.{Place}
 use Rattle.pol_places.specs.declared.entry.Single.{Single}
 use Rattle.pol_places.specs.Members.{Product, product_of, products_of, product_at, bits_at, members_of, members, HasSets}
-use Rattle.pol_places.specs.Standing.{members_before, IsAt, StandsAt}
+use Rattle.pol_places.specs.declared.row.Row.{Row}
+use Rattle.pol_places.specs.Standing.{members_before, IsAt, StandsAt, IsRowAt}
 
 -- ---- pieces joined end to end
 
@@ -287,3 +288,55 @@ gives entries sets ps at after k d is lt next h =
 -- what is true of a list's neighbours, where the list is another
 pub along : (xs ys : List ℕ) (a : ℕ) (o : Option ℕ) → xs ≡ ys → ((i : ℕ) → slice_get xs i ≡ Some a → slice_get xs (i + 1) ≡ o) → (i : ℕ) → slice_get ys i ≡ Some a → slice_get ys (i + 1) ≡ o
 along xs ys a o is h = subst (λ (zs : List ℕ). (i : ℕ) → slice_get zs i ≡ Some a → slice_get zs (i + 1) ≡ o) is h
+
+-- ---- rows
+
+-- a later target of the same source
+target_later : (ps : List Product) (at : Place) (k i target : ℕ) (h : IsAt ps at k) → slice_get (product_at ps at.entry).targets (h.j + i) ≡ Some target → IsAt ps (record { entry = at.entry; source = at.source; target = target }) (k + i)
+target_later ps at k i target h is = record {
+  i = h.i;
+  j = h.j + i;
+  within = h.within;
+  source = h.source;
+  target = is;
+  number = omega (arith, h.number);
+}
+
+pub get_dropped : (xs : List ℕ) (n i : ℕ) → slice_get (drop n xs) i ≡ slice_get xs (n + i)
+get_dropped xs zero i = let e : 0 + i ≡ i = omega arith in rw e refl
+get_dropped [] (suc n) i = refl
+get_dropped (x ∷ xs) (suc n) i = let e : suc n + i ≡ suc (n + i) = omega arith in rw e (get_dropped xs n i)
+
+-- the targets that are left of a source
+row_from : (ps : List Product) (at after : Place) (k : ℕ) (row : Row) (h : IsAt ps at k) → row.rule ≡ (product_at ps at.entry).rule → row.source ≡ at.source → row.targets ≡ drop h.j (product_at ps at.entry).targets
+    → StandsAt ps after (members_before ps at.entry + (h.i + 1) * length (product_at ps at.entry).targets) → IsRowAt ps k row after
+row_from ps at after k row h rule source targets behind =
+    let all : List ℕ = (product_at ps at.entry).targets in
+    let within = slice_get_within all h.j at.target h.target in
+    let long : length row.targets ≡ length all - h.j = ap (λ (xs : List ℕ). length xs) targets ∙ length-drop h.j all in
+    let rows : (h.i + 1) * length all ≡ h.i * length all + length all = omega arith in
+    let there : members_before ps at.entry + (h.i + 1) * length all ≡ k + length row.targets = omega (arith, h.number, within, long, rows) in
+    record {
+      some = omega (arith, within, long);
+      each = λ i target is.
+          let here : slice_get all (h.j + i) ≡ Some target = sym (get_dropped all h.j i) ∙ ap (λ (xs : List ℕ). slice_get xs i) (sym targets) ∙ is in
+          let one : ℕ → ℕ → Option Single = λ r s. Some (record { rule = r; source = s; target = target }) in
+          member_is ps (record { entry = at.entry; source = at.source; target = target }) (k + i) (target_later ps at k i target h here) ∙ (λ x. one (sym rule x) (sym source x));
+      after = subst (StandsAt ps after) there behind;
+    }
+
+-- from the rule and the targets of an entry
+pub row_given : (entries : List Entry) (sets : List (List Node)) (ps : List Product) (at after : Place) (k : ℕ) (d : Entry) (targets row : List ℕ) → products_of entries sets ≡ ps → at.entry < length entries
+    → targets ≡ (product_at ps at.entry).targets → ((j : ℕ) → slice_get targets j ≡ Some at.target → row ≡ drop j targets)
+    → ((i : ℕ) → slice_get (product_at ps at.entry).sources i ≡ Some at.source → StandsAt ps after (members_before ps at.entry + (i + 1) * length (product_at ps at.entry).targets))
+    → StandsAt ps at k → IsRowAt ps k (record { rule = (get_or entries at.entry d).rule; source = at.source; targets = row }) after
+row_given entries sets ps at after k d targets row is lt same from behind h =
+    let here : IsAt ps at k = is_at ps at k (omega (arith, lt, end_at entries sets ps is)) h in
+    let rule : (product_at ps at.entry).rule ≡ (get_or entries at.entry d).rule =
+    ap (λ (qs : List Product). (product_at qs at.entry).rule) (sym is) ∙ ap (λ (p : Product). p.rule) (get_or-map (product_of sets) entries at.entry d none lt) in
+    let left : row ≡ drop here.j (product_at ps at.entry).targets = from here.j (ap (λ (xs : List ℕ). slice_get xs here.j) same ∙ here.target) ∙ ap (drop here.j) same in
+    row_from ps at after k (record { rule = (get_or entries at.entry d).rule; source = at.source; targets = row }) here (sym rule) refl left (behind here.i here.source)
+
+-- what an entry's place needs
+pub row_targets : (ps : List Product) (at : Place) → (k : ℕ) × IsAt ps at k → 0 < length (product_at ps at.entry).targets
+row_targets ps at (k, h) = let within = slice_get_within (product_at ps at.entry).targets h.j at.target h.target in omega (arith, within)

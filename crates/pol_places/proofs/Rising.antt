@@ -1,5 +1,5 @@
 -- Strictly rising lists, and the bits of a set by their index.
-use Rattle.std.proofs.Common.{◌≡◌, ℕ, zero, suc, ◌+◌, ◌-◌, ◌/◌, ◌%◌, ◌^◌, ◌<◌, ◌≤◌, List, [], ◌∷◌, length, take, get_or, refl, ap, subst, ◌∙◌, arith, Option, Some, None, slice_get, IfSome, IfNone, inl, inr}
+use Rattle.std.proofs.Common.{◌≡◌, ℕ, zero, suc, ◌+◌, ◌-◌, ◌/◌, ◌%◌, ◌^◌, ◌<◌, ◌≤◌, List, [], ◌∷◌, length, length-drop, take, drop, get_or, refl, ap, sym, subst, ◌∙◌, arith, Option, Some, None, slice_get, IfSome, IfNone, inl, inr}
 use Rattle.std.specs.Prelude.{slice_index}
 use Rattle.std.specs.Int.{trailing_zeros, w64}
 use Rattle.std.specs.List.{All, AllByRecursion, Contains}
@@ -161,3 +161,58 @@ nth_there ns bits after n is lt ran =
     let none = nth_is bits after n None ran ∙ ap (λ (xs : List ℕ). slice_get xs n) is in
     let some = slice_get-get_or (bits_of ns) n 0 lt in
     absurd cc
+
+-- ---- the bits from one of them on
+
+-- Two that go through the bits side by side have passed so many, and not yet one.
+pub record BothLeft (bits : List ℕ) (bit passed : ℕ) (left ahead : List ℕ) : Type 0 where
+  pub left_is : left ≡ drop passed bits
+  pub ahead_is : ahead ≡ drop passed bits
+  pub before : (i : ℕ) → slice_get bits i ≡ Some bit → passed ≤ i
+
+at_drop : (xs : List ℕ) (n x : ℕ) (rest : List ℕ) → drop n xs ≡ x ∷ rest → (slice_get xs n ≡ Some x) × (rest ≡ drop (n + 1) xs)
+at_drop [] zero x rest e = absurd cc
+at_drop [] (suc n) x rest e = absurd cc
+at_drop (y ∷ ys) zero x rest e = let same : y ≡ x = cc in let others : ys ≡ rest = cc in (ap (λ (z : ℕ). Some z) same, sym others)
+at_drop (y ∷ ys) (suc n) x rest e = let h = at_drop ys n x rest e in let next : suc n + 1 ≡ suc (n + 1) = omega arith in (h.0, rw next h.1)
+
+-- An index of a list that rises is that of no other element.
+one_index : (xs : List ℕ) → IsStrictlyIncreasing xs → (i j x : ℕ) → slice_get xs i ≡ Some x → slice_get xs j ≡ Some x → i ≤ j → i ≡ j
+one_index xs up i j x is_i is_j le =
+    let lt = slice_get_within xs j x is_j in
+    let high = rises xs up i j le lt in
+    let a = get_or_from_slice_get xs i x 0 is_i in
+    let b = get_or_from_slice_get xs j x 0 is_j in
+    omega (arith, high, a, b, le)
+
+-- where the bit is met, what is left is what comes from it on
+pub bit_met : (ns : List Node) → IsSet ns → (bit passed found : ℕ) (left ahead rest : List ℕ) → BothLeft (bits_of ns) bit passed left ahead → ahead ≡ found ∷ rest → found ≡ bit
+    → (i : ℕ) → slice_get (bits_of ns) i ≡ Some bit → left ≡ drop i (bits_of ns)
+bit_met ns set bit passed found left ahead rest both next same i is =
+    let here = at_drop (bits_of ns) passed found rest (sym both.ahead_is ∙ next) in
+    let at : slice_get (bits_of ns) passed ≡ Some bit = here.0 ∙ ap (λ (x : ℕ). Some x) same in
+    let e = one_index (bits_of ns) (bits_increasing 0 ns set.0) passed i bit at is (both.before i is) in
+    both.left_is ∙ ap (λ (n : ℕ). drop n (bits_of ns)) e
+
+-- where it is another bit, both go on
+pub bit_passed : (ns : List Node) (bit passed found : ℕ) (left ahead rest : List ℕ) (given : Option ℕ) (others : List ℕ) → BothLeft (bits_of ns) bit passed left ahead → ahead ≡ found ∷ rest → (found ≡ bit → ⊥)
+    → YieldsFirst (λ (bits : List ℕ). bits) left given others → BothLeft (bits_of ns) bit (passed + 1) others rest
+bit_passed ns bit passed found left ahead rest None others both next other given =
+    let no : [] ≡ found ∷ rest = sym given.0 ∙ both.left_is ∙ sym both.ahead_is ∙ next in
+    absurd cc
+bit_passed ns bit passed found left ahead rest (Some x) others both next other given =
+    let here = at_drop (bits_of ns) passed found rest (sym both.ahead_is ∙ next) in
+    record {
+      left_is = (at_drop (bits_of ns) passed x others (sym both.left_is ∙ given)).1;
+      ahead_is = here.1;
+      before = λ i is. later i (both.before i is) (λ (e : i ≡ passed). other (let two : Some found ≡ Some bit = sym here.0 ∙ ap (slice_get (bits_of ns)) (sym e) ∙ is in cc));
+    }
+  where
+    later : (i : ℕ) → passed ≤ i → (i ≡ passed → ⊥) → passed + 1 ≤ i
+    later i le ne = omega (arith, le, ne)
+
+-- none is left before it is met
+pub bit_not_there : (ns : List Node) (bit passed : ℕ) (left ahead : List ℕ) → BothLeft (bits_of ns) bit passed left ahead → ahead ≡ [] → (i : ℕ) → slice_get (bits_of ns) i ≡ Some bit → left ≡ drop i (bits_of ns)
+bit_not_there ns bit passed left ahead both none i is =
+    let long : length (drop passed (bits_of ns)) ≡ 0 = ap (λ (xs : List ℕ). length xs) (sym both.ahead_is ∙ none) in
+    absurd (omega (arith, both.before i is, slice_get_within (bits_of ns) i bit is, long, length-drop passed (bits_of ns)))

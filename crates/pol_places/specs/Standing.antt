@@ -2,6 +2,7 @@
 use Rattle.std.specs.Prelude.{◌≡◌, ◌⊎◌, ℕ, ◌+◌, ◌*◌, ◌<◌, Option, Some, None, List, [], ◌∷◌, length, take, slice_get}
 use Rattle.pol_places.specs.declared.entry.Place.{Place}
 use Rattle.pol_places.specs.declared.entry.Single.{Single}
+use Rattle.pol_places.specs.declared.row.Row.{Row}
 use Rattle.pol_places.specs.Members.{Product, product_at, members}
 
 -- how many members the products before one have
@@ -31,6 +32,23 @@ StandsAt ps place k = IsAt ps place k ⊎ IsEnd ps place k
 abbrev pub NextGives : List Product → ℕ → Option (Single × Place) → Type 0
 NextGives ps k None = k ≡ length (members ps)
 NextGives ps k (Some step) = (slice_get (members ps) k ≡ Some step.0) × StandsAt ps step.1 (k + 1)
+
+-- ---- rows
+
+-- a member of a row
+abbrev pub member_in : Row → ℕ → Single
+member_in row target = record { rule = row.rule; source = row.source; target = target }
+
+-- The members of a row, of which there are some, stand one after the other from a number on, and a place comes after them.
+pub record IsRowAt (ps : List Product) (k : ℕ) (row : Row) (behind : Place) : Type 0 where
+  pub some : 0 < length row.targets
+  pub each : (i target : ℕ) → slice_get row.targets i ≡ Some target → slice_get (members ps) (k + i) ≡ Some (member_in row target)
+  pub after : StandsAt ps behind (k + length row.targets)
+
+-- What is given from a place on that has k members before it: a row from there on, or `None` exactly where there are no more.
+abbrev pub RowGives : List Product → ℕ → Option (Row × Place) → Type 0
+RowGives ps k None = k ≡ length (members ps)
+RowGives ps k (Some step) = IsRowAt ps k step.0 step.1
 
 -- ---- step after step
 

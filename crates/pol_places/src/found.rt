@@ -1,9 +1,9 @@
 // Bits of a set by their index.
-ghost use Rattle.std.specs.Prelude.{◌≡◌, ℕ, ◌+◌, ◌<◌, Some, All, IfSome, IfNone, length, slice_get};
+ghost use Rattle.std.specs.Prelude.{◌≡◌, ℕ, ◌+◌, ◌<◌, Some, All, IfSome, IfNone, drop, length, slice_get};
 ghost use Rattle.pol_bitmap.specs.Nodes.{bits_of, IsLeastFrom};
 ghost use Rattle.pol_bitmap.specs.Sets.{IsSet};
 
-use pol_bitmap::{Node, Set};
+use pol_bitmap::{Node, Set, SetBits};
 
 /// The bit that comes after a bit of a set, or `None` after the last one.
 pub fn bit_after(set: &Set, bit: u32) -> Option<u32>
@@ -51,4 +51,19 @@ pub fn nth_bit(set: &Set, n: u64) -> u32
         unreachable!()
     };
     bit
+}
+
+/// The bits of a set from one of them on.
+pub fn bits_from(set: &Set, bit: u32) -> SetBits<'_>
+    requires { IsSet set.now }
+    ensures { (i : ℕ) → slice_get (bits_of set.now) i ≡ Some bit → result ≡ drop i (bits_of set.now) }
+{
+    let mut left = set.bits();
+    for found in set.bits() {
+        if found == bit {
+            return left;
+        }
+        let _ = left.next();
+    }
+    left
 }

@@ -11,13 +11,17 @@
 //!     at = after;
 //! }
 //! ```
+//!
+//! Where many are gone through, [`Places::row`] gives those of one source at a time ([`Row`]).
 #![tactic(auto)]
 
 mod entry;
 mod found;
 mod place_laws;
 mod places;
+mod row;
 
 pub use entry::{Entry, Place, Single};
 pub use place_laws::{members_are_single_rules, steps_give_all_members};
 pub use places::Places;
+pub use row::Row;

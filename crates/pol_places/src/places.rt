@@ -2,10 +2,11 @@ ghost use Rattle.std.specs.Prelude.{◌≡◌, ℕ, ◌+◌, ◌*◌, ◌^◌, �
 ghost use Rattle.pol_bitmap.specs.Nodes.{bits_of};
 ghost use Rattle.pol_bitmap.specs.Sets.{IsSet};
 ghost use Rattle.pol_places.specs.Members.{product_of, products_of, product_at, members_of, members, AreNumbers, HasNumbers, HasSets};
-ghost use Rattle.pol_places.specs.Standing.{members_before, IsAt, StandsAt, NextGives};
+ghost use Rattle.pol_places.specs.Standing.{members_before, IsAt, StandsAt, NextGives, RowGives};
 
 use crate::entry::{Entry, Place, Single};
-use crate::found::{bit_after, nth_bit};
+use crate::found::{bit_after, bits_from, nth_bit};
+use crate::row::Row;
 use pol_bitmap::{Pool, Set};
 use std::marker::Model;
 
@@ -74,6 +75,22 @@ impl<'a> Places<'a> {
         Some((single, self.after(at)))
     }
 
+    /// The members that are left of the source of a place, and the place after them. `None` at the end.
+    pub fn row(&self, at: Place) -> Option<(Row<'a>, Place)>
+        requires { (k : ℕ) × StandsAt self.now at k }
+        ensures { (k : ℕ) → StandsAt self.now at k → RowGives self.now k result }
+    {
+        if at.entry >= self.entries.len() {
+            return None;
+        }
+        let row = Row {
+            rule: self.entries[at.entry].rule,
+            source: at.source,
+            targets: bits_from(self.targets(at.entry), at.target),
+        };
+        Some((row, self.after_source(at.entry, at.source)))
+    }
+
     /// The place after the first `n` members, or the end where there are no more than these.
     ///
     /// Entries are passed by the counts of their two sets. Within an entry the bits of its two sets are gone through, and not its
@@ -92,7 +109,7 @@ impl<'a> Places<'a> {
     }
 
     // The sources of an entry.
-    fn sources(&self, entry: usize) -> &Set
+    fn sources(&self, entry: usize) -> &'a Set
         requires { entry < length self.now }
         ensures form { IsSet result.now }
         ensures bits { bits_of result.now ≡ (product_at self.now entry).sources }
@@ -101,7 +118,7 @@ impl<'a> Places<'a> {
     }
 
     // The targets of an entry.
-    fn targets(&self, entry: usize) -> &Set
+    fn targets(&self, entry: usize) -> &'a Set
         requires { entry < length self.now }
         ensures form { IsSet result.now }
         ensures bits { bits_of result.now ≡ (product_at self.now entry).targets }
