@@ -5,3 +5,4 @@ pub mod RuleFrames
 pub mod IoctlRuns
 pub mod ShownNames
 pub mod ClassPermissions
+pub mod TypeNames

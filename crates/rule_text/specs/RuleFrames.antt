@@ -16,6 +16,10 @@ head_text symbols kind source = keyword kind ++ codes " " ++ name_of (name_in sy
 unfoldable pub frame_head : RuleFrame → ℕ → List ℕ
 frame_head frame source = head_text frame.symbols.now frame.kind source
 
--- the line with this before its target, and with this target
-unfoldable pub frame_line : RuleFrame → List ℕ → ℕ → List ℕ
-frame_line frame head target = head ++ name_of (name_in frame.symbols.now) (target_table frame.kind) target ++ frame.rest.items
+-- a target by its name
+unfoldable pub frame_target : RuleFrame → ℕ → List ℕ
+frame_target frame target = name_of (name_in frame.symbols.now) (target_table frame.kind) target
+
+-- the line between two ends
+abbrev pub frame_line : RuleFrame → ℕ → ℕ → List ℕ
+frame_line frame source target = frame_head frame source ++ frame_target frame target ++ frame.rest.items

@@ -11,8 +11,10 @@ mod rule_parts;
 mod rule_texts;
 mod shown_names;
 mod single_rules;
+mod type_names;
 mod whole_rule;
 
 pub use rule_frame::RuleFrame;
 pub use rule_texts::RuleTexts;
 pub use single_rules::{push_rule, push_single};
+pub use type_names::TypeNames;

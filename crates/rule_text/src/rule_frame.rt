@@ -1,9 +1,11 @@
 //! The line of a rule with its ends left open.
 
 ghost use Rattle.std.specs.Prelude.{◌≡◌, ◌++◌, OnOk};
-ghost use Rattle.rule_text.specs.RuleFrames.{frame_head, frame_line};
+ghost use Rattle.rule_text.specs.RuleFrames.{frame_head, frame_target};
+ghost use Rattle.rule_text.specs.TypeNames.{AreNamesOf};
 
 use crate::rule_parts::{push_head, push_target};
+use crate::type_names::TypeNames;
 use pol_read::RuleKind;
 use pol_symbols::Symbols;
 use std::alloc::AllocError;
@@ -25,13 +27,27 @@ impl<'p, 'a> RuleFrame<'p, 'a> {
         push_head(head, self.symbols, self.kind, source)
     }
 
-    /// Adds the line of a target. What stands before it is handed in.
-    #[tactic(auto, unfolding(crate::specs::RuleFrames::frame_line))]
-    pub fn push(&self, head: &[u8], target: u32, buffer: &mut Vec<u8>) -> Result<(), AllocError>
-        ensures { OnOk result (buffer.new.items ≡ buffer.old.items ++ frame_line self.now head.now target) }
+    /// Adds a target by its name. The names of types are handed in.
+    #[tactic(auto, unfolding(crate::specs::RuleFrames::frame_target), using(crate::proofs::Frames::types_targets))]
+    pub fn push_target(
+        &self,
+        names: &TypeNames<'_>,
+        target: u32,
+        buffer: &mut Vec<u8>,
+    ) -> Result<(), AllocError>
+        requires { AreNamesOf self.now.symbols.now names.now }
+        ensures { OnOk result (buffer.new.items ≡ buffer.old.items ++ frame_target self.now target) }
     {
-        buffer.extend_from_slice(head)?;
-        push_target(buffer, self.symbols, self.kind, target)?;
-        buffer.extend_from_slice(&self.rest)
+        match self.kind {
+            RuleKind::RoleAllow => push_target(buffer, self.symbols, self.kind, target),
+            _ => names.push(self.symbols, target, buffer),
+        }
+    }
+
+    /// What stands behind a target, with the line feed.
+    pub fn rest(&self) -> &[u8]
+        ensures { result.now ≡ self.now.rest.items }
+    {
+        &self.rest
     }
 }

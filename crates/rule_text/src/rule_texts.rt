@@ -4,7 +4,7 @@ ghost use Rattle.std.specs.Prelude.{◌≡◌, ◌<◌, ◌++◌, ℕ, OnOk, IfO
 ghost use Rattle.pol_symbols.specs.PolicySymbols.{permissions_in_class};
 ghost use Rattle.pol_rules.specs.StoredRules.{stored_rules};
 ghost use Rattle.rule_text.specs.ClassPermissions.{ShowsPart};
-ghost use Rattle.rule_text.specs.RuleFrames.{frame_head, frame_line};
+ghost use Rattle.rule_text.specs.RuleFrames.{frame_line};
 ghost use Rattle.rule_text.specs.RuleTexts.{text_of_rule, single_text};
 
 use crate::permission_table::PermissionTable;
@@ -85,7 +85,8 @@ impl<'p, 'a> RuleTexts<'p, 'a> {
     /// The line of the stored rule of that number with its ends left open.
     pub fn frame(&self, alloc: Global, n: u32) -> Result<RuleFrame<'p, 'a>, AllocError>
         requires { n < length (stored_rules self.now) }
-        ensures { IfOk result (λ frame. (source target : ℕ) → frame_line frame (frame_head frame source) target ≡ single_text self.now n source target ++ codes "\n") }
+        ensures line { IfOk result (λ frame. (source target : ℕ) → frame_line frame source target ≡ single_text self.now n source target ++ codes "\n") }
+        ensures symbols { IfOk result (λ frame. frame.symbols.now ≡ self.now.symbols) }
     {
         let rule = self.policy.rule(n);
         let permissions = self.permissions_shown(&rule);

@@ -2,6 +2,9 @@ pub mod WordsRise
 pub mod Refused
 pub mod Tried
 pub mod FoundRules
+pub mod RowTexts
+pub mod SingleRows
+pub mod SingleTexts
 pub mod SingleItems
 pub mod Resumed
 pub mod Asked

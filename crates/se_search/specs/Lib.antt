@@ -1,4 +1,5 @@
 pub mod SearchAnswer
 pub mod SearchPatterns
 pub mod RuleLines
+pub mod RowLines
 pub mod SingleLines

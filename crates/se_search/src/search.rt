@@ -12,11 +12,12 @@ ghost use Rattle.se_search.specs.SearchPatterns.{IsOfSearch, TriesPatterns, patt
 
 use crate::rule_lines::RuleLines;
 use crate::single_lines::SingleLines;
+use crate::single_writing::write_lines;
 use pol_expand::type_map;
 use pol_read::Policy;
 use rule_query::{Query, QueryError, resolve};
 use rule_singles::SingleRules;
-use rule_text::RuleTexts;
+use rule_text::{RuleTexts, TypeNames};
 use se_items::{WriteEnd, listed, write_page};
 use se_outside::{Patterns, Sink};
 use se_status::{Status, status_written};
@@ -133,8 +134,11 @@ fn write_singles<S: Sink>(
     let Ok(texts) = RuleTexts::new(alloc, policy) else {
         return Err(WriteEnd::Memory);
     };
-    let mut lines = SingleLines::new(&texts, rules.places(), asks.from);
-    write_page(alloc, &mut lines, 0, asks.limit, out)
+    let Ok(names) = TypeNames::new(alloc, policy.symbols()) else {
+        return Err(WriteEnd::Memory);
+    };
+    let mut lines = SingleLines::new(&texts, &names, rules.places(), asks.from, asks.limit);
+    write_lines(alloc, &mut lines, out)
 }
 
 // The rules that meet a query, in the order in which rules are listed, each with the types that are listed of its ends.

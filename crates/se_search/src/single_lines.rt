@@ -1,217 +1,124 @@
-// The lines of rules between single types, as items that are written one after the other.
-ghost use Rattle.std.specs.Prelude.{◌≡◌, ℕ, ◌<◌, ◌++◌, OnOk, IfOk, IfSome, IsSome, IsTrue, length, min};
+// The lines of rules between single types, some of a row at a time.
+ghost use Rattle.std.specs.Prelude.{◌≡◌, ◌<◌, ◌≤◌, IfOk, length, map, min};
 ghost use Rattle.pol_places.specs.Members.{members};
-ghost use Rattle.pol_rules.specs.StoredRules.{stored_rules};
-ghost use Rattle.se_items.specs.Paging.{most_items};
+ghost use Rattle.pol_places.specs.Standing.{StandsAt};
+ghost use Rattle.rule_text.specs.TypeNames.{AreNamesOf};
+ghost use Rattle.se_items.specs.Paging.{most_items, page};
+ghost use Rattle.se_search.specs.RowLines.{IsFrameOf, IsLast};
 ghost use Rattle.se_search.specs.SearchAnswer.{single_line};
-ghost use Rattle.pol_file.specs.declared.Parts.{Parts};
-ghost use Rattle.se_search.specs.SingleLines.{AreOfRules, IsFrame, IsFrameFor, IsFrameOf, IsHeadOf};
+ghost use Rattle.se_search.specs.SingleLines.{AreOfRules, BeginsRow, CanBegin, IsRow, StandsIn, Steps, end_of, lines_left};
 
-use pol_places::{Place, Places, Single};
-use rule_text::{RuleFrame, RuleTexts};
-use se_items::Items;
+use crate::row_lines::{RowLines, SourceFrame, frame_between, push_targets};
+use pol_places::{Place, Places, Row};
+use rule_text::{RuleTexts, TypeNames};
 use std::alloc::{AllocError, Global};
-use std::marker::Model;
 
 // The most items of a listing.
 const MOST_ITEMS: u64 = 999_999_999_999_999_999;
 
-/// The lines of the members of places, up to the end of a listing. Contracts see those that are left.
+// The most lines that are added at a time.
+const MOST_LINES: u64 = 64;
+
+/// The lines of the members of places, from one of them up to another.
 #[derive(Drop)]
 pub struct SingleLines<'s, 'p, 'a> {
     texts: &'s RuleTexts<'p, 'a>,
+    names: &'s TypeNames<'a>,
     places: Places<'s>,
-    at: Place,
-    // so many members are before the place
+    // so many members are before the next line, and before the end
     passed: u64,
-    frame: Option<LastFrame<'p, 'a>>,
-}
-
-/// The line of the rule that was written last, with its ends left open, and what stood before its target.
-#[derive(Drop)]
-pub struct LastFrame<'p, 'a> {
-    pub rule: u32,
-    pub frame: RuleFrame<'p, 'a>,
-    pub source: u32,
-    pub head: Vec<u8>,
-}
-
-impl<'s, 'p, 'a> Model for SingleLines<'s, 'p, 'a> {
-    ghost use Rattle.std.specs.Prelude.{List, ℕ};
-    ghost use Rattle.se_search.specs.SingleLines.{StandsIn, lines_after};
-
-    ghost Value = { List (List ℕ) };
-
-    ghost view = { λ lines. lines_after lines.texts.now lines.places lines.passed };
-
-    ghost invariant = { λ lines. StandsIn lines.texts.now lines.places lines.at lines.passed lines.frame };
+    end: u64,
+    // the row of the next line, or that of the last one, and the place behind it
+    row: Option<RowLines<'s, 'p, 'a>>,
+    after: Place,
 }
 
 impl<'s, 'p, 'a> SingleLines<'s, 'p, 'a> {
-    ghost use Rattle.se_search.specs.SingleLines.{lines_after};
-
-    /// Those of the members of places, but for so many at the front. These are passed over entry by entry.
+    /// Those of the members of places, but for so many at the front, and at most so many. Those at the front are passed over entry by
+    /// entry.
     pub fn new(
         texts: &'s RuleTexts<'p, 'a>,
+        names: &'s TypeNames<'a>,
         places: Places<'s>,
         from: u64,
+        limit: Option<u64>,
     ) -> SingleLines<'s, 'p, 'a>
-        requires { AreOfRules texts.now places }
-        ensures { result ≡ lines_after texts.now places.entry from }
+        requires rules { AreOfRules texts.now places }
+        requires names { AreNamesOf texts.now.symbols names.now }
+        ensures stands { StandsIn result }
+        ensures lines { lines_left result ≡ page from limit (map (single_line texts.now) (members places.entry)) }
     {
-        let passed = passed_of(&places, from);
-        let at = places.skip(passed);
+        let all = count_listed(&places);
+        let passed = from.min(all);
+        let after = places.skip(passed);
         SingleLines {
             texts,
+            names,
             places,
-            at,
             passed,
-            frame: None,
+            end: end_of(all, passed, limit),
+            row: None,
+            after,
         }
     }
-}
 
-impl Items for SingleLines<'_, '_, '_> {
-    ghost left = { λ lines. lines };
-
-    fn pass(&mut self) -> bool {
-        if self.passed >= MOST_ITEMS {
-            return false;
-        }
-        let Some((_single, after)) = self.places.next(self.at) else {
-            return false;
-        };
-        self.at = after;
-        self.passed += 1;
-        true
-    }
-
-    fn push_next(&mut self, buffer: &mut Vec<u8>) -> Result<bool, AllocError> {
-        if self.passed >= MOST_ITEMS {
+    /// Adds some of the lines that are left, or begins a row. Answers whether there was one.
+    pub fn push_some(&mut self, buffer: &mut Vec<u8>) -> Result<bool, AllocError>
+        requires { StandsIn self.old }
+        ensures { IfOk result (Steps self.old self.new buffer.old.items buffer.new.items) }
+    {
+        if self.passed >= self.end {
             return Ok(false);
         }
-        let Some((single, after)) = self.places.next(self.at) else {
-            return Ok(false);
+        let Some(lines) = self.row.take() else {
+            self.begin_row(*buffer.allocator(), None)?;
+            return Ok(true);
         };
-        push_line(self.texts, &mut self.frame, single, buffer)?;
-        self.at = after;
-        self.passed += 1;
+        let RowLines { mut row, frame } = lines;
+        let most = MOST_LINES.min(self.end - self.passed);
+        let count = push_targets(&frame, self.names, &mut row.targets, most, buffer)?;
+        if count == 0 {
+            self.begin_row(*buffer.allocator(), Some(frame))?;
+            return Ok(true);
+        }
+        self.passed += count;
+        self.row = Some(RowLines { row, frame });
         Ok(true)
     }
-}
 
-// How many of so many members at the front are there, within a listing.
-fn passed_of(places: &Places<'_>, from: u64) -> u64
-    ensures { result ≡ min (min from most_items) (length (members places.now)) }
-{
-    let wanted = u128::from(from.min(MOST_ITEMS));
-    wanted.min(places.count()) as u64
-}
-
-// Adds the line of a single rule. The frame is that of the last one, and becomes that of this one.
-fn push_line<'p, 'a>(
-    texts: &RuleTexts<'p, 'a>,
-    frame: &mut Option<LastFrame<'p, 'a>>,
-    single: Single,
-    buffer: &mut Vec<u8>,
-) -> Result<(), AllocError>
-    requires rule { single.rule < length (stored_rules texts.now) }
-    requires frame { IsFrame texts.now frame.old }
-    ensures frame { IsFrame texts.now frame.new }
-    ensures line { OnOk result (buffer.new.items ≡ buffer.old.items ++ single_line texts.now single) }
-{
-    keep_frame(*buffer.allocator(), texts, frame, single)?;
-    push_framed(frame, single, buffer)
-}
-
-// Makes a frame that of a rule and its source, where it is that of others.
-fn keep_frame<'p, 'a>(
-    alloc: Global,
-    texts: &RuleTexts<'p, 'a>,
-    frame: &mut Option<LastFrame<'p, 'a>>,
-    single: Single,
-) -> Result<(), AllocError>
-    requires rule { single.rule < length (stored_rules texts.now) }
-    requires frame { IsFrame texts.now frame.old }
-    ensures frame { IsFrame texts.now frame.new }
-    ensures kept { OnOk result (IsFrameFor texts.now single frame.new) }
-{
-    if is_of(frame, single) {
-        return Ok(());
-    }
-    let of_rule = frame_of(alloc, texts, frame.take(), single.rule)?;
-    *frame = Some(with_source(of_rule, single.source)?);
-    Ok(())
-}
-
-// Whether a frame is that of a rule and its source.
-fn is_of(frame: &Option<LastFrame<'_, '_>>, single: Single) -> bool
-    ensures { IsTrue result → IfSome frame.now (λ last. (last.rule ≡ single.rule) × (last.source ≡ single.source)) × IsSome frame.now }
-{
-    match frame {
-        Some(last) => last.rule == single.rule && last.source == single.source,
-        None => false,
+    // Begins the row of the place behind the last one, whose frame is handed in.
+    fn begin_row(
+        &mut self,
+        alloc: Global,
+        last: Option<SourceFrame<'p, 'a>>,
+    ) -> Result<(), AllocError>
+        requires can { CanBegin self.old }
+        requires last { IsLast self.old.texts.now last }
+        ensures { IfOk result (λ _. BeginsRow self.old self.new) }
+    {
+        let Some((row, after)) = self.places.row(self.after) else {
+            unreachable!()
+        };
+        let frame = frame_between(alloc, self.texts, last, row.rule, row.source)?;
+        self.row = Some(RowLines { row, frame });
+        self.after = after;
+        Ok(())
     }
 }
 
-// The frame of a rule, with any source: the last one, where it is that of the rule.
-fn frame_of<'p, 'a>(
-    alloc: Global,
-    texts: &RuleTexts<'p, 'a>,
-    last: Option<LastFrame<'p, 'a>>,
-    rule: u32,
-) -> Result<LastFrame<'p, 'a>, AllocError>
-    requires rule { rule < length (stored_rules texts.now) }
-    requires last { IsFrame texts.now last }
-    ensures { IfOk result (IsFrameOf texts.now rule) }
+// How many members are there, within a listing.
+fn count_listed(places: &Places<'_>) -> u64
+    ensures { result ≡ min most_items (length (members places.now)) }
 {
-    if let Some(last) = last {
-        if last.rule == rule {
-            return Ok(last);
-        }
-    }
-    Ok(LastFrame {
-        rule,
-        frame: texts.frame(alloc, rule)?,
-        source: 0,
-        head: Vec::new(alloc),
-    })
+    u128::from(MOST_ITEMS).min(places.count()) as u64
 }
 
-// The frame of the same rule with a source.
-fn with_source<'p, 'a>(
-    of_rule: LastFrame<'p, 'a>,
-    source: u32,
-) -> Result<LastFrame<'p, 'a>, AllocError>
-    ensures rule { (policy : Parts) (rule : ℕ) → IsFrameOf policy rule of_rule.entry → IfOk result (IsFrameOf policy rule) }
-    ensures head { IfOk result (IsHeadOf source) }
+// How many members are before the end, of all, where so many are passed over and at most so many are asked for.
+fn end_of(all: u64, passed: u64, limit: Option<u64>) -> u64
+    ensures { result ≡ end_of all passed limit }
 {
-    let LastFrame {
-        rule,
-        frame,
-        source: _,
-        mut head,
-    } = of_rule;
-    head.clear();
-    frame.push_head(source, &mut head)?;
-    Ok(LastFrame {
-        rule,
-        frame,
-        source,
-        head,
-    })
-}
-
-// Adds the line of a single rule in its frame.
-fn push_framed(
-    frame: &Option<LastFrame<'_, '_>>,
-    single: Single,
-    buffer: &mut Vec<u8>,
-) -> Result<(), AllocError>
-    ensures { (policy : Parts) → IsFrameFor policy single frame.now → OnOk result (buffer.new.items ≡ buffer.old.items ++ single_line policy single) }
-{
-    match frame {
-        Some(last) => last.frame.push(&last.head, single.target, buffer),
-        None => Ok(()),
+    match limit {
+        Some(count) => passed.saturating_add(count).min(all),
+        None => all,
     }
 }

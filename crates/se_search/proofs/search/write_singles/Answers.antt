@@ -1,17 +1,20 @@
-use Rattle.std.proofs.Common.{◌≡◌, ◌∙◌, ℕ, List, ap, arith, length, map, refl, subst, sym}
+use Rattle.std.proofs.Common.{◌≡◌, ◌∙◌, ℕ, List, ap, map, refl, subst, sym}
 use Rattle.pol_file.specs.declared.Parts.{Parts}
-use Rattle.pol_places.specs.Members.{Product}
+use Rattle.pol_places.specs.Members.{Product, members}
+use Rattle.pol_symbols.specs.declared.Symbols.{Symbols}
 use Rattle.rule_singles.specs.Singles.{ends_of_rule}
+use Rattle.rule_text.specs.TypeNames.{AreNamesOf}
+use Rattle.se_items.specs.Paging.{page}
 use Rattle.se_items.specs.Writing.{Sends}
 use Rattle.se_words.specs.SearchRequest.{search_view}
-use Rattle.se_search.specs.SearchAnswer.{found_rules}
-use Rattle.se_search.specs.SingleLines.{AreOfRules, lines_after}
+use Rattle.se_search.specs.SearchAnswer.{found_rules, single_line}
+use Rattle.se_search.specs.SingleLines.{AreOfRules, lines_left}
 use Rattle.se_search.proofs.FoundRules.{found-are-rules}
-use Rattle.se_search.proofs.SingleItems.{few_lines_left, listed_are_of_rules, singles-found}
+use Rattle.se_search.proofs.SingleItems.{listed_are_of_rules, singles-found}
 use Rattle.se_search.proofs.search.write_singles.Goals as goal
 
-pub new-lines-requires : goal.new-lines-requires
-new-lines-requires g c =
+pub new-lines-requires-clause-rules : goal.new-lines-requires-clause-rules
+new-lines-requires-clause-rules g c =
     let policy = c.args.policy.now in
     let criteria = c.args.asks.now.criteria in
     let numbers = found_rules (search_view c.args.asks.now) policy in
@@ -19,18 +22,18 @@ new-lines-requires g c =
     let Q : List Product → Type 0 = λ products. AreOfRules policy products in
     subst P (sym c.in-Ok-new.ensures) (subst Q (sym (c.places.ensures ∙ c.in-Ok.ensures)) (listed_are_of_rules policy criteria numbers (found-are-rules policy criteria numbers refl)))
 
-pub write_page-requires : goal.write_page-requires
-write_page-requires g c =
-    let few = few_lines_left c.in-Ok-new.texts c.places.result c.args.asks.now.from in
-    let same = ap length c.new-lines.ensures in
-    omega (arith, few, same)
+pub new-lines-requires-clause-names : goal.new-lines-requires-clause-names
+new-lines-requires-clause-names g c =
+    let P : Symbols → Type 0 = λ symbols. AreNamesOf symbols c.in-Ok-new-2.names in
+    subst P (c.symbols.ensures ∙ ap (λ (policy : Parts). policy.symbols) (sym c.in-Ok-new.ensures)) c.in-Ok-new-2.ensures
 
 pub returns : goal.returns
 returns g c =
     let policy = c.args.policy.now in
     let asks = search_view c.args.asks.now in
-    let is : c.new-lines.result ≡ lines_after policy c.places.result asks.from = c.new-lines.ensures ∙ ap (λ (policy : Parts). lines_after policy c.places.result asks.from) c.in-Ok-new.ensures in
+    let is : lines_left c.new-lines.result ≡ page asks.from asks.limit (map (single_line policy) (members c.places.result)) =
+    c.new-lines.ensures.lines ∙ ap (λ (policy : Parts). page asks.from asks.limit (map (single_line policy) (members c.places.result))) c.in-Ok-new.ensures in
     let are : c.places.result ≡ map (ends_of_rule policy asks.criteria) (found_rules asks policy) = c.places.ensures ∙ c.in-Ok.ensures in
     let P : List ℕ → Type 0 =
-    λ text. Sends (g.S.Sink.written c.args.out.now) (g.S.Sink.written c.write_page.new.out) (g.S.Sink.faults c.args.out.now) (g.S.Sink.faults c.write_page.new.out) text c.write_page.result in
-    subst P (singles-found asks policy c.new-lines.result c.places.result (found_rules asks policy) is are refl) c.write_page.ensures
+    λ text. Sends (g.S.Sink.written c.args.out.now) (g.S.Sink.written c.write_lines.new.out) (g.S.Sink.faults c.args.out.now) (g.S.Sink.faults c.write_lines.new.out) text c.write_lines.result in
+    subst P (singles-found asks policy (lines_left c.new-lines.result) c.places.result (found_rules asks policy) is are refl) c.write_lines.ensures

@@ -5,14 +5,14 @@ use Rattle.pol_symbols.specs.PolicySymbols.{name_in}
 use Rattle.pol_file.specs.declared.Parts.{Parts}
 use Rattle.pol_rules.specs.RuleOrder.{target_table}
 use Rattle.pol_rules.specs.StoredRules.{stored}
-use Rattle.rule_text.specs.RuleFrames.{frame_head, frame_line, head_text}
+use Rattle.rule_text.specs.RuleFrames.{frame_head, frame_target, head_text}
 use Rattle.rule_text.specs.RuleTexts.{single_text}
 use Rattle.rule_text.proofs.Frames.{framed}
 use Rattle.rule_text.proofs.rule_texts.RuleTexts.frame.Goals as goal
 
-pub returns : goal.returns
-unfolding frame_head frame_line
-returns c = λ source target.
+pub returns-clause-line : goal.returns-clause-line
+unfolding frame_head frame_target
+returns-clause-line c = λ source target.
     let rule = stored c.rule-rule.result in
     let symbols = c.symbols.result.now in
     subst (λ (policy : Parts). head_text symbols rule.kind source ++ name_of (name_in symbols) (target_table rule.kind) target ++ c.push.new.self.items ≡ single_text policy c.args.n source target ++ codes "\n") c.self.view_is
