@@ -7,9 +7,6 @@ use Rattle.pol_symbols.specs.declared.Symbols.{Symbols}
 use Rattle.pol_file.specs.declared.Parts.{Parts}
 use Rattle.pol_rules.specs.RuleOrder.{source_table, target_table}
 use Rattle.pol_rules.specs.StoredRules.{StoredRule, stored_rules}
-use Rattle.pol_cursor.specs.declared.TableKind.TheVariants.{Types}
-use Rattle.pol_rules.specs.declared.rule.RuleKind.{RuleKind}
-use Rattle.pol_rules.specs.declared.rule.RuleKind.TheVariants.{Allow, Auditallow, Dontaudit, AllowXperm, AuditallowXperm, DontauditXperm, TypeTransition, TypeChange, TypeMember, RoleAllow, RoleTransition, RangeTransition}
 use Rattle.rule_text.specs.RuleFrames.{head_text}
 use Rattle.rule_text.specs.RuleTexts.{keyword, ends_text, rest_text, rule_text, single_text}
 
@@ -28,18 +25,3 @@ unfolding head_text ends_text
 framed policy n rule symbols empty rest line source target is same none e end =
     rw (← text_is policy n rule source target is, end, e, none, same) (joined (keyword rule.kind) (codes " ") (name_of (name_in policy.symbols) (source_table rule.kind) source)
     (name_of (name_in policy.symbols) (target_table rule.kind) target) (rest_text policy rule) (codes "\n"))
-
--- the targets of all rules but role allows are types
-pub types_targets : (kind : RuleKind) → (kind ≡ RoleAllow → ⊥) → target_table kind ≡ Types
-types_targets Allow no = refl
-types_targets Auditallow no = refl
-types_targets Dontaudit no = refl
-types_targets AllowXperm no = refl
-types_targets AuditallowXperm no = refl
-types_targets DontauditXperm no = refl
-types_targets TypeTransition no = refl
-types_targets TypeChange no = refl
-types_targets TypeMember no = refl
-types_targets RoleAllow no = absurd (no refl)
-types_targets RoleTransition no = refl
-types_targets RangeTransition no = refl

@@ -5,4 +5,3 @@ pub mod PermissionLists
 pub mod ClassLists
 pub mod ConditionTrees
 pub mod Frames
-pub mod NamesHeld

@@ -28,7 +28,7 @@ impl<'p, 'a> RuleFrame<'p, 'a> {
     }
 
     /// Adds a target by its name. The names of types are handed in.
-    #[tactic(auto, unfolding(crate::specs::RuleFrames::frame_target), using(crate::proofs::Frames::types_targets))]
+    #[tactic(auto, unfolding(crate::specs::RuleFrames::frame_target))]
     pub fn push_target(
         &self,
         names: &TypeNames<'_>,

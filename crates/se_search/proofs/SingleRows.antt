@@ -164,8 +164,8 @@ row_pushed policy ps passed end most count behind lines targets had has row room
     let dropped : length targets ≡ length old - count = ap (λ (xs : List ℕ). length xs) pushed.left ∙ length-drop count old in
     let behind_is : passed + length old ≡ passed + count + length targets = omega (arith, few, dropped) in
     let first = texts_first line_of (take count old) (map (single_line policy) (members ps)) passed end
-        (λ i target is. get_mapped (single_line policy) (members ps) (passed + i) (member_in lines.row target) (row.each i target (get_taken old count i target is)) ∙ ap (λ (text : List ℕ). Some text) (row_line policy lines target row.frame row.head))
-        (omega (arith, taken, fits)) in
+    (λ i target is. get_mapped (single_line policy) (members ps) (passed + i) (member_in lines.row target) (row.each i target (get_taken old count i target is)) ∙ ap (λ (text : List ℕ). Some text) (row_line policy lines target row.frame row.head))
+    (omega (arith, taken, fits)) in
     record {
       row = record {
         frame = row.frame;

@@ -113,7 +113,14 @@ pub fn push_targets(
     };
     buffer.extend_from_slice(&frame.head)?;
     frame.frame.push_target(names, first, buffer)?;
-    let others = push_others(&frame.frame, names, &frame.between, targets, most - 1, buffer)?;
+    let others = push_others(
+        &frame.frame,
+        names,
+        &frame.between,
+        targets,
+        most - 1,
+        buffer,
+    )?;
     buffer.extend_from_slice(frame.frame.rest())?;
     Ok(others + 1)
 }

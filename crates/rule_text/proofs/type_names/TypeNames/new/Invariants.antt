@@ -1,10 +1,10 @@
-use Rattle.std.proofs.Common.{◌≡◌, length}
+use Rattle.std.proofs.Common.{◌≡◌, ℕ, length, slice_get}
+use Rattle.std.specs.Prelude.{IfSome}
 use Rattle.pol_cursor.specs.declared.TableKind.TheVariants.{Types}
 use Rattle.pol_mls.specs.MlsTexts.{name_of}
 use Rattle.pol_symbols.specs.PolicySymbols.{name_in}
-use Rattle.rule_text.proofs.NamesHeld.{Each}
 use Rattle.rule_text.proofs.type_names.TypeNames.new.Given as goal
 
 -- the names so far are those of their values
 abbrev pub invariant-loop-value : goal.invariant-loop-value
-invariant-loop-value l = (length l.names.items ≡ l.value) × Each (λ value name. name.now ≡ name_of (name_in l.symbols) Types value) l.names.items
+invariant-loop-value l = (length l.names.items ≡ l.value) × ((value : ℕ) → IfSome (slice_get l.names.items value) (λ name. name.now ≡ name_of (name_in l.symbols) Types value))

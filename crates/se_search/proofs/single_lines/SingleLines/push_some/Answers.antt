@@ -8,7 +8,7 @@ returns c =
     let is : lines.row ≡ Some c.in-Some.lines = sym c.take.ensures.value ∙ c.in-Some.is in
     let at = at_some lines.texts.now lines.places lines.passed lines.after lines.row c.in-Some.lines c.requires.at_row is in
     let pushed = row_pushed lines.texts.now lines.places lines.passed lines.end c.min-most.result c.in_ok-count.count lines.after c.in-Some.lines c.push_targets.new.targets c.args.buffer.now.items c.push_targets.new.buffer.items
-        at.0 (omega (arith, c.min-most.ensures, c.if-self.false)) c.in_ok-count.ensures in
+    at.0 (omega (arith, c.min-most.ensures, c.if-self.false)) c.in_ok-count.ensures in
     record {
       stands = record { are_rules = c.requires.are_rules; names = c.requires.names; within = pushed.within; fits = c.requires.fits; at_row = pushed.row };
       text = pushed.text;
