@@ -5,3 +5,4 @@ pub mod PermissionLists
 pub mod ClassLists
 pub mod ConditionTrees
 pub mod Frames
+pub mod KeptSlots

@@ -6,3 +6,4 @@ pub mod IoctlRuns
 pub mod ShownNames
 pub mod ClassPermissions
 pub mod TypeNames
+pub mod KeptTexts

@@ -5,6 +5,9 @@ mod class_permissions;
 mod condition_texts;
 mod ioctl_run;
 mod ioctl_texts;
+mod kept_head;
+mod kept_texts;
+mod listed_texts;
 mod permission_table;
 mod rule_frame;
 mod rule_parts;
@@ -14,6 +17,7 @@ mod single_rules;
 mod type_names;
 mod whole_rule;
 
+pub use listed_texts::ListedTexts;
 pub use rule_frame::RuleFrame;
 pub use rule_texts::RuleTexts;
 pub use single_rules::{push_rule, push_single};

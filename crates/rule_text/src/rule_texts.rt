@@ -4,12 +4,13 @@ ghost use Rattle.std.specs.Prelude.{◌≡◌, ◌<◌, ◌++◌, ℕ, OnOk, IfO
 ghost use Rattle.pol_symbols.specs.PolicySymbols.{permissions_in_class};
 ghost use Rattle.pol_rules.specs.StoredRules.{stored_rules};
 ghost use Rattle.rule_text.specs.ClassPermissions.{ShowsPart};
+ghost use Rattle.rule_text.specs.KeptTexts.{given_text};
 ghost use Rattle.rule_text.specs.RuleFrames.{frame_line};
 ghost use Rattle.rule_text.specs.RuleTexts.{text_of_rule, single_text};
 
 use crate::permission_table::PermissionTable;
 use crate::rule_frame::RuleFrame;
-use crate::whole_rule::{push_between, push_rest};
+use crate::whole_rule::{push_between, push_given, push_rest};
 use pol_commons::PermissionView;
 use pol_read::{Policy, Rule, RulePart};
 use std::alloc::{AllocError, Global};
@@ -98,6 +99,25 @@ impl<'p, 'a> RuleTexts<'p, 'a> {
             kind: rule.kind,
             rest,
         })
+    }
+
+    /// The policy.
+    pub(crate) fn policy(&self) -> &'p Policy<'a>
+        ensures { result.now ≡ self.now }
+    {
+        self.policy
+    }
+
+    /// Adds the class of a rule and what the rule gives.
+    pub(crate) fn push_given(&self, buffer: &mut Vec<u8>, rule: &Rule<'a>) -> Result<(), AllocError>
+        ensures { OnOk result (buffer.new.items ≡ buffer.old.items ++ given_text self.now.symbols rule.now.kind rule.now.class rule.now.part) }
+    {
+        push_given(
+            buffer,
+            self.policy.symbols(),
+            rule,
+            self.permissions_shown(rule),
+        )
     }
 
     // The permissions of a rule's class by name, where it gives permissions.

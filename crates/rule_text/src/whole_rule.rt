@@ -5,6 +5,7 @@ ghost use Rattle.pol_symbols.specs.PolicySymbols.{permissions_in_class};
 ghost use Rattle.pol_rules.specs.StoredRules.{stored};
 ghost use Rattle.pol_rules.specs.DeclaredRules.{StandsUnder};
 ghost use Rattle.rule_text.specs.ClassPermissions.{ShowsPart};
+ghost use Rattle.rule_text.specs.KeptTexts.{end_text, given_text};
 ghost use Rattle.rule_text.specs.RuleTexts.{between, ends_text, keyword, rest_text, rule_text};
 
 use crate::condition_texts::push_condition;
@@ -49,7 +50,7 @@ fn push_ends(
 }
 
 /// Adds what stands behind the ends of a rule.
-#[tactic(auto, unfolding(crate::specs::RuleTexts::rest_text))]
+#[tactic(auto, unfolding(crate::specs::RuleTexts::rest_text, crate::specs::KeptTexts::given_text))]
 pub(crate) fn push_rest(
     buffer: &mut Vec<u8>,
     policy: &Policy<'_>,
@@ -60,9 +61,34 @@ pub(crate) fn push_rest(
     requires under { StandsUnder policy.now.rules.conditionals rule.now.condition }
     ensures { OnOk result (buffer.new.items ≡ buffer.old.items ++ rest_text policy.now (stored rule.now)) }
 {
-    let symbols = policy.symbols();
+    push_given(buffer, policy.symbols(), rule, permissions)?;
+    push_end(buffer, policy, rule)
+}
+
+/// Adds the class of a rule and what the rule gives.
+#[tactic(auto, unfolding(crate::specs::KeptTexts::given_text))]
+pub(crate) fn push_given(
+    buffer: &mut Vec<u8>,
+    symbols: &Symbols<'_>,
+    rule: &Rule<'_>,
+    permissions: &[PermissionView<'_>],
+) -> Result<(), AllocError>
+    requires { ShowsPart (permissions_in_class symbols.now rule.now.class) rule.now.part permissions.now }
+    ensures { OnOk result (buffer.new.items ≡ buffer.old.items ++ given_text symbols.now rule.now.kind rule.now.class rule.now.part) }
+{
     push_class(buffer, symbols, rule.kind, rule.class)?;
-    push_part(buffer, symbols, rule, permissions)?;
+    push_part(buffer, symbols, rule, permissions)
+}
+
+/// Adds what stands behind that: the name of the new object, the end and the condition.
+pub(crate) fn push_end(
+    buffer: &mut Vec<u8>,
+    policy: &Policy<'_>,
+    rule: &Rule<'_>,
+) -> Result<(), AllocError>
+    requires { StandsUnder policy.now.rules.conditionals rule.now.condition }
+    ensures { OnOk result (buffer.new.items ≡ buffer.old.items ++ end_text policy.now (stored rule.now)) }
+{
     push_file_name(buffer, rule.name)?;
     buffer.push(b';')?;
     push_condition(buffer, policy, rule.condition)

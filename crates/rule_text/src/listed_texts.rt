@@ -1,0 +1,99 @@
+//! The texts of whole rules in the order in which rules are listed.
+
+ghost use Rattle.std.specs.Prelude.{◌≡◌, ◌<◌, ◌++◌, OnOk, IfOk, length};
+ghost use Rattle.pol_rules.specs.StoredRules.{stored, stored_rules};
+ghost use Rattle.pol_rules.specs.DeclaredRules.{StandsUnder};
+ghost use Rattle.rule_text.specs.KeptTexts.{AreKept, given_text};
+ghost use Rattle.rule_text.specs.RuleTexts.{rest_text, text_of_rule};
+
+use crate::kept_head::KeptHead;
+use crate::kept_texts::{KeptText, empty_slots, push_kept};
+use crate::rule_parts::push_target;
+use crate::rule_texts::RuleTexts;
+use crate::whole_rule::push_end;
+use pol_read::{Policy, Rule, RulePart};
+use std::alloc::{AllocError, Global};
+use std::marker::Model;
+
+/// The texts of whole rules of a policy, where many are written one after the other: what stands before the targets of a source is
+/// made once where its rules come together, and so is most of what stands behind the ends of rules that give the same permissions.
+/// Contracts see the policy.
+#[derive(Drop)]
+pub struct ListedTexts<'p, 'a> {
+    texts: RuleTexts<'p, 'a>,
+    head: KeptHead,
+    slots: Vec<Option<KeptText>>,
+}
+
+impl<'p, 'a> Model for ListedTexts<'p, 'a> {
+    ghost use Rattle.pol_file.specs.declared.Parts.{Parts};
+    ghost use Rattle.rule_text.specs.KeptTexts.{AreKept, IsHead};
+
+    ghost Value = { Parts };
+
+    ghost view = { λ listed. listed.texts };
+
+    ghost invariant = { λ listed. IsHead listed.texts.symbols listed.head × AreKept listed.texts.symbols listed.slots.items };
+}
+
+impl<'p, 'a> ListedTexts<'p, 'a> {
+    /// Those of a policy.
+    pub fn new(alloc: Global, policy: &'p Policy<'a>) -> Result<ListedTexts<'p, 'a>, AllocError>
+        ensures { IfOk result (λ texts. texts ≡ policy.now) }
+    {
+        Ok(ListedTexts {
+            texts: RuleTexts::new(alloc, policy)?,
+            head: KeptHead::none(alloc, policy.symbols())?,
+            slots: empty_slots(alloc)?,
+        })
+    }
+
+    /// Adds the text of the stored rule of that number, from 0 on, without a line feed.
+    #[tactic(auto, unfolding(crate::specs::RuleTexts::text_of_rule, crate::specs::RuleTexts::rule_text, crate::specs::RuleTexts::ends_text, crate::specs::RuleFrames::head_text))]
+    pub fn push_rule(&mut self, n: u32, buffer: &mut Vec<u8>) -> Result<(), AllocError>
+        requires { n < length (stored_rules self.old) }
+        ensures policy { self.new ≡ self.old }
+        ensures text { OnOk result (buffer.new.items ≡ buffer.old.items ++ text_of_rule self.old n) }
+    {
+        let policy = self.texts.policy();
+        let symbols = policy.symbols();
+        let rule = policy.rule(n);
+        self.head.push(symbols, rule.kind, rule.source, buffer)?;
+        push_target(buffer, symbols, rule.kind, rule.target)?;
+        push_rest(buffer, &self.texts, &mut self.slots, &rule)
+    }
+}
+
+// Adds what stands behind the ends of a rule.
+#[tactic(auto, unfolding(crate::specs::RuleTexts::rest_text, crate::specs::KeptTexts::given_text))]
+fn push_rest<'a>(
+    buffer: &mut Vec<u8>,
+    texts: &RuleTexts<'_, 'a>,
+    slots: &mut Vec<Option<KeptText>>,
+    rule: &Rule<'a>,
+) -> Result<(), AllocError>
+    requires kept { AreKept texts.now.symbols slots.old.items }
+    requires under { StandsUnder texts.now.rules.conditionals rule.now.condition }
+    ensures kept { AreKept texts.now.symbols slots.new.items }
+    ensures text { OnOk result (buffer.new.items ≡ buffer.old.items ++ rest_text texts.now (stored rule.now)) }
+{
+    push_given(buffer, texts, slots, rule)?;
+    push_end(buffer, texts.policy(), rule)
+}
+
+// Adds the class of a rule and what the rule gives. The text of permissions is kept.
+fn push_given<'a>(
+    buffer: &mut Vec<u8>,
+    texts: &RuleTexts<'_, 'a>,
+    slots: &mut Vec<Option<KeptText>>,
+    rule: &Rule<'a>,
+) -> Result<(), AllocError>
+    requires { AreKept texts.now.symbols slots.old.items }
+    ensures kept { AreKept texts.now.symbols slots.new.items }
+    ensures text { OnOk result (buffer.new.items ≡ buffer.old.items ++ given_text texts.now.symbols rule.now.kind rule.now.class rule.now.part) }
+{
+    match rule.part {
+        RulePart::Perms(mask) => push_kept(buffer, texts, slots, rule, mask),
+        _ => texts.push_given(buffer, rule),
+    }
+}
