@@ -17,7 +17,7 @@ use pol_expand::type_map;
 use pol_read::Policy;
 use rule_query::{Query, QueryError, resolve};
 use rule_singles::SingleRules;
-use rule_text::{RuleTexts, TypeNames};
+use rule_text::{ListedTexts, RuleTexts, TypeNames};
 use se_items::{WriteEnd, listed, write_page};
 use se_outside::{Patterns, Sink};
 use se_status::{Status, status_written};
@@ -108,10 +108,10 @@ fn write_rules<S: Sink>(
     let Ok(numbers) = query.sorted(alloc, policy) else {
         return Err(WriteEnd::Memory);
     };
-    let Ok(texts) = RuleTexts::new(alloc, policy) else {
+    let Ok(texts) = ListedTexts::new(alloc, policy) else {
         return Err(WriteEnd::Memory);
     };
-    let mut lines = RuleLines::new(&texts, listed(&numbers));
+    let mut lines = RuleLines::new(texts, listed(&numbers));
     write_page(alloc, &mut lines, asks.from, asks.limit, out)
 }
 
