@@ -30,7 +30,7 @@ spelled_through {X} {Y} r plain view spell fits same h = record {
 
 -- ---- lists
 
-counted_unplaced : {A : Type 0} (bytes : List ℕ) (placed_at : ℕ → Reader (List (Placed A))) (plain_at : ℕ → Reader (List A)) → ((n next : ℕ) → without_places (placed_at n bytes next) ≡ plain_at n bytes next)
+pub counted_unplaced : {A : Type 0} (bytes : List ℕ) (placed_at : ℕ → Reader (List (Placed A))) (plain_at : ℕ → Reader (List A)) → ((n next : ℕ) → without_places (placed_at n bytes next) ≡ plain_at n bytes next)
     → (o : Outcome ℕ) → without_places (and_then o (λ n next. placed_at n bytes next)) ≡ and_then o (λ n next. plain_at n bytes next)
 counted_unplaced bytes placed_at plain_at each (Got n next) = each n next
 counted_unplaced bytes placed_at plain_at each (Bad f) = refl

@@ -15,7 +15,7 @@ use Rattle.pol_laws.proofs.CutParts.{ends_there}
 use Rattle.pol_laws.proofs.SpelledLists.{IsSpelledBy}
 use Rattle.pol_laws.proofs.SpelledParts.{front_spelled, symbols_spelled, rule_lists_spelled, label_lists_spelled}
 
-end_spelled : (d : Field) → IsSpelledBy (end_at d) (λ ended. [])
+pub end_spelled : (d : Field) → IsSpelledBy (end_at d) (λ ended. [])
 end_spelled d = record {
   spelled = λ bytes place ended next are e.
       let h = ends_there d bytes place ended next e in

@@ -1,0 +1,4 @@
+pub mod Wrongs
+pub mod Rows
+pub mod ShapedTree
+pub mod SpelledTree

@@ -1,0 +1,4 @@
+pub mod PolicyTree
+pub mod TreeSpelling
+pub mod TreeShape
+pub mod TreeRanges

@@ -1,0 +1,62 @@
+use pol_avtab::{AvRecList, CondNodeRecList};
+use pol_bitmap::{Set, SetList};
+use pol_classes::ClassRecList;
+use pol_commons::CommonRecList;
+use pol_contexts::{
+    FsRecList, FsUseRecList, IbEndPortRecList, IbPkeyRecList, NetifRecList, Node6RecList,
+    NodeRecList, PortRecList, SidRecList,
+};
+use pol_datums::{
+    BooleanRecList, CategoryRecList, RoleRecList, SensitivityRecList, TypeRecList,
+};
+use pol_genfs::GenfsRecList;
+use pol_symbols::UserRecList;
+use pol_trans::{
+    NameGroupRecList, NameTransRecList, RangeTransRecList, RoleAllowRecList, RoleTransRecList,
+};
+
+/// A policy as lists of owned records, each in file order.
+#[derive(Drop)]
+pub struct Tree {
+    /// The version of the format, 28 to 34.
+    pub version: u32,
+    /// Bit 0x1 is MLS, 0x2 refuses unknown classes and 0x4 allows them.
+    pub config: u32,
+    /// The numbers of the policy's capabilities are the bits.
+    pub capabilities: Set,
+    /// The types whose domains are permissive: bit t stands for the type value t.
+    pub permissive: Set,
+    /// The greatest value that each symbol table may declare, in the order of the tables.
+    pub nprims: [u32; 8],
+    pub commons: CommonRecList,
+    pub classes: ClassRecList,
+    pub roles: RoleRecList,
+    pub types: TypeRecList,
+    pub users: UserRecList,
+    pub booleans: BooleanRecList,
+    pub levels: SensitivityRecList,
+    pub categories: CategoryRecList,
+    pub avtab: AvRecList,
+    pub condlist: CondNodeRecList,
+    pub roletrans: RoleTransRecList,
+    pub roleallow: RoleAllowRecList,
+    /// The file-name transitions one by one, up to version 32. It is empty from version 33 on.
+    pub nametrans: NameTransRecList,
+    /// The file-name transitions as groups, from version 33 on. It is empty below.
+    pub namegroup: NameGroupRecList,
+    pub sid: SidRecList,
+    pub fs: FsRecList,
+    pub port: PortRecList,
+    pub netif: NetifRecList,
+    pub node: NodeRecList,
+    pub fsuse: FsUseRecList,
+    pub node6: Node6RecList,
+    /// It is empty below version 31.
+    pub ibpkey: IbPkeyRecList,
+    /// It is empty below version 31.
+    pub ibendport: IbEndPortRecList,
+    pub genfs: GenfsRecList,
+    pub rangetrans: RangeTransRecList,
+    /// The rows of the type map, one for each type value, that of 1 first: bit v - 1 stands for the value v.
+    pub typemap: SetList,
+}
