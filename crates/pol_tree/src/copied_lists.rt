@@ -8,13 +8,11 @@ use pol_bitmap::{Set, SetList};
 use pol_classes::{Class, ClassRecList, ClassTable};
 use pol_commons::CommonRecList;
 use pol_contexts::{
-    Contexts, FsRecList, FsUseRecList, IbEndPortRecList, IbPkeyRecList, NetifRecList,
-    Node6RecList, NodeRecList, PortRecList, SidRecList,
+    Contexts, FsRecList, FsUseRecList, IbEndPortRecList, IbPkeyRecList, NetifRecList, Node6RecList,
+    NodeRecList, PortRecList, SidRecList,
 };
 use pol_cursor::{Copied, OwnedList};
-use pol_datums::{
-    BooleanRecList, CategoryRecList, RoleRecList, SensitivityRecList, TypeRecList,
-};
+use pol_datums::{BooleanRecList, CategoryRecList, RoleRecList, SensitivityRecList, TypeRecList};
 use pol_file::TypeMap;
 use pol_read::Policy;
 use pol_symbols::{Symbols, UserRecList};
@@ -39,14 +37,14 @@ pub struct SymbolLists {
 /// Copies the records of the symbol tables.
 pub fn copy_symbols(alloc: Global, symbols: &Symbols<'_>) -> Result<SymbolLists, AllocError>
     ensures { IfOk result (λ lists. lists ≡ record {
-        commons = values_of symbols.now.commons.records;
-        classes = values_of symbols.now.classes.records;
-        roles = values_of symbols.now.roles.records;
-        types = values_of symbols.now.types.records;
-        users = values_of symbols.now.users.records;
-        booleans = values_of symbols.now.booleans.records;
-        levels = values_of symbols.now.levels.records;
-        categories = values_of symbols.now.categories.records;
+      commons = values_of symbols.now.commons.records;
+      classes = values_of symbols.now.classes.records;
+      roles = values_of symbols.now.roles.records;
+      types = values_of symbols.now.types.records;
+      users = values_of symbols.now.users.records;
+      booleans = values_of symbols.now.booleans.records;
+      levels = values_of symbols.now.levels.records;
+      categories = values_of symbols.now.categories.records;
     }) }
 {
     Ok(SymbolLists {
@@ -86,12 +84,12 @@ pub struct RuleRecLists {
 /// Copies the rules but for the range transitions.
 pub fn copy_rules(alloc: Global, policy: &Policy<'_>) -> Result<RuleRecLists, AllocError>
     ensures { IfOk result (λ lists. lists ≡ record {
-        avtab = values_of policy.now.rules.table;
-        condlist = values_of policy.now.rules.conditionals;
-        roletrans = values_of policy.now.rules.role_trans;
-        roleallow = values_of policy.now.rules.role_allows;
-        nametrans = entries_of policy.now.rules.name_trans;
-        namegroup = groups_of policy.now.rules.name_trans;
+      avtab = values_of policy.now.rules.table;
+      condlist = values_of policy.now.rules.conditionals;
+      roletrans = values_of policy.now.rules.role_trans;
+      roleallow = values_of policy.now.rules.role_allows;
+      nametrans = entries_of policy.now.rules.name_trans;
+      namegroup = groups_of policy.now.rules.name_trans;
     }) }
 {
     Ok(RuleRecLists {
@@ -152,15 +150,15 @@ pub struct ContextLists {
 /// Copies the tables of contexts.
 pub fn copy_contexts(alloc: Global, contexts: &Contexts<'_>) -> Result<ContextLists, AllocError>
     ensures { IfOk result (λ lists. lists ≡ record {
-        sid = values_of contexts.now.sid;
-        fs = values_of contexts.now.fs;
-        port = values_of contexts.now.port;
-        netif = values_of contexts.now.netif;
-        node = values_of contexts.now.node;
-        fsuse = values_of contexts.now.fsuse;
-        node6 = values_of contexts.now.node6;
-        ibpkey = values_of contexts.now.ibpkey;
-        ibendport = values_of contexts.now.ibendport;
+      sid = values_of contexts.now.sid;
+      fs = values_of contexts.now.fs;
+      port = values_of contexts.now.port;
+      netif = values_of contexts.now.netif;
+      node = values_of contexts.now.node;
+      fsuse = values_of contexts.now.fsuse;
+      node6 = values_of contexts.now.node6;
+      ibpkey = values_of contexts.now.ibpkey;
+      ibendport = values_of contexts.now.ibendport;
     }) }
 {
     Ok(ContextLists {

@@ -6,9 +6,7 @@ use pol_contexts::{
     FsRecList, FsUseRecList, IbEndPortRecList, IbPkeyRecList, NetifRecList, Node6RecList,
     NodeRecList, PortRecList, SidRecList,
 };
-use pol_datums::{
-    BooleanRecList, CategoryRecList, RoleRecList, SensitivityRecList, TypeRecList,
-};
+use pol_datums::{BooleanRecList, CategoryRecList, RoleRecList, SensitivityRecList, TypeRecList};
 use pol_genfs::GenfsRecList;
 use pol_symbols::UserRecList;
 use pol_trans::{

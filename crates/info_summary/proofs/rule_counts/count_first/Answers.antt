@@ -20,5 +20,5 @@ loop-n-preserved c =
     let found = rule_with_ends c.args.policy.now n c.rule_ends.result c.rule_ends.ensures.is in
     c.add.ensures
     ∙ rw c.loop-n.invariant
-      (ap (λ (kind : RuleKind). slice_set counts (kind_number kind) (get_or counts (kind_number kind) 0 + 1)) (sym (ap (λ (ends : RuleEnds). ends.kind) found.2))
-      ∙ one_counted rules n found.0 found.1)
+    (ap (λ (kind : RuleKind). slice_set counts (kind_number kind) (get_or counts (kind_number kind) 0 + 1)) (sym (ap (λ (ends : RuleEnds). ends.kind) found.2))
+    ∙ one_counted rules n found.0 found.1)
