@@ -1,15 +1,7 @@
-pub mod ListTests
 pub mod WordOrder
-pub mod ElementLists
-pub mod SpanTests
-pub mod DigitNumbers
 pub mod TypeEnds
 pub mod MeantValues
 pub mod NodeTests
-pub mod PermissionBits
-pub mod ClassPermissions
-pub mod ClassesMade
-pub mod PermissionTests
 pub mod TestsRight
 pub mod AskedEnds
 pub mod Passing

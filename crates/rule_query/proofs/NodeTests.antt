@@ -27,7 +27,7 @@ use Rattle.rule_criteria.specs.declared.Criterion.{Criterion}
 use Rattle.rule_criteria.specs.declared.Mode.{Mode}
 use Rattle.rule_criteria.specs.declared.Mode.TheVariants.{Plain, Direct, Pattern, PatternDirect, Equal, Subset}
 use Rattle.rule_query.specs.Listed.{compare_booleans, is_listed, listed_booleans, meets_node, node_booleans}
-use Rattle.rule_query.proofs.ListTests.{same_tests, and_both, and_from, any_from, any_to, all_at, all_from}
+use Rattle.rule_tests.proofs.ListTests.{same_tests, and_both, and_from, any_from, any_to, all_at, all_from}
 
 module _ (test : ℕ → Bool) (bs : List ℕ) (asked booleans : List Node) (same : (value : ℕ) → has_bit asked value ≡ test value) (are : (b : ℕ) → Contains (bits_of booleans) b ↔ Contains bs b) where
   asked_from : (b : ℕ) → Contains (bits_of asked) b → test b ≡ true

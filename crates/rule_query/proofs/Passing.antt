@@ -1,8 +1,8 @@
 -- A query of tests, one for each criterion.
-use Rattle.std.proofs.Common.{◌≡◌, ℕ, zero, suc, ◌+◌, ◌-◌, ◌<◌, ◌≤◌, Bool, true, false, cond, Some, None, List, [], ◌∷◌, ◌++◌, refl, sym, ap, subst, ◌∙◌, add-zero, arith}
+use Rattle.std.proofs.Common.{◌≡◌, ℕ, zero, suc, ◌+◌, ◌-◌, ◌<◌, ◌≤◌, Bool, true, false, cond, Some, None, List, [], ◌∷◌, ◌++◌, length, refl, sym, ap, ◌∙◌, add-zero, append-nil, arith}
 use Rattle.std.specs.Prelude.{slice_get}
-use Rattle.std.specs.List.{All, find, filter, list_all, range_with_len}
-use Rattle.std.proofs.lemmas.List.Elements.{All-nil, All-cons, All-append, filter-append}
+use Rattle.std.specs.List.{find, filter, list_all, range_with_len}
+use Rattle.std.proofs.lemmas.List.Elements.{filter-append}
 use Rattle.std.proofs.lemmas.List.Folds.{list_all-append}
 use Rattle.pol_file.specs.declared.Parts.{Parts}
 use Rattle.pol_rules.specs.DeclaredRules.{IsDeclaredRule}
@@ -11,7 +11,7 @@ use Rattle.rule_criteria.specs.declared.Criteria.{Criteria}
 use Rattle.rule_query.specs.declared.tests.Test.{Test}
 use Rattle.rule_query.specs.declared.query.Query.{Query}
 use Rattle.rule_query.specs.Given.{Given, in_word_order, source_given, target_given}
-use Rattle.rule_query.specs.Meeting.{meets, meets_found, meets_given, meets_rule}
+use Rattle.rule_query.specs.Meeting.{meeting, meets, meets_found, meets_given, meets_rule}
 use Rattle.rule_query.specs.Tests.{first_of, passes, rule_test, sources_of, targets_of}
 use Rattle.rule_query.specs.Resolved.{AreTypesOf, IsQueryOf, Gains}
 use Rattle.rule_query.proofs.AskedEnds.{asked_more, source_in_order, target_in_order}
@@ -77,6 +77,13 @@ kept_more p n = let e : 0 + n ≡ n = omega arith in
 pub kept_next : (p : ℕ → Bool) (n : ℕ) (had has : List ℕ) (b : Bool) → had ≡ filter p (range_with_len 0 n) → has ≡ had ++ cond b (n ∷ []) [] → b ≡ p n → has ≡ filter p (range_with_len 0 (n + 1))
 kept_next p n had has b so_far added is = added ∙ ap (λ (xs : List ℕ). xs ++ cond b (n ∷ []) []) so_far ∙ ap (λ (c : Bool). filter p (range_with_len 0 n) ++ cond c (n ∷ []) []) is ∙ sym (kept_more p n)
 
-pub rules_next : (count n : ℕ) (had has : List ℕ) (b : Bool) → n < count → All (λ m. m < count) had → has ≡ had ++ cond b (n ∷ []) [] → All (λ m. m < count) has
-rules_next count n had has true lt all added = subst (λ (xs : List ℕ). All (λ m. m < count) xs) (sym added) (All-append (λ (m : ℕ). m < count) had (n ∷ []) all (All-cons (λ (m : ℕ). m < count) n [] lt (All-nil (λ (m : ℕ). m < count))))
-rules_next count n had has false lt all added = subst (λ (xs : List ℕ). All (λ m. m < count) xs) (sym added) (All-append (λ (m : ℕ). m < count) had [] all (All-nil (λ (m : ℕ). m < count)))
+-- a number that is added where it passes
+pub added_where : (had has : List ℕ) (n : ℕ) (b m : Bool) → b ≡ true → b ≡ m → has ≡ had ++ n ∷ [] → has ≡ had ++ cond m (n ∷ []) []
+added_where had has n b m passes is added = rw (sym is ∙ passes) added
+
+pub left_where : (had : List ℕ) (n : ℕ) (b m : Bool) → b ≡ false → b ≡ m → had ≡ had ++ cond m (n ∷ []) []
+left_where had n b m fails is = rw (sym is ∙ fails) (sym (append-nil had))
+
+-- those of all rules
+pub kept_all : (policy : Parts) (criteria : Criteria) (n : ℕ) (numbers : List ℕ) → n ≡ length (stored_rules policy) → numbers ≡ filter (meets policy criteria) (range_with_len 0 n) → numbers ≡ meeting policy criteria
+kept_all policy criteria n numbers all kept = kept ∙ ap (λ (m : ℕ). filter (meets policy criteria) (range_with_len 0 m)) all

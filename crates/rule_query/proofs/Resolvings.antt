@@ -14,7 +14,7 @@ use Rattle.rule_query.specs.declared.resolving.QueryError.TheVariants.{UnknownNa
 use Rattle.rule_query.specs.declared.tests.Test.{Test}
 use Rattle.rule_query.specs.declared.given.GivenCriterion.{GivenCriterion}
 use Rattle.rule_query.specs.Given.{Given, in_word_order, shown}
-use Rattle.rule_query.proofs.ClassPermissions.{take_get}
+use Rattle.rule_tests.proofs.ClassPermissions.{take_get}
 use Rattle.rule_query.specs.Refusals.{is_pattern_word, pattern_texts}
 use Rattle.rule_query.specs.Resolved.{Gains}
 use Rattle.rule_query.specs.Resolving.{Passes, Stops, AskedFor, IsFaulty, Ends, Resolves, AskEnds, Asks}

@@ -13,14 +13,17 @@ use Rattle.pol_rules.specs.declared.Condition.{Condition}
 use Rattle.pol_rules.specs.DeclaredRules.{IsDeclaredIn, StandsUnder, default_table}
 use Rattle.pol_rules.specs.RuleOrder.{source_table, target_table}
 use Rattle.rule_criteria.specs.declared.Criterion.{Criterion}
+use Rattle.rule_tests.specs.declared.NumberTest.{NumberTest}
+use Rattle.rule_tests.specs.declared.PermissionTest.{PermissionTest}
+use Rattle.rule_tests.specs.Tests.{IsNumberTest, IsPermissionTest}
+use Rattle.rule_tests.proofs.NumberTests.{numbers_are}
+use Rattle.rule_tests.proofs.PermissionTests.{permissions_are}
 use Rattle.rule_query.specs.declared.given.Aspect.TheVariants as aspects
 use Rattle.rule_query.specs.declared.ends.Ends.{Ends}
-use Rattle.rule_query.specs.declared.number_test.NumberTest.{NumberTest}
 use Rattle.rule_query.specs.declared.tests.Test.TheVariants as tests
 use Rattle.rule_query.specs.Ends.{is_meant, meets_end}
 use Rattle.rule_query.specs.Listed.{is_listed, meets_class, meets_default, meets_node, meets_condition}
-use Rattle.rule_query.specs.Numbers.{meets_numbers}
-use Rattle.rule_query.specs.Tests.{has_end, AreEnds, AreMeant, class_test, default_test, condition_test, numbers_test, IsNumberTest}
+use Rattle.rule_query.specs.Tests.{has_end, AreEnds, AreMeant, class_test, default_test, condition_test}
 use Rattle.rule_query.specs.Resolved.{IsTestOf}
 
 -- ---- ends
@@ -80,14 +83,10 @@ module _ (symbols : Symbols) (criterion : Criterion) (set : List Node) (same : (
 pub class_right : (policy : Parts) (criterion : Criterion) (set : List Node) → ((value : ℕ) → has_bit set value ≡ is_listed policy.symbols Classes criterion value) → IsTestOf policy (record { aspect = aspects.Class; criterion = criterion }) (tests.Class set)
 class_right policy criterion set same = record { tells = λ rule declared. classes_right policy.symbols criterion set same rule.class rule.kind; sources = tt; targets = tt }
 
--- ---- numbers
+-- ---- permissions and numbers
 
-numbers_are : (criterion : Criterion) (test : NumberTest) (part : RulePart) → IsNumberTest criterion test → numbers_test test part ≡ meets_numbers criterion part
-numbers_are criterion test (parts.Numbers numbers) is = rw (is.mode, is.spans) refl
-numbers_are criterion test (parts.Perms mask) is = refl
-numbers_are criterion test (parts.Default value) is = refl
-numbers_are criterion test (parts.Range range) is = refl
-numbers_are criterion test parts.Nothing is = refl
+pub permissions_right : (policy : Parts) (criterion : Criterion) (test : PermissionTest) → IsPermissionTest policy.symbols criterion test → IsTestOf policy (record { aspect = aspects.Permissions; criterion = criterion }) (tests.Permissions test)
+permissions_right policy criterion test is = record { tells = λ rule declared. permissions_are policy.symbols criterion test is rule.class rule.part; sources = tt; targets = tt }
 
 pub numbers_right : (policy : Parts) (criterion : Criterion) (test : NumberTest) → IsNumberTest criterion test → IsTestOf policy (record { aspect = aspects.Numbers; criterion = criterion }) (tests.Numbers test)
 numbers_right policy criterion test is = record { tells = λ rule declared. numbers_are criterion test rule.part is; sources = tt; targets = tt }

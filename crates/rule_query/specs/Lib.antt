@@ -1,7 +1,5 @@
 pub mod Given
 pub mod Ends
-pub mod Permissions
-pub mod Numbers
 pub mod Listed
 pub mod Meeting
 pub mod Refusals

@@ -12,8 +12,8 @@ use Rattle.rule_query.specs.declared.given.Aspect.{Aspect}
 use Rattle.rule_query.specs.declared.given.Aspect.TheVariants.{Source, Target, Class, Permissions, Numbers, Default, Booleans}
 use Rattle.rule_query.specs.Given.{Given, in_word_order}
 use Rattle.rule_query.specs.Ends.{meets_end}
-use Rattle.rule_query.specs.Permissions.{meets_permissions}
-use Rattle.rule_query.specs.Numbers.{meets_numbers}
+use Rattle.rule_tests.specs.Permissions.{meets_permissions}
+use Rattle.rule_tests.specs.Numbers.{meets_numbers}
 use Rattle.rule_query.specs.Listed.{meets_class, meets_default, meets_condition}
 
 -- ---- rules

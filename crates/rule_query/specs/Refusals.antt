@@ -17,8 +17,8 @@ use Rattle.rule_query.specs.declared.refusing.Refusal.{Refusal}
 use Rattle.rule_query.specs.declared.refusing.Refusal.TheVariants.{NotThere, NoNumber}
 use Rattle.rule_query.specs.Given.{Given}
 use Rattle.rule_query.specs.Meeting.{is_kind_asked}
-use Rattle.rule_query.specs.Permissions.{is_among}
-use Rattle.rule_query.specs.Numbers.{span_of}
+use Rattle.rule_tests.specs.Permissions.{is_among}
+use Rattle.rule_tests.specs.Numbers.{span_of}
 
 -- ---- the kinds that are asked
 

@@ -4,22 +4,15 @@
 //! that a rule is compared by look-ups of numbers alone ([`Query`]).
 #![tactic(auto)]
 
-mod class_bits;
-mod elements;
 mod ends;
 mod given;
 mod kinds;
 mod listed;
-mod number_test;
-mod permission_test;
-mod pushing;
 mod query;
 mod refusing;
 mod resolving;
-mod spans;
 mod test_making;
 mod tests;
-mod text_numbers;
 
 pub use given::Aspect;
 pub use query::Query;

@@ -7,8 +7,6 @@ ghost use Rattle.pol_bitmap.specs.Sets.{ContainsEach};
 ghost use Rattle.rule_query.specs.Listed.{is_listed, meets_node};
 ghost use Rattle.rule_query.specs.Tests.{HasPattern};
 
-use crate::elements::elements;
-use crate::pushing::push_if;
 use named_values::{values_found, values_named};
 use pol_bitmap::Set;
 use pol_cursor::TableKind;
@@ -16,6 +14,7 @@ use pol_read::Policy;
 use pol_symbols::Symbols;
 use regex::Regex;
 use rule_criteria::{Criterion, Mode};
+use rule_tests::elements;
 use std::alloc::{AllocError, Global};
 
 /// The values of a table that are listed, or in whose names the pattern is found.
@@ -71,8 +70,9 @@ fn meeting_nodes(
 {
     let mut nodes = Vec::new(alloc);
     for node in 0..policy.conditionals().len() {
-        let meets = node_meets(alloc, policy, criterion, asked, node)?;
-        push_if(&mut nodes, node, meets)?;
+        if node_meets(alloc, policy, criterion, asked, node)? {
+            nodes.push(node)?;
+        }
     }
     Ok(nodes)
 }

@@ -1,19 +1,18 @@
-ghost use Rattle.std.specs.Prelude.{◌≡◌, ◌<◌, ◌-◌, IfOk, length, option_map, ℕ};
+ghost use Rattle.std.specs.Prelude.{◌≡◌, ◌<◌, ◌-◌, ◌∷◌, [], ◌++◌, IfOk, OnOk, if◌then◌else◌, length, option_map, ℕ};
 ghost use Rattle.std.specs.List.{find, list_all, range_with_len};
 ghost use Rattle.pol_rules.specs.StoredRules.{stored, stored_rules};
-ghost use Rattle.rule_order.specs.ListedOrder.{AreRules, in_rule_order};
+ghost use Rattle.rule_order.specs.ListedOrder.{in_rule_order};
 ghost use Rattle.rule_criteria.specs.declared.Criteria.{Criteria};
 ghost use Rattle.rule_query.specs.Meeting.{meets, meeting};
 ghost use Rattle.rule_query.specs.Resolved.{IsQueryOf};
 ghost use Rattle.rule_query.specs.Tests.{passes, rule_test, source_types, target_types};
 
 use crate::kinds::is_kind_asked;
-use crate::pushing::push_if;
 use crate::tests::Test;
 use pol_bitmap::Set;
 use pol_read::{Policy, Rule};
 use pol_symbols::Symbols;
-use rule_order::sort_by_rule_order;
+use rule_order::RuleKeys;
 use std::alloc::{AllocError, Global};
 
 /// Criteria that were looked up in a policy: the kinds of rules that are asked, and what meets each criterion, by sets of values.
@@ -82,21 +81,30 @@ impl Query {
     pub fn sorted(&self, alloc: Global, policy: &Policy<'_>) -> Result<Vec<u32>, AllocError>
         ensures { (criteria : Criteria) → IsQueryOf policy.now criteria self.now → IfOk result (λ numbers. numbers.items ≡ in_rule_order policy.now (meeting policy.now criteria)) }
     {
-        let numbers = self.meeting(alloc, policy)?;
-        sort_by_rule_order(alloc, policy, &numbers)
+        let mut found = RuleKeys::new(alloc, policy);
+        for n in 0..policy.rule_count() {
+            self.add_met(policy, n, &mut found)?;
+        }
+        found.sorted(alloc)
     }
 
-    // The same, rising.
-    fn meeting(&self, alloc: Global, policy: &Policy<'_>) -> Result<Vec<u32>, AllocError>
-        ensures meeting { (criteria : Criteria) → IsQueryOf policy.now criteria self.now → IfOk result (λ numbers. numbers.items ≡ meeting policy.now criteria) }
-        ensures rules { IfOk result (λ numbers. AreRules policy.now numbers.items) }
+    // Adds the rule of a number to those that were found, if it meets the criteria.
+    fn add_met(
+        &self,
+        policy: &Policy<'_>,
+        n: u32,
+        found: &mut RuleKeys<'_>,
+    ) -> Result<(), AllocError>
+        requires number { n < length (stored_rules policy.now) }
+        requires policy { found.old.policy ≡ policy.now }
+        ensures policy { OnOk result (found.new.policy ≡ policy.now) }
+        ensures numbers { (criteria : Criteria) → IsQueryOf policy.now criteria self.now → OnOk result (found.new.numbers ≡ found.old.numbers ++ (if meets policy.now criteria n then n ∷ [] else [])) }
     {
-        let mut numbers = Vec::new(alloc);
-        for n in 0..policy.rule_count() {
-            let meets = self.meets(policy, n);
-            push_if(&mut numbers, n, meets)?;
+        let rule = policy.rule(n);
+        if self.passes(policy.symbols(), &rule) {
+            found.add(n, &rule)?;
         }
-        Ok(numbers)
+        Ok(())
     }
 }
 

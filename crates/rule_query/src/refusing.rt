@@ -2,16 +2,15 @@
 ghost use Rattle.std.specs.Prelude.{◌≡◌, IfOk, is_some};
 ghost use Rattle.std.specs.List.{list_all, list_any};
 ghost use Rattle.rule_query.specs.Given.{shown};
-ghost use Rattle.rule_query.specs.Numbers.{span_of};
+ghost use Rattle.rule_tests.specs.Numbers.{span_of};
 ghost use Rattle.rule_query.specs.Refusals.{is_end_missing, is_missing, is_pattern_word, is_permission, is_permission_of, may_be_pattern, refusal_of, refusal_of_names, refuse_if};
 
-use crate::elements::elements;
 use crate::given::{Aspect, GivenCriterion};
 use crate::kinds::is_any_asked;
-use crate::text_numbers::span_of;
 use pol_cursor::TableKind;
 use pol_read::RuleKind;
 use pol_symbols::Symbols;
+use rule_tests::{elements, span_of};
 use std::alloc::{AllocError, Global};
 
 /// Why a criterion is refused.
@@ -198,7 +197,7 @@ fn is_permission(symbols: &Symbols<'_>, name: &[u8]) -> bool
 }
 
 // Whether a class has one of its own.
-#[tactic(auto, using(crate::proofs::ListTests::none_more, crate::proofs::ListTests::one_at, crate::proofs::ListTests::none_all))]
+#[tactic(auto, using(rule_tests::proofs::ListTests::none_more, rule_tests::proofs::ListTests::one_at, rule_tests::proofs::ListTests::none_all))]
 fn is_class_permission(symbols: &Symbols<'_>, name: &[u8]) -> bool
     ensures { result ≡ list_any (λ class. is_permission_of class.value.permissions name.now) symbols.now.classes.records }
 {
@@ -211,7 +210,7 @@ fn is_class_permission(symbols: &Symbols<'_>, name: &[u8]) -> bool
 }
 
 // Whether a common has one.
-#[tactic(auto, using(crate::proofs::ListTests::none_more, crate::proofs::ListTests::one_at, crate::proofs::ListTests::none_all))]
+#[tactic(auto, using(rule_tests::proofs::ListTests::none_more, rule_tests::proofs::ListTests::one_at, rule_tests::proofs::ListTests::none_all))]
 fn is_common_permission(symbols: &Symbols<'_>, name: &[u8]) -> bool
     ensures { result ≡ list_any (λ common. is_permission_of common.value.permissions name.now) symbols.now.commons.records }
 {

@@ -8,13 +8,12 @@ ghost use Rattle.rule_query.specs.Resolved.{IsTestOf};
 use crate::ends::{defaults, ends_of};
 use crate::given::{Aspect, GivenCriterion};
 use crate::listed::{listed, nodes};
-use crate::number_test::NumberTest;
-use crate::permission_test::PermissionTest;
 use crate::tests::Test;
 use pol_cursor::TableKind;
 use pol_expand::TypeMap;
 use pol_read::Policy;
 use regex::Regex;
+use rule_tests::{NumberTest, PermissionTest};
 use std::alloc::{AllocError, Global};
 
 /// What meets a criterion, whose pattern was built if it is one.

@@ -5,13 +5,12 @@ ghost use Rattle.pol_rules.specs.StoredRules.{stored};
 ghost use Rattle.rule_query.specs.Tests.{class_test, condition_test, default_test, rule_test};
 
 use crate::ends::{Ends, has_value};
-use crate::number_test::NumberTest;
-use crate::permission_test::PermissionTest;
 use pol_bitmap::Set;
 use pol_cursor::TableKind;
 use pol_read::{Condition, Rule, RuleKind, RulePart};
 use pol_symbols::Symbols;
 use rule_order::{table_of_source, table_of_target};
+use rule_tests::{NumberTest, PermissionTest};
 
 /// What meets a criterion, by values and numbers.
 #[derive(Drop)]

@@ -1,4 +1,4 @@
-use Rattle.rule_query.proofs.ListTests.{has_is}
+use Rattle.rule_tests.proofs.ListTests.{has_is}
 use Rattle.rule_query.proofs.ends.has_value.Goals as goal
 
 pub returns : goal.returns

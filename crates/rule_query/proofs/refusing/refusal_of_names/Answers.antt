@@ -3,9 +3,9 @@ use Rattle.std.specs.Prelude.{not, is_some}
 use Rattle.pol_cursor.specs.declared.TableKind.TheVariants.{Classes, Booleans}
 use Rattle.rule_criteria.specs.Elements.{elements_of}
 use Rattle.rule_query.specs.declared.refusing.Refusal.TheVariants.{NotThere, NoNumber}
-use Rattle.rule_query.specs.Numbers.{span_of}
+use Rattle.rule_tests.specs.Numbers.{span_of}
 use Rattle.rule_query.specs.Refusals.{is_missing, is_permission, refuse_if}
-use Rattle.rule_query.proofs.ClassPermissions.{any_names, all_names}
+use Rattle.rule_tests.proofs.ClassPermissions.{any_names, all_names}
 use Rattle.rule_query.proofs.refusing.refusal_of_names.Goals as goal
 
 pub returns-in_ok-names-in-Class : goal.returns-in_ok-names-in-Class

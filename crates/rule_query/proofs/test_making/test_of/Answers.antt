@@ -1,4 +1,4 @@
-use Rattle.rule_query.proofs.PermissionTests.{permissions_right}
+use Rattle.rule_query.proofs.TestsRight.{permissions_right}
 use Rattle.rule_query.proofs.test_making.test_of.Goals as goal
 
 pub returns-in_ok-of-in-Permissions : goal.returns-in_ok-of-in-Permissions

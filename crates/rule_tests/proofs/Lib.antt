@@ -1,0 +1,9 @@
+pub mod ListTests
+pub mod ElementLists
+pub mod SpanTests
+pub mod DigitNumbers
+pub mod PermissionBits
+pub mod ClassPermissions
+pub mod ClassesMade
+pub mod PermissionTests
+pub mod NumberTests

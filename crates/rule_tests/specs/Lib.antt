@@ -1,0 +1,3 @@
+pub mod Permissions
+pub mod Numbers
+pub mod Tests
