@@ -9,7 +9,7 @@ use Rattle.pol_rules.specs.declared.RulePart.TheVariants.{Default}
 use Rattle.pol_rules.specs.StoredRules.{StoredRule, stored_rules}
 use Rattle.rule_order.specs.ListedOrder.{is_listed_before, ordered_by, with_number}
 use Rattle.rule_ends.specs.ChosenRules.{joins, any_joins, rules_between}
-use Rattle.rule_ends.specs.EndTables.{is_type_value}
+use Rattle.rule_ends.specs.PlainTypes.{is_type_value}
 use Rattle.rule_ends.proofs.Anys.{any_gives, any_from}
 use Rattle.dom_trans.specs.Grants.{grants, default_rules, has_default, part_has_default, file, entrypoint}
 use Rattle.dom_trans.specs.Transitions.{is_default}

@@ -10,8 +10,9 @@ use Rattle.pol_file.specs.declared.Parts.{Parts}
 use Rattle.rule_ends.specs.ChosenRules.{any_joins, targets_from, sources_to, sources_to_any}
 use Rattle.rule_ends.proofs.Anys.{any_gives, any_from}
 use Rattle.dom_trans.specs.Grants.{granting_rules, grants, default_rules, process, file, transition, dyntransition, setexec, setcurrent, execute, entrypoint}
-use Rattle.dom_trans.specs.Transitions.{are_two_types, is_default, is_entry, is_standard, is_dynamic}
-use Rattle.dom_trans.specs.EdgesBetween.{two_are_nodes}
+use Rattle.dom_trans.specs.Transitions.{is_default, is_entry, is_standard, is_dynamic}
+use Rattle.rule_ends.specs.PlainTypes.{are_two_types}
+use Rattle.rule_ends.proofs.TypesOutside.{two_within}
 use Rattle.dom_trans.specs.Targets.{AreEntering, AreSources, has_entry, may_enter}
 use Rattle.dom_trans.proofs.Defaults.{default_joins}
 
@@ -56,7 +57,7 @@ enters_by_default policy a b executable points starts entries never are_points e
 in_sources : (policy : Parts) (rules : List ℕ) (a b : ℕ) (sources : List ℕ) → sources ≡ sources_to policy rules b → are_two_types policy a b ≡ true → Contains sources a ↔ (any_joins policy rules a b ≡ true)
 unfolding sources_to
 in_sources policy rules a b sources is two =
-    let nodes = two_are_nodes policy a b two in
+    let nodes = two_within policy a b two in
     let range = range_with_len 1 policy.symbols.types.nprim in
     let joined = λ (source : ℕ). any_joins policy rules source b in (
       λ there. (kept joined range a (subst (λ (xs : List ℕ). Contains xs a) is there)).1,
@@ -67,7 +68,7 @@ in_sources policy rules a b sources is two =
 in_sources_of_any : (policy : Parts) (rules : List ℕ) (a b : ℕ) (targets sources : List ℕ) → sources ≡ sources_to_any policy rules targets → are_two_types policy a b ≡ true → Contains sources a ↔ (list_any (any_joins policy rules a) targets ≡ true)
 unfolding sources_to_any
 in_sources_of_any policy rules a b targets sources is two =
-    let nodes = two_are_nodes policy a b two in
+    let nodes = two_within policy a b two in
     let range = range_with_len 1 policy.symbols.types.nprim in
     let joined = λ (source : ℕ). list_any (any_joins policy rules source) targets in (
       λ there. (kept joined range a (subst (λ (xs : List ℕ). Contains xs a) is there)).1,

@@ -1,26 +1,25 @@
 -- The steps of the graph.
-use Rattle.std.proofs.Common.{◌≡◌, ℕ, Bool, true, false, List, [], ◌∷◌, Result, Ok, Err, IfOk, ◌↔◌, refl, sym, ap, subst, ◌∙◌, arith}
-use Rattle.std.specs.Prelude.{◌==◌, ◌&&◌, ◌||◌, not, nat_le, if◌then◌else◌}
+use Rattle.std.proofs.Common.{◌≡◌, ℕ, Bool, true, false, List, [], ◌∷◌, Result, Ok, Err, IfOk, ◌↔◌, refl, sym, ap, subst, ◌∙◌}
+use Rattle.std.specs.Prelude.{◌==◌, ◌&&◌, ◌||◌, not, if◌then◌else◌}
 use Rattle.std.specs.List.{Contains, filter, range_with_len}
 use Rattle.std.specs.List.Sorted.{IsStrictlyIncreasing}
-use Rattle.std.proofs.lemmas.Bool.{and_parts, and_from, false≢true, leb-true, eqb-true, eq-eqb}
+use Rattle.std.proofs.lemmas.Bool.{and_parts, and_from, false≢true, eqb-true, eq-eqb}
 use Rattle.std.proofs.lemmas.List.Kept.{IsStrictlyIncreasing-filter}
 use Rattle.pol_bitmap.specs.declared.Node.{Node}
 use Rattle.pol_bitmap.specs.Nodes.{bits_of, has_bit}
 use Rattle.pol_bitmap.specs.Sets.{IsSet, IsCommon, IsDifference}
 use Rattle.pol_bitmap.proofs.BitLists.{bits_increasing}
-use Rattle.pol_bitmap.proofs.Elements.{contains_nothing, contains_first, contains_one, kept, keeps, contains_range}
-use Rattle.pol_datums.specs.declared.Flavour.TheVariants.{Plain}
-use Rattle.pol_expand.specs.PolicyMap.{has_flavour}
+use Rattle.pol_bitmap.proofs.Elements.{contains_nothing, contains_first, contains_one}
 use Rattle.pol_expand.proofs.Values.{filter_rises}
 use Rattle.pol_file.specs.declared.Parts.{Parts}
 use Rattle.walk_enum.specs.Walks.{AreEnds}
 use Rattle.rule_ends.specs.ChosenRules.{any_joins, sources_to}
-use Rattle.rule_ends.specs.EndTables.{is_type_value}
-use Rattle.dom_trans.specs.Transitions.{are_two_types, is_transition}
+use Rattle.rule_ends.specs.PlainTypes.{are_two_types, is_type_outside, is_type_value, types_outside}
+use Rattle.rule_ends.proofs.TypesOutside.{in_outside}
+use Rattle.dom_trans.specs.Transitions.{is_transition}
 use Rattle.dom_trans.specs.DomainEdges.{Domains, is_step, domain_edge}
 use Rattle.dom_trans.specs.EdgesBetween.{transition_types}
-use Rattle.dom_trans.specs.Targets.{AreOpen, AreSources, AreTargets, is_open, is_outside, types_outside}
+use Rattle.dom_trans.specs.Targets.{AreOpen, AreSources, AreTargets, is_open}
 use Rattle.dom_trans.proofs.Ways.{step_by_transition, step_excluded}
 
 pub step_is_transition : (domains : Domains) (a b : ℕ) → is_step domains a b ≡ true → is_transition domains.policy a b ≡ true
@@ -29,24 +28,6 @@ step_is_transition domains a b e =
     (and_parts (is_transition domains.policy a b) (not (has_bit domains.excluded a)) (and_parts (is_transition domains.policy a b && not (has_bit domains.excluded a)) (not (has_bit domains.excluded b)) e).0).0
 
 -- ---- two different types, none of them excluded
-
--- a type that is not excluded is in their set
-pub in_outside : (policy : Parts) (excluded open_set : List Node) (b : ℕ) → bits_of open_set ≡ types_outside policy excluded → Contains (bits_of open_set) b ↔ (is_outside policy excluded b ≡ true)
-unfolding types_outside
-in_outside policy excluded open_set b is =
-    let range = range_with_len 1 policy.symbols.types.nprim in (
-      λ there. (kept (is_outside policy excluded) range b (subst (λ (xs : List ℕ). Contains xs b) is there)).1,
-      λ e.
-          let type = and_parts (is_type_value policy b) (not (has_bit excluded b)) e in
-          let within = and_parts (nat_le 1 b && nat_le b policy.symbols.types.nprim) (has_flavour policy.symbols Plain b) type.0 in
-          let ends = and_parts (nat_le 1 b) (nat_le b policy.symbols.types.nprim) within.0 in
-          let most = leb-true b policy.symbols.types.nprim ends.1 in
-          subst (λ (xs : List ℕ). Contains xs b) (sym is) (keeps (is_outside policy excluded) range b (contains_range 1 policy.symbols.types.nprim b (leb-true 1 b ends.0) (omega (arith, most))) e),
-    )
-
-pub outside_rises : (policy : Parts) (excluded : List Node) → IsStrictlyIncreasing (types_outside policy excluded)
-unfolding types_outside
-outside_rises policy excluded = filter_rises (is_outside policy excluded) 1 policy.symbols.types.nprim
 
 open_sides : (s t apart x y : Bool) → (((s && t) && apart) && not (x || y)) ≡ (((s && not x) && (t && not y)) && apart)
 open_sides false t apart x y = refl
@@ -60,7 +41,7 @@ open_sides true true true false true = refl
 open_sides true true true false false = refl
 
 -- both are in the set of those that are not excluded, and they differ
-open_by_sides : (domains : Domains) (a b : ℕ) → is_open domains a b ≡ ((is_outside domains.policy domains.excluded a && is_outside domains.policy domains.excluded b) && not (a == b))
+open_by_sides : (domains : Domains) (a b : ℕ) → is_open domains a b ≡ ((is_type_outside domains.policy domains.excluded a && is_type_outside domains.policy domains.excluded b) && not (a == b))
 open_by_sides domains a b = open_sides (is_type_value domains.policy a) (is_type_value domains.policy b) (not (a == b)) (has_bit domains.excluded a) (has_bit domains.excluded b)
 
 not_false : (b : Bool) → not b ≡ true → b ≡ false
@@ -77,8 +58,8 @@ none_open domains open_set a types found is out none = record {
   each = λ b. (
     λ there. absurd (contains_nothing b (subst (λ (xs : List ℕ). Contains xs b) none there)),
     λ h.
-        let sides = and_parts (is_outside domains.policy domains.excluded a && is_outside domains.policy domains.excluded b) (not (a == b)) (sym (open_by_sides domains a b) ∙ h.1) in
-        let first = (and_parts (is_outside domains.policy domains.excluded a) (is_outside domains.policy domains.excluded b) sides.0).0 in
+        let sides = and_parts (is_type_outside domains.policy domains.excluded a && is_type_outside domains.policy domains.excluded b) (not (a == b)) (sym (open_by_sides domains a b) ∙ h.1) in
+        let first = (and_parts (is_type_outside domains.policy domains.excluded a) (is_type_outside domains.policy domains.excluded b) sides.0).0 in
         absurd (out ((in_outside domains.policy domains.excluded open_set a is).1 first)),
   );
 }
@@ -88,7 +69,7 @@ pub open_are : (domains : Domains) (open_set : List Node) (a : ℕ) (types both 
     → IsDifference both itself found → AreOpen domains a types found
 open_are domains open_set a types both itself found is there common one less = record {
   each = λ b.
-      let outside = is_outside domains.policy domains.excluded in
+      let outside = is_type_outside domains.policy domains.excluded in
       let other = in_outside domains.policy domains.excluded open_set b is in (
         λ m.
             let parts = (less.each b).0 m in
@@ -114,7 +95,7 @@ open_steps domains a b e t =
 
 open_turns : (domains : Domains) (a b : ℕ) → is_open domains a b ≡ true → is_open domains b a ≡ true
 open_turns domains a b e =
-    let outside = is_outside domains.policy domains.excluded in
+    let outside = is_type_outside domains.policy domains.excluded in
     let sides = and_parts (outside a && outside b) (not (a == b)) (sym (open_by_sides domains a b) ∙ e) in
     let both = and_parts (outside a) (outside b) sides.0 in
     open_by_sides domains b a

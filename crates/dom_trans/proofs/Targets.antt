@@ -10,11 +10,11 @@ use Rattle.pol_bitmap.proofs.Elements.{kept, keeps, contains_range}
 use Rattle.pol_file.specs.declared.Parts.{Parts}
 use Rattle.value_groups.specs.Marking.{is_among}
 use Rattle.rule_ends.specs.ChosenRules.{any_joins, rules_between, targets_from, sources_to_any}
-use Rattle.rule_ends.specs.EndTables.{is_type_value}
+use Rattle.rule_ends.specs.PlainTypes.{are_two_types, is_type_value}
 use Rattle.rule_ends.proofs.Anys.{any_gives, any_from, among_contains, contains_among}
 use Rattle.dom_trans.specs.Grants.{granting_rules, grants, default_rules, has_default, process, file, transition, dyntransition, setexec, setcurrent, execute, entrypoint}
-use Rattle.dom_trans.specs.Transitions.{are_two_types, is_default, is_entry, is_standard, is_dynamic}
-use Rattle.dom_trans.specs.EdgesBetween.{two_are_nodes}
+use Rattle.dom_trans.specs.Transitions.{is_default, is_entry, is_standard, is_dynamic}
+use Rattle.rule_ends.proofs.TypesOutside.{two_within}
 use Rattle.dom_trans.specs.RuleLists.{IsSourceOf}
 use Rattle.dom_trans.specs.Targets.{AreEntered, AreTargets, has_entry, is_default_at}
 use Rattle.dom_trans.proofs.Defaults.{default_joins}
@@ -26,7 +26,7 @@ use Rattle.dom_trans.proofs.Ways.{dynamic_by_grant, dynamic_refused}
 in_targets : (policy : Parts) (rules : List ℕ) (a b : ℕ) (targets : List ℕ) → targets ≡ targets_from policy rules a → are_two_types policy a b ≡ true → Contains targets b ↔ (any_joins policy rules a b ≡ true)
 unfolding targets_from
 in_targets policy rules a b targets is two =
-    let nodes = two_are_nodes policy a b two in
+    let nodes = two_within policy a b two in
     let range = range_with_len 1 policy.symbols.types.nprim in (
       λ there. (kept (any_joins policy rules a) range b (subst (λ (xs : List ℕ). Contains xs b) is there)).1,
       λ e. subst (λ (xs : List ℕ). Contains xs b) (sym is) (keeps (any_joins policy rules a) range b (contains_range 1 policy.symbols.types.nprim b nodes.2 (omega (arith, nodes.3))) e),
@@ -88,7 +88,7 @@ pub entered_by_request : (policy : Parts) (a : ℕ) (executable : List Node) (se
 unfolding sources_to_any targets_from is_entry
 entered_by_request policy a executable sets changes types source asks is = record {
   each = λ b two.
-      let nodes = two_are_nodes policy a b two in
+      let nodes = two_within policy a b two in
       let range = range_with_len 1 policy.symbols.types.nprim in
       let rules = granting_rules policy file entrypoint in
       let points = λ (s : ℕ). list_any (any_joins policy rules s) (bits_of executable) in

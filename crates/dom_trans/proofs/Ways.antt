@@ -4,8 +4,9 @@ use Rattle.std.specs.Prelude.{◌&&◌, ◌||◌, not}
 use Rattle.std.proofs.lemmas.Bool.{and_left, and_right, false≢true, true≢false}
 use Rattle.pol_bitmap.specs.Nodes.{has_bit}
 use Rattle.pol_file.specs.declared.Parts.{Parts}
+use Rattle.rule_ends.specs.PlainTypes.{are_two_types}
 use Rattle.dom_trans.specs.Grants.{grants, process, transition, dyntransition, setcurrent}
-use Rattle.dom_trans.specs.Transitions.{are_two_types, is_standard, is_dynamic, is_transition}
+use Rattle.dom_trans.specs.Transitions.{is_standard, is_dynamic, is_transition}
 use Rattle.dom_trans.specs.DomainEdges.{Domains, is_step}
 use Rattle.dom_trans.specs.Targets.{has_entry}
 

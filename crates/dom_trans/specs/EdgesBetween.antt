@@ -1,29 +1,15 @@
 -- An edge joins nodes, since transitions are from types to types.
-use Rattle.std.specs.Prelude.{◌≡◌, ℕ, ◌≤◌, Bool, true, false, not, ◌&&◌, ◌==◌, nat_le, if◌then◌else◌}
+use Rattle.std.specs.Prelude.{◌≡◌, ℕ, ◌≤◌, Bool, true, false, not, ◌&&◌, if◌then◌else◌}
 use Rattle.std.specs.List.{list_any, range_with_len}
 use Rattle.std.proofs.Common.{inl, inr}
-use Rattle.std.proofs.lemmas.Bool.{and_parts, or_cases, leb-true}
+use Rattle.std.proofs.lemmas.Bool.{and_parts, or_cases}
 use Rattle.pol_bitmap.specs.Nodes.{has_bit}
-use Rattle.pol_datums.specs.declared.Flavour.TheVariants.{Plain}
-use Rattle.pol_expand.specs.PolicyMap.{has_flavour}
 use Rattle.pol_file.specs.declared.Parts.{Parts}
-use Rattle.rule_ends.specs.EndTables.{is_type_value}
+use Rattle.rule_ends.specs.PlainTypes.{are_two_types}
+use Rattle.rule_ends.proofs.TypesOutside.{two_within}
 use Rattle.dom_trans.specs.Grants.{grants, process, transition, dyntransition, setcurrent}
-use Rattle.dom_trans.specs.Transitions.{are_two_types, is_entry, is_standard, is_dynamic, is_transition}
+use Rattle.dom_trans.specs.Transitions.{is_entry, is_standard, is_dynamic, is_transition}
 use Rattle.dom_trans.specs.DomainEdges.{Domains, domain_count, is_step, domain_edge}
-
--- a type has one of the values
-type_is_node : (policy : Parts) (a : ℕ) → is_type_value policy a ≡ true → (1 ≤ a) × (a ≤ policy.symbols.types.nprim)
-type_is_node policy a e =
-    let range = and_parts (nat_le 1 a) (nat_le a policy.symbols.types.nprim) (and_parts (nat_le 1 a && nat_le a policy.symbols.types.nprim) (has_flavour policy.symbols Plain a) e).0 in
-    (leb-true 1 a range.0, leb-true a policy.symbols.types.nprim range.1)
-
-pub two_are_nodes : (policy : Parts) (a b : ℕ) → are_two_types policy a b ≡ true → (1 ≤ a) × (a ≤ policy.symbols.types.nprim) × (1 ≤ b) × (b ≤ policy.symbols.types.nprim)
-two_are_nodes policy a b e =
-    let both = and_parts (is_type_value policy a) (is_type_value policy b) (and_parts (is_type_value policy a && is_type_value policy b) (not (a == b)) e).0 in
-    let one = type_is_node policy a both.0 in
-    let other = type_is_node policy b both.1 in
-    (one.0, one.1, other.0, other.1)
 
 -- a transition is between two types
 pub transition_types : (policy : Parts) (a b : ℕ) → is_transition policy a b ≡ true → are_two_types policy a b ≡ true
@@ -39,7 +25,7 @@ step_joins : (domains : Domains) (a b : ℕ) → is_step domains a b ≡ true �
 unfolding is_step
 step_joins domains a b e =
     let inner = and_parts (is_transition domains.policy a b) (not (has_bit domains.excluded a)) (and_parts (is_transition domains.policy a b && not (has_bit domains.excluded a)) (not (has_bit domains.excluded b)) e).0 in
-    two_are_nodes domains.policy a b (transition_types domains.policy a b inner.0)
+    two_within domains.policy a b (transition_types domains.policy a b inner.0)
 
 pub edges_join : (domains : Domains) (a b : ℕ) → domain_edge domains a b ≡ true → (1 ≤ a) × (a ≤ domain_count domains) × (1 ≤ b) × (b ≤ domain_count domains)
 edges_join domains a b e = go domains.reverse e

@@ -1,12 +1,11 @@
 -- The types that a type may change to, and those that may change to it, as the graph finds them. It serves the code alone.
 use Rattle.std.specs.Prelude.{◌≡◌, ℕ, Bool, true, false, not, ◌&&◌, ◌||◌, ◌==◌, ◌↔◌, Option, Some, None, List}
-use Rattle.std.specs.List.{Contains, filter, list_any, range_with_len}
-use Rattle.pol_bitmap.specs.declared.Node.{Node}
+use Rattle.std.specs.List.{Contains, list_any, range_with_len}
 use Rattle.pol_bitmap.specs.Nodes.{has_bit}
 use Rattle.pol_file.specs.declared.Parts.{Parts}
-use Rattle.rule_ends.specs.EndTables.{is_type_value}
+use Rattle.rule_ends.specs.PlainTypes.{are_two_types, is_type_value}
 use Rattle.dom_trans.specs.Grants.{grants, has_default, process, setexec, file, entrypoint}
-use Rattle.dom_trans.specs.Transitions.{are_two_types, is_entry, is_standard, is_transition}
+use Rattle.dom_trans.specs.Transitions.{is_entry, is_standard, is_transition}
 use Rattle.dom_trans.specs.DomainEdges.{Domains}
 
 -- there is an entry from the one type to the other
@@ -47,14 +46,6 @@ pub record AreSources (policy : Parts) (b : ℕ) (types : List ℕ) : Type 0 whe
   pub each : (a : ℕ) → are_two_types policy a b ≡ true → Contains types a ↔ (is_transition policy a b ≡ true)
 
 -- ---- steps
-
--- a type that is not in a set
-abbrev pub is_outside : Parts → List Node → ℕ → Bool
-is_outside policy excluded type = is_type_value policy type && not (has_bit excluded type)
-
--- all of them, rising
-unfoldable pub types_outside : Parts → List Node → List ℕ
-types_outside policy excluded = filter (is_outside policy excluded) (range_with_len 1 policy.symbols.types.nprim)
 
 -- two different types, none of them excluded
 abbrev pub is_open : Domains → ℕ → ℕ → Bool

@@ -1,14 +1,10 @@
 -- Transitions from domain to domain, after the manual page of sedta of SETools.
-use Rattle.std.specs.Prelude.{ℕ, Bool, not, ◌&&◌, ◌||◌, ◌==◌, List}
+use Rattle.std.specs.Prelude.{ℕ, Bool, ◌&&◌, ◌||◌, List}
 use Rattle.std.specs.List.{filter, list_any, range_with_len}
 use Rattle.pol_file.specs.declared.Parts.{Parts}
 use Rattle.rule_ends.specs.ChosenRules.{rules_between}
-use Rattle.rule_ends.specs.EndTables.{is_type_value}
+use Rattle.rule_ends.specs.PlainTypes.{are_two_types}
 use Rattle.dom_trans.specs.Grants.{grants, default_rules, has_default, process, file, transition, dyntransition, setexec, setcurrent, execute, entrypoint}
-
--- two different types, and no attributes
-abbrev pub are_two_types : Parts → ℕ → ℕ → Bool
-are_two_types policy a b = is_type_value policy a && is_type_value policy b && not (a == b)
 
 -- the type_transition rules that make the one type the domain of a process that the other starts from an entry type
 abbrev pub defaults_between : Parts → ℕ → ℕ → ℕ → List ℕ

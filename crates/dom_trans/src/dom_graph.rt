@@ -11,6 +11,7 @@ use crate::reasons::Reasons;
 use pol_bitmap::Set;
 use pol_expand::TypeMap;
 use pol_read::Policy;
+use rule_ends::types_outside;
 use std::alloc::{AllocError, Global};
 use std::marker::Model;
 use std::sync::ledger::Ledger;
@@ -32,8 +33,8 @@ pub struct DomGraph<'p> {
 impl<'p> Model for DomGraph<'p> {
     ghost use Rattle.std.specs.Prelude.{◌≡◌};
     ghost use Rattle.pol_bitmap.specs.Nodes.{bits_of};
+    ghost use Rattle.rule_ends.specs.PlainTypes.{types_outside};
     ghost use Rattle.dom_trans.specs.DomainEdges.{Domains};
-    ghost use Rattle.dom_trans.specs.Targets.{types_outside};
 
     ghost Value = { Domains };
 
@@ -55,7 +56,7 @@ impl<'p> DomGraph<'p> {
         ensures { IfOk result (λ graph. graph ≡ record { policy = policy.now; excluded = excluded.now; reverse = reverse }) }
     {
         let rules = DomRules::new(alloc, policy, types)?;
-        let included = rules.types_outside(alloc, excluded)?;
+        let included = types_outside(alloc, policy, excluded)?;
         Ok(DomGraph {
             rules,
             excluded: excluded.share()?,

@@ -4,26 +4,24 @@ ghost use Rattle.pol_bitmap.specs.Nodes.{bits_of};
 ghost use Rattle.pol_bitmap.specs.Sets.{IsCommon};
 ghost use Rattle.pol_expand.specs.PolicyMap.{IsPolicyMap};
 ghost use Rattle.rule_ends.specs.ChosenRules.{rules_between, targets_from, sources_to};
-ghost use Rattle.rule_ends.specs.EndTables.{is_type_value};
 ghost use Rattle.pol_rules.specs.StoredRules.{stored_rules};
 ghost use Rattle.value_groups.specs.Marking.{is_among};
-ghost use Rattle.dom_trans.specs.Targets.{AreEntered, AreTargets, AreEntering, AreSources, is_default_at, is_found, is_outside, may_enter, types_outside};
+ghost use Rattle.dom_trans.specs.Targets.{AreEntered, AreTargets, AreEntering, AreSources, is_default_at, is_found, may_enter};
 ghost use Rattle.dom_trans.specs.Grants.{granting_rules, grants, default_rules, process, dyntransition, setcurrent, file, entrypoint};
-ghost use Rattle.dom_trans.specs.Transitions.{are_two_types, is_default, entries, is_standard, is_dynamic, defaults_between};
+ghost use Rattle.dom_trans.specs.Transitions.{is_default, entries, is_standard, is_dynamic, defaults_between};
 ghost use Rattle.dom_trans.specs.ReasonLists.{entry_reason, reasons_between};
 ghost use Rattle.dom_trans.specs.RuleLists.{HaveTypeEnds, IsSourceOf, chosen, leads, rules_of};
 
 use crate::grant::Grant;
-use crate::keeping::{kept_rules, push_if};
+use crate::keeping::kept_rules;
 use crate::permission::has_default;
 use crate::reasons::{EntryReason, EntryReasonList, Reasons};
 use pol_bitmap::Set;
 use pol_cursor::{NumberList, OwnedList};
-use pol_datums::Flavour;
-use pol_expand::{TypeMap, is_flavour};
+use pol_expand::TypeMap;
 use pol_read::Policy;
 use pol_rules::RulePart;
-use rule_ends::RuleEnds;
+use rule_ends::{RuleEnds, are_two_types, is_type};
 use std::alloc::{AllocError, Global};
 use std::marker::Model;
 use value_groups::DenseSet;
@@ -93,42 +91,6 @@ impl<'p> DomRules<'p> {
         ensures { result.now ≡ chosen self.now (rules_of self.now grant) }
     {
         &self.lists[grant.place()]
-    }
-
-    // Whether a value is that of a type, and of no attribute.
-    fn is_type(&self, value: u32) -> bool
-        ensures { result ≡ is_type_value self.now value }
-    {
-        1 <= value
-            && value <= self.policy.type_count()
-            && is_flavour(Flavour::Plain, self.policy.symbols().flavour(value))
-    }
-
-    /// The types that are not in a set.
-    pub fn types_outside(&self, alloc: Global, excluded: &Set) -> Result<Set, AllocError>
-        ensures { IfOk result (λ set. bits_of set ≡ types_outside self.now excluded.now) }
-    {
-        let values = self.values_outside(alloc, excluded)?;
-        Set::from_rising(alloc, &values)
-    }
-
-    // Their values, rising.
-    fn values_outside(&self, alloc: Global, excluded: &Set) -> Result<Vec<u32>, AllocError>
-        ensures { IfOk result (λ values. values.items ≡ types_outside self.now excluded.now) }
-    {
-        let mut values = Vec::new(alloc);
-        for i in 0..self.policy.type_count() {
-            let outside = self.is_outside(i + 1, excluded);
-            push_if(&mut values, i + 1, outside)?;
-        }
-        Ok(values)
-    }
-
-    // Whether a value is that of a type that is not in a set.
-    fn is_outside(&self, value: u32, excluded: &Set) -> bool
-        ensures { result ≡ is_outside self.now excluded.now value }
-    {
-        self.is_type(value) && !excluded.has(value)
     }
 
     /// What a type may do.
@@ -203,8 +165,9 @@ impl<'p> DomRules<'p> {
         let numbers = self.list(Grant::Default).between(alloc, a, entry)?;
         let mut found = Vec::new(alloc);
         for number in &numbers {
-            let holds = has_default(b, &self.policy.rule(*number));
-            push_if(&mut found, *number, holds)?;
+            if has_default(b, &self.policy.rule(*number)) {
+                found.push(*number)?;
+            }
         }
         Ok(OwnedList::from_vec(found))
     }
@@ -242,8 +205,9 @@ impl<'p> DomRules<'p> {
         let both = points.common(alloc, &source.executable)?;
         let mut found = Vec::new(alloc);
         for entry in both.bits() {
-            let leads = self.leads(alloc, a, source, b, entry)?;
-            push_if(&mut found, entry, leads)?;
+            if self.leads(alloc, a, source, b, entry)? {
+                found.push(entry)?;
+            }
         }
         Ok(found)
     }
@@ -251,19 +215,12 @@ impl<'p> DomRules<'p> {
 
 // The ways from a type and to a type.
 impl<'p> DomRules<'p> {
-    // Whether two values are those of different types, and of no attributes.
-    fn are_two_types(&self, a: u32, b: u32) -> bool
-        ensures { result ≡ are_two_types self.now a b }
-    {
-        self.is_type(a) && self.is_type(b) && a != b
-    }
-
     // Whether there is a transition by executing a file, of which these are the entries.
     fn is_standard(&self, alloc: Global, a: u32, b: u32, found: &[u32]) -> Result<bool, AllocError>
         requires { found.now ≡ entries self.now a b }
         ensures { IfOk result (λ holds. holds ≡ is_standard self.now a b) }
     {
-        if !self.are_two_types(a, b) {
+        if !are_two_types(self.policy(), a, b) {
             return Ok(false);
         }
         if found.is_empty() {
@@ -277,7 +234,7 @@ impl<'p> DomRules<'p> {
         requires { IsSourceOf self.now a source.now.executable source.now.setexec source.now.setcurrent }
         ensures { IfOk result (λ holds. holds ≡ is_dynamic self.now a b) }
     {
-        if !self.are_two_types(a, b) {
+        if !are_two_types(self.policy(), a, b) {
             return Ok(false);
         }
         if source.setcurrent {
@@ -361,7 +318,7 @@ impl<'p> DomRules<'p> {
         let RulePart::Default(b) = self.policy.rule(number).part else {
             return Ok(None);
         };
-        if !self.is_type(b) {
+        if !is_type(self.policy(), b) {
             return Ok(None);
         }
         if !self.list(Grant::Entrypoint).has_between(alloc, b, entry)? {
@@ -419,8 +376,9 @@ impl<'p> DomRules<'p> {
     {
         let mut found = Vec::new(alloc);
         for a in types.bits() {
-            let enters = self.may_enter(alloc, a, b, points)?;
-            push_if(&mut found, a, enters)?;
+            if self.may_enter(alloc, a, b, points)? {
+                found.push(a)?;
+            }
         }
         Ok(found)
     }
@@ -446,8 +404,9 @@ impl<'p> DomRules<'p> {
         let allowed = self.list(Grant::Dyntransition).sources_of(alloc, b)?;
         let mut found = Vec::new(alloc);
         for a in allowed.bits() {
-            let turns = self.list(Grant::Setcurrent).has_between(alloc, a, a)?;
-            push_if(&mut found, a, turns)?;
+            if self.list(Grant::Setcurrent).has_between(alloc, a, a)? {
+                found.push(a)?;
+            }
         }
         Set::from_rising(alloc, &found)
     }

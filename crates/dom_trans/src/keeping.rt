@@ -123,8 +123,8 @@ impl Kept {
     }
 }
 
-/// Appends a number where a test of it holds.
-pub fn push_if(numbers: &mut Vec<u32>, number: u32, passes: bool) -> Result<(), AllocError>
+// Appends a number where a test of it holds.
+fn push_if(numbers: &mut Vec<u32>, number: u32, passes: bool) -> Result<(), AllocError>
     ensures { OnOk result (GainsWhere number passes numbers.old.items numbers.new.items) }
 {
     if passes {

@@ -9,18 +9,19 @@ use Rattle.pol_rules.specs.StoredRules.{stored_rules}
 use Rattle.rule_order.specs.ListedOrder.{in_rule_order}
 use Rattle.perm_map.specs.PermissionMap.{Weights}
 use Rattle.flow_search.specs.FlowWeights.{greatest}
-use Rattle.flow_search.specs.Flows.{are_two_types, flow_rules, flow_weight, given_by, gives_least, rule_numbers}
+use Rattle.flow_search.specs.Flows.{flow_rules, flow_weight, given_by, gives_least, rule_numbers}
 use Rattle.flow_search.proofs.Giving.{from_order, to_order}
-use Rattle.flow_search.proofs.Members.{any_at, some_at}
+use Rattle.rule_ends.specs.PlainTypes.{are_two_types}
+use Rattle.rule_ends.proofs.Anys.{any_from, any_gives}
 use Rattle.flow_search.proofs.ReachedWeights.{any_map, greatest_reaches}
 
 -- a number that is given to one of some is at most the greatest
 at_most : (g : ℕ → ℕ) (xs : List ℕ) (w x : ℕ) → 1 ≤ w → Contains xs x → leb w (g x) ≡ true → leb w (greatest (map g xs)) ≡ true
-at_most g xs w x some there reaches = greatest_reaches w (map g xs) some ∙ any_map g (leb w) xs ∙ any_at (λ y. leb w (g y)) xs x there reaches
+at_most g xs w x some there reaches = greatest_reaches w (map g xs) some ∙ any_map g (leb w) xs ∙ any_from (λ y. leb w (g y)) xs x there reaches
 
 -- where the greatest reaches a number, one of them does
 reached : (g : ℕ → ℕ) (xs : List ℕ) (w : ℕ) → 1 ≤ w → leb w (greatest (map g xs)) ≡ true → (x : ℕ) × Contains xs x × (leb w (g x) ≡ true)
-reached g xs w some h = some_at (λ y. leb w (g y)) xs (sym (greatest_reaches w (map g xs) some ∙ any_map g (leb w) xs) ∙ h)
+reached g xs w some h = any_gives (λ y. leb w (g y)) xs (sym (greatest_reaches w (map g xs) some ∙ any_map g (leb w) xs) ∙ h)
 
 -- the greatest of some numbers is at most that of others, where what reaches it is among them
 below : (g : ℕ → ℕ) (xs ys : List ℕ) → ((x : ℕ) → 1 ≤ greatest (map g xs) → Contains xs x → leb (greatest (map g xs)) (g x) ≡ true → Contains ys x) → greatest (map g xs) ≤ greatest (map g ys)

@@ -1,7 +1,5 @@
 pub mod Results
 pub mod Masks
-pub mod Members
-pub mod HeldTypes
 pub mod TestOrders
 pub mod ReachedWeights
 pub mod Successors

@@ -1,23 +1,23 @@
 -- Weights that reach a least one.
-use Rattle.std.proofs.Common.{◌≡◌, ℕ, suc, ◌≤◌, max, List, [], ◌∷◌, map, Bool, true, false, ◌&&◌, ◌||◌, cond, leb, refl, sym, ap, ◌∙◌, subst, arith}
+use Rattle.std.proofs.Common.{◌≡◌, ℕ, suc, ◌≤◌, max, List, [], ◌∷◌, map, Bool, true, false, ◌&&◌, ◌||◌, cond, leb, refl, sym, ap, ◌∙◌, arith}
 use Rattle.std.proofs.Math.Path.{fun_ext}
 use Rattle.std.proofs.lemmas.Bool.{false≢true}
 use Rattle.std.proofs.lemmas.Bool.Decides.{nat_tests}
-use Rattle.std.proofs.lemmas.List.Elements.{filter_passes}
 use Rattle.std.proofs.lemmas.List.FromFn.{length-range_with_len}
-use Rattle.std.specs.Prelude.{Option, Some, None, slice_get, slice_index_or, length}
-use Rattle.std.specs.List.{All, filter, fold, list_any}
+use Rattle.std.specs.Prelude.{length}
+use Rattle.std.specs.List.{filter, fold, list_any}
 use Rattle.pol_file.specs.declared.Parts.{Parts}
 use Rattle.pol_symbols.specs.declared.Symbols.{Symbols}
 use Rattle.pol_rules.specs.declared.RuleKind.{RuleKind}
 use Rattle.pol_rules.specs.declared.RuleKind.TheVariants.{Allow, Auditallow, Dontaudit, AllowXperm, AuditallowXperm, DontauditXperm, TypeTransition, TypeChange, TypeMember, RoleAllow, RoleTransition, RangeTransition}
 use Rattle.pol_rules.specs.declared.RulePart.{RulePart}
 use Rattle.pol_rules.specs.StoredRules.{StoredRule, stored_rules}
-use Rattle.rule_ends.specs.ChosenRules.{has_type_ends, is_between_types, joins, passes}
+use Rattle.rule_ends.specs.ChosenRules.{has_type_ends, joins}
+use Rattle.rule_ends.specs.PlainTypes.{are_two_types}
 use Rattle.perm_map.specs.declared.Direction.{Direction}
 use Rattle.perm_map.specs.PermissionMap.{Weights}
 use Rattle.flow_search.specs.FlowWeights.{greatest, inwards, outwards, part_weight, rule_weight}
-use Rattle.flow_search.specs.Flows.{are_two_types, flow_weight, given_by, gives_least, rule_numbers, weight_found, weight_of_rule}
+use Rattle.flow_search.specs.Flows.{flow_weight, given_by, gives_least, rule_numbers, weight_of_rule}
 use Rattle.flow_search.specs.FlowParts.{any_flow, reaches, rules_reaching}
 use Rattle.flow_search.proofs.TestOrders.{split_tests}
 
@@ -112,18 +112,10 @@ typed way weights symbols class TypeChange part least some h = refl
 typed way weights symbols class TypeMember part least some h = refl
 typed way weights symbols class RangeTransition part least some h = refl
 
-typed_rule : (way : Direction → ℕ → ℕ) (weights : Weights) (policy : Parts) (least : ℕ) (found : Option StoredRule) → 1 ≤ least → leb least (weight_found way weights policy found) ≡ true → passes (λ rule. has_type_ends rule.kind) found ≡ true
+-- the ends of a rule that does are types and attributes
+pub reached_types : (way : Direction → ℕ → ℕ) (weights : Weights) (symbols : Symbols) (least : ℕ) (rule : StoredRule) → 1 ≤ least → leb least (rule_weight way weights symbols rule) ≡ true → has_type_ends rule.kind ≡ true
 unfolding rule_weight
-typed_rule way weights policy least None some h = absurd (false≢true (sym (not_le_zero least some) ∙ h))
-typed_rule way weights policy least (Some rule) some h = typed way weights policy.symbols rule.class rule.kind rule.part least some h
-
--- their ends are types and attributes
-pub reaching_types : (way : Direction → ℕ → ℕ) (weights : Weights) (policy : Parts) (least : ℕ) (numbers : List ℕ) → 1 ≤ least → numbers ≡ rules_reaching way weights policy least → All (λ number. is_between_types policy number ≡ true) numbers
-unfolding rules_reaching weight_of_rule
-reaching_types way weights policy least numbers some is =
-    let reaching = filter_passes (reaches way weights policy least) (rule_numbers policy) in
-    subst (All (λ number. is_between_types policy number ≡ true)) (sym is)
-    (λ k d lt. typed_rule way weights policy least (slice_get (stored_rules policy) (slice_index_or (filter (reaches way weights policy least) (rule_numbers policy)) k d)) some (reaching k d lt))
+reached_types way weights symbols least rule some h = typed way weights symbols rule.class rule.kind rule.part least some h
 
 kept_short : (p : ℕ → Bool) (xs : List ℕ) → length (filter p xs) ≤ length xs
 kept_short p [] = omega arith

@@ -1,23 +1,22 @@
 -- The successors of a node.
 use Rattle.std.proofs.Common.{◌≡◌, ◌⊎◌, inl, inr, ◌↔◌, ℕ, ◌+◌, ◌<◌, ◌≤◌, List, [], ◌∷◌, Bool, true, false, ◌&&◌, ◌||◌, cond, not, eqb, refl, sym, ap, ◌∙◌, subst, arith}
+use Rattle.std.specs.Prelude.{IsTrue}
 use Rattle.std.specs.List.{Contains, filter, range_with_len}
 use Rattle.std.proofs.lemmas.Bool.{and_from, and_parts, or_cases, or_left, or_right, eq-eqb, eqb-true, false≢true}
 use Rattle.pol_bitmap.specs.declared.Node.{Node}
 use Rattle.pol_bitmap.specs.Nodes.{bits_of, has_bit}
 use Rattle.pol_bitmap.specs.Sets.{IsCommon, IsDifference, IsUnion}
-use Rattle.pol_bitmap.proofs.BitLists.{bits-from_has_bit, has_bit-from_bits}
 use Rattle.pol_file.specs.declared.Parts.{Parts}
 use Rattle.pol_expand.proofs.Values.{same_tests}
 use Rattle.walk_enum.specs.Walks.{AreEnds}
 use Rattle.walk_enum.proofs.Elements.{from_filter, in_cases, in_filter, in_first, in_range, not_in_nothing, passes_filter, range_high}
 use Rattle.rule_ends.specs.ChosenRules.{ChosenRules, any_joins, sources_to, targets_from}
-use Rattle.rule_ends.specs.EndTables.{is_type_value}
+use Rattle.rule_ends.specs.PlainTypes.{are_two_types, is_type_value, types_outside}
+use Rattle.rule_ends.proofs.TypesOutside.{in_outside, type_within}
 use Rattle.perm_map.specs.PermissionMap.{Weights, weights_of}
 use Rattle.flow_search.specs.FlowWeights.{inwards, outwards}
-use Rattle.flow_search.specs.Flows.{are_two_types}
 use Rattle.flow_search.specs.FlowEdges.{FlowSearch, flow_edge, is_flow}
-use Rattle.flow_search.specs.FlowParts.{AreFlowRules, AreJoined, AreOpen, IsOpenPart, any_edge, any_flow, is_open, is_successor, rules_reaching}
-use Rattle.flow_search.specs.EdgesBetween.{within}
+use Rattle.flow_search.specs.FlowParts.{AreFlowRules, AreJoined, IsOpenPart, any_edge, any_flow, is_open, is_successor, rules_reaching}
 use Rattle.flow_search.proofs.ReachedWeights.{flow_reaches}
 use Rattle.flow_search.proofs.TestOrders.{ahead_tests, back_tests}
 
@@ -115,35 +114,18 @@ there_not : (b : Bool) → not b ≡ true → b ≡ true → ⊥
 there_not true h k = false≢true h
 there_not false h k = false≢true k
 
--- the types without those that are excluded
-pub open_are : (policy : Parts) (types excluded open_types : List Node) → bits_of types ≡ filter (is_type_value policy) (range_with_len 1 policy.symbols.types.nprim) → IsDifference (bits_of types) (bits_of excluded) (bits_of open_types) → AreOpen policy excluded open_types
-open_are policy types excluded open_types is difference = record {
-  each = λ value. same_tests (has_bit open_types value) (is_type_value policy value && not (has_bit excluded value)) (to value) (back value);
-}
-  where
-    to : (value : ℕ) → has_bit open_types value ≡ true → (is_type_value policy value && not (has_bit excluded value)) ≡ true
-    to value h =
-        let parts = (difference.each value).0 (bits-from_has_bit open_types value h) in
-        and_from (is_type_value policy value) (not (has_bit excluded value))
-        (passes_filter (is_type_value policy) (range_with_len 1 policy.symbols.types.nprim) value (subst (λ (xs : List ℕ). Contains xs value) is parts.0))
-        (not_there (has_bit excluded value) (λ e. parts.1 (bits-from_has_bit excluded value e)))
-
-    back : (value : ℕ) → (is_type_value policy value && not (has_bit excluded value)) ≡ true → has_bit open_types value ≡ true
-    back value h =
-        let parts = and_parts (is_type_value policy value) (not (has_bit excluded value)) h in
-        let range = within policy value parts.0 in
-        let among = in_filter (is_type_value policy) (range_with_len 1 policy.symbols.types.nprim) value parts.0 (in_range policy.symbols.types.nprim value range.0 range.1) in
-        has_bit-from_bits open_types value ((difference.each value).1 (
-          subst (λ (xs : List ℕ). Contains xs value) (sym is) among,
-          λ e. there_not (has_bit excluded value) parts.1 (has_bit-from_bits excluded value e),
-        ))
+-- what the set of the types that may be an end answers
+pub has_open : (search : FlowSearch) (open_types : List Node) (node : ℕ) (has : Bool) → bits_of open_types ≡ types_outside search.policy search.excluded → IsTrue has ↔ Contains (bits_of open_types) node → has ≡ is_open search node
+has_open search open_types node has are is =
+    let among = in_outside search.policy search.excluded open_types node are in
+    same_tests has (is_open search node) (λ h. among.0 (is.0 h)) (λ h. is.1 (among.1 h))
 
 -- what some types have in common with them
-pub open_part : (search : FlowSearch) (open_types : List Node) (types part : List ℕ) → AreOpen search.policy search.excluded open_types → IsCommon types (bits_of open_types) part → IsOpenPart search types part
+pub open_part : (search : FlowSearch) (open_types : List Node) (types part : List ℕ) → bits_of open_types ≡ types_outside search.policy search.excluded → IsCommon types (bits_of open_types) part → IsOpenPart search types part
 open_part search open_types types part are common = record {
   each = λ value. (
-    λ h. (let parts = (common.each value).0 h in (parts.0, sym (are.each value) ∙ has_bit-from_bits open_types value parts.1)),
-    λ h. (common.each value).1 (h.0, bits-from_has_bit open_types value (are.each value ∙ h.1)),
+    λ h. (let parts = (common.each value).0 h in (parts.0, (in_outside search.policy search.excluded open_types value are).0 parts.1)),
+    λ h. (common.each value).1 (h.0, (in_outside search.policy search.excluded open_types value are).1 h.1),
   );
 }
 
@@ -173,7 +155,7 @@ ends_are search node joined part found some may are open_joined difference = rec
           let both = and_parts (is_successor search node other) (any_edge search node other) parts.1 in
           let apart = and_parts (not (eqb other node)) (is_open search other) both.0 in
           let type = and_parts (is_type_value search.policy other) (not (has_bit search.excluded other)) apart.1 in
-          let range = within search.policy other type.0 in
+          let range = type_within search.policy other type.0 in
           (difference.each other).1 ((open_joined.each other).1 ((are.each other).1 (range.0, range.1, both.1), apart.1), apart_other node other apart.0)),
     )
 

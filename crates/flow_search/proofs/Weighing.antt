@@ -14,12 +14,16 @@ use Rattle.pol_symbols.specs.declared.Symbols.{Symbols}
 use Rattle.pol_symbols.specs.PolicySymbols.{index_in, permissions_of}
 use Rattle.pol_symbols.proofs.SymbolSearch.{primary_found, primary_is_within, primary_missing}
 use Rattle.pol_expand.proofs.Values.{range_more}
+use Rattle.pol_file.specs.declared.Parts.{Parts}
+use Rattle.pol_rules.specs.StoredRules.{StoredRule, stored_rules}
 use Rattle.perm_map.specs.declared.Direction.{Direction}
-use Rattle.perm_map.specs.PermissionMap.{Weights}
+use Rattle.perm_map.specs.PermissionMap.{Entry, Weights, weights_of}
 use Rattle.flow_search.specs.declared.class_weights.PermissionWeight.{PermissionWeight}
-use Rattle.flow_search.specs.FlowWeights.{class_of, greatest, has_permission, inwards, mask_weight, outwards, permission_weight}
+use Rattle.flow_search.specs.FlowWeights.{class_of, greatest, has_permission, inwards, mask_weight, outwards, permission_weight, rule_weight}
+use Rattle.flow_search.specs.Flows.{weight_found, weight_of_rule}
+use Rattle.flow_search.specs.FlowParts.{reaches}
 use Rattle.flow_search.specs.declared.reach_bits.ReachBits.{ReachBits}
-use Rattle.flow_search.specs.WeightTables.{AreBitsOf, AreReachBits, AreWeights, HaveReachBits, class_weights, greatest_into, greatest_out, is_in, shares_bit, weighed}
+use Rattle.flow_search.specs.WeightTables.{AreBitsOf, AreReachBits, AreWeights, HaveReachBits, Reached, class_weights, greatest_into, greatest_out, is_in, shares_bit, weighed}
 use Rattle.flow_search.proofs.Masks.{no_bits}
 use Rattle.flow_search.proofs.ReachedWeights.{le_max, not_le_zero}
 
@@ -55,6 +59,21 @@ pub reaching_more : (p : ℕ → Bool) (n : ℕ) → filter p (range_with_len 0 
 reaching_more p n =
     let e : 0 + n ≡ n = omega arith in
     ap (filter p) (range_more 0 n ∙ ap (λ (x : ℕ). range_with_len 0 n ++ x ∷ []) e) ∙ filter-append p (range_with_len 0 n) (n ∷ [])
+
+-- one rule more, where it reaches a weight
+pub reached_more : (way : Direction → ℕ → ℕ) (weights : Weights) (policy : Parts) (least number : ℕ) (rule : StoredRule) (holds : Bool) (old new : List ℕ) → slice_get (stored_rules policy) number ≡ Some rule → old ≡ filter (reaches way weights policy least) (range_with_len 0 number)
+    → holds ≡ leb least (rule_weight way weights policy.symbols rule) → new ≡ old ++ cond holds (number ∷ []) [] → new ≡ filter (reaches way weights policy least) (range_with_len 0 (number + 1))
+unfolding weight_of_rule
+reached_more way weights policy least number rule holds old new at was is more =
+    more ∙ ap (λ (xs : List ℕ). xs ++ cond holds (number ∷ []) []) was
+    ∙ ap (λ (test : Bool). filter (reaches way weights policy least) (range_with_len 0 number) ++ cond test (number ∷ []) []) (is ∙ ap (λ (found : Option StoredRule). leb least (weight_found way weights policy found)) (sym at))
+    ∙ sym (reaching_more (reaches way weights policy least) number)
+
+-- what a test of a least weight answers of a rule
+pub by_test : (way : Direction → ℕ → ℕ) (test : Reached) (entries : List Entry) (policy own : Parts) (least : ℕ) (rule : StoredRule) (holds : Bool) → test ≡ record { policy = own; entries = entries; least = least } → policy ≡ own
+    → holds ≡ leb test.least (rule_weight way (weights_of test.entries) test.policy.symbols rule) → holds ≡ leb least (rule_weight way (weights_of entries) policy.symbols rule)
+by_test way test entries policy own least rule holds made same is =
+    is ∙ ap (λ (t : Reached). leb t.least (rule_weight way (weights_of t.entries) t.policy.symbols rule)) made ∙ ap (λ (p : Parts). leb least (rule_weight way (weights_of entries) p.symbols rule)) (sym same)
 
 -- ---- permissions
 

@@ -4,7 +4,8 @@ use Rattle.pol_bitmap.specs.declared.Node.{Node}
 use Rattle.pol_bitmap.specs.Nodes.{has_bit}
 use Rattle.pol_file.specs.declared.Parts.{Parts}
 use Rattle.perm_map.specs.PermissionMap.{Entry, weights_of}
-use Rattle.flow_search.specs.Flows.{are_two_types, flow_weight}
+use Rattle.rule_ends.specs.PlainTypes.{are_two_types}
+use Rattle.flow_search.specs.Flows.{flow_weight}
 
 -- What a caller sees: a policy and the entries of a permission map, the least weight that counts, the types that no edge joins, and whether the edges are
 -- turned round.

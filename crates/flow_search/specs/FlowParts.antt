@@ -2,11 +2,9 @@
 use Rattle.std.specs.Prelude.{◌≡◌, ◌↔◌, ℕ, ◌≤◌, Bool, true, ◌||◌, nat_le, List, ◌&&◌, ◌==◌, not, Contains, if◌then◌else◌}
 use Rattle.std.specs.List.{filter}
 use Rattle.std.specs.List.Sorted.{IsStrictlyIncreasing}
-use Rattle.pol_bitmap.specs.declared.Node.{Node}
-use Rattle.pol_bitmap.specs.Nodes.{has_bit}
 use Rattle.pol_file.specs.declared.Parts.{Parts}
 use Rattle.rule_ends.specs.ChosenRules.{ChosenRules, any_joins}
-use Rattle.rule_ends.specs.EndTables.{is_type_value}
+use Rattle.rule_ends.specs.PlainTypes.{is_type_outside}
 use Rattle.perm_map.specs.declared.Direction.{Direction}
 use Rattle.perm_map.specs.PermissionMap.{Weights, weights_of}
 use Rattle.flow_search.specs.FlowWeights.{inwards, outwards}
@@ -46,11 +44,7 @@ pub record AreJoined (policy : Parts) (test : ℕ → Bool) (found : List ℕ) :
 
 -- a type that is not excluded
 abbrev pub is_open : FlowSearch → ℕ → Bool
-is_open search node = is_type_value search.policy node && not (has_bit search.excluded node)
-
--- the set of all such types
-pub record AreOpen (policy : Parts) (excluded open_types : List Node) : Type 0 where
-  pub each : (value : ℕ) → has_bit open_types value ≡ (is_type_value policy value && not (has_bit excluded value))
+is_open search node = is_type_outside search.policy search.excluded node
 
 -- those among some types
 pub record IsOpenPart (search : FlowSearch) (types part : List ℕ) : Type 0 where

@@ -1,11 +1,11 @@
 -- The flows between the types of a policy, by a permission map.
-use Rattle.std.specs.Prelude.{ℕ, Bool, ◌&&◌, ◌==◌, not, nat_le, max, Option, Some, None, List, [], length, map, slice_get, if◌then◌else◌}
+use Rattle.std.specs.Prelude.{ℕ, Bool, nat_le, max, Option, Some, None, List, [], length, map, slice_get, if◌then◌else◌}
 use Rattle.std.specs.List.{filter, range_with_len}
 use Rattle.pol_file.specs.declared.Parts.{Parts}
 use Rattle.pol_rules.specs.StoredRules.{StoredRule, stored_rules}
 use Rattle.rule_order.specs.ListedOrder.{in_rule_order}
 use Rattle.rule_ends.specs.ChosenRules.{joins}
-use Rattle.rule_ends.specs.EndTables.{is_type_value}
+use Rattle.rule_ends.specs.PlainTypes.{are_two_types}
 use Rattle.perm_map.specs.declared.Direction.{Direction}
 use Rattle.perm_map.specs.PermissionMap.{Weights}
 use Rattle.flow_search.specs.FlowWeights.{greatest, inwards, outwards, rule_weight}
@@ -32,10 +32,6 @@ unfoldable pub given_by : Weights → Parts → ℕ → ℕ → ℕ → ℕ
 given_by weights policy from to number =
     max (if joins policy from to number then weight_of_rule outwards weights policy number else 0)
     (if joins policy to from number then weight_of_rule inwards weights policy number else 0)
-
--- two values of types, and of no attributes, that are not the same
-abbrev pub are_two_types : Parts → ℕ → ℕ → Bool
-are_two_types policy a b = is_type_value policy a && is_type_value policy b && not (a == b)
 
 -- the weight of the flow from a type to another: the greatest that a rule gives; for any other two values it is 0
 unfoldable pub flow_weight : Weights → Parts → ℕ → ℕ → ℕ

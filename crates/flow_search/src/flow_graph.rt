@@ -9,16 +9,14 @@ ghost use Rattle.flow_search.specs.Flows.{flow_rules, flow_weight, gives_least, 
 ghost use Rattle.flow_search.specs.FlowEdges.{flow_edge};
 ghost use Rattle.flow_search.specs.FlowParts.{any_edge, any_flow, is_open, AreDistinct, AreJoined, IsOpenPart};
 
-use crate::holding::are_two_types;
 use crate::node_sets::{either, without};
-use crate::open_types::open_types;
 use crate::reaching::rules_reaching;
 use crate::weigher::Weigher;
 use perm_map::PermMap;
 use pol_bitmap::Set;
 use pol_expand::TypeMap;
 use pol_read::Policy;
-use rule_ends::RuleEnds;
+use rule_ends::{RuleEnds, are_two_types, types_outside};
 use rule_order::sort_by_rule_order;
 use std::alloc::{AllocError, Global};
 use std::marker::Model;
@@ -45,16 +43,18 @@ pub struct FlowGraph<'p> {
 }
 
 impl<'p> Model for FlowGraph<'p> {
-    ghost use Rattle.std.specs.Prelude.{◌≤◌};
+    ghost use Rattle.std.specs.Prelude.{◌≡◌, ◌≤◌};
+    ghost use Rattle.pol_bitmap.specs.Nodes.{bits_of};
+    ghost use Rattle.rule_ends.specs.PlainTypes.{types_outside};
     ghost use Rattle.perm_map.specs.PermissionMap.{weights_of};
     ghost use Rattle.flow_search.specs.FlowEdges.{FlowSearch};
-    ghost use Rattle.flow_search.specs.FlowParts.{AreFlowRules, AreOpen};
+    ghost use Rattle.flow_search.specs.FlowParts.{AreFlowRules};
 
     ghost Value = { FlowSearch };
 
     ghost view = { λ g. record { policy = g.weigher.policy; entries = g.weigher.entries; least = g.least; excluded = g.excluded; reverse = g.reverse } };
 
-    ghost invariant = { λ g. (1 ≤ g.least) × AreFlowRules (weights_of g.weigher.entries) g.weigher.policy g.least g.out g.into × AreOpen g.weigher.policy g.excluded g.open_types };
+    ghost invariant = { λ g. (1 ≤ g.least) × AreFlowRules (weights_of g.weigher.entries) g.weigher.policy g.least g.out g.into × (bits_of g.open_types ≡ types_outside g.weigher.policy g.excluded) };
 }
 
 impl<'p> FlowGraph<'p> {
@@ -75,9 +75,9 @@ impl<'p> FlowGraph<'p> {
         let weigher = Weigher::new(alloc, policy, map)?;
         let found = rules_reaching(alloc, &weigher, least)?;
         Ok(FlowGraph {
-            out: RuleEnds::build(alloc, policy, types, found.out)?,
-            into: RuleEnds::build(alloc, policy, types, found.into)?,
-            open_types: open_types(alloc, policy, excluded)?,
+            out: RuleEnds::of_gathered(alloc, policy, types, found.out)?,
+            into: RuleEnds::of_gathered(alloc, policy, types, found.into)?,
+            open_types: types_outside(alloc, policy, excluded)?,
             excluded: excluded.share()?,
             weigher,
             least,

@@ -7,9 +7,7 @@
 
 mod class_weights;
 mod flow_graph;
-mod holding;
 mod node_sets;
-mod open_types;
 mod reach_bits;
 mod reach_test;
 mod reaching;

@@ -1,13 +1,12 @@
-ghost use Rattle.std.specs.Prelude.{◌≡◌, ◌≤◌, ◌<◌, IfOk, length, nat_le};
+ghost use Rattle.std.specs.Prelude.{◌≡◌, ◌≤◌, IfOk, nat_le};
 ghost use Rattle.pol_rules.specs.declared.RuleKind.TheVariants.{Allow};
-ghost use Rattle.pol_rules.specs.StoredRules.{stored, stored_rules};
+ghost use Rattle.pol_rules.specs.StoredRules.{stored};
 ghost use Rattle.perm_map.specs.PermissionMap.{weights_of};
 ghost use Rattle.flow_search.specs.FlowWeights.{class_of, inwards, mask_weight, outwards, part_weight, rule_weight};
-ghost use Rattle.flow_search.specs.FlowParts.{reaches};
 
 use crate::reach_bits::{ReachBits, Ways};
 use crate::weigher::Weigher;
-use pol_read::{Policy, Rule, RuleKind, RulePart};
+use pol_read::{Rule, RuleKind, RulePart};
 use std::alloc::{AllocError, Global};
 use std::marker::Model;
 
@@ -86,9 +85,9 @@ impl<'w, 'p> ReachTest<'w, 'p> {
         }
     }
 
-    // Which ways a rule flows.
+    /// Which ways a rule flows.
     #[tactic(auto, unfolding(crate::specs::FlowWeights::rule_weight))]
-    fn ways_of_rule(&self, rule: &Rule<'_>) -> Ways
+    pub fn ways(&self, rule: &Rule<'_>) -> Ways
         ensures out { result.out ≡ nat_le self.now.least (rule_weight outwards (weights_of self.now.entries) self.now.policy.symbols (stored rule.now)) }
         ensures into { result.into ≡ nat_le self.now.least (rule_weight inwards (weights_of self.now.entries) self.now.policy.symbols (stored rule.now)) }
     {
@@ -96,15 +95,5 @@ impl<'w, 'p> ReachTest<'w, 'p> {
             RuleKind::Allow => self.ways_of_part(rule.class, &rule.part),
             _ => self.neither(),
         }
-    }
-
-    /// Which ways the rule of that number flows.
-    #[tactic(auto, unfolding(crate::specs::Flows::weight_of_rule))]
-    pub fn ways(&self, number: u32) -> Ways
-        requires { number < length (stored_rules self.now.policy) }
-        ensures out { result.out ≡ reaches outwards (weights_of self.now.entries) self.now.policy self.now.least number }
-        ensures into { result.into ≡ reaches inwards (weights_of self.now.entries) self.now.policy self.now.least number }
-    {
-        self.ways_of_rule(&self.weigher.policy().rule(number))
     }
 }

@@ -7,12 +7,12 @@ ghost use Rattle.flow_search.specs.Flows.{flow_weight, given_by, weight_of_rule}
 ghost use Rattle.flow_search.specs.WeightTables.{AreBitsOf, AreWeights, HaveReachBits, greatest_into, greatest_out};
 
 use crate::class_weights::{ClassWeights, RuleWeights};
-use crate::holding::{are_two_types, is_rule_from_to};
 use crate::reach_bits::ReachBits;
 use perm_map::PermMap;
 use pol_cursor::TableKind;
 use pol_read::{Policy, Rule, RuleKind, RulePart};
 use pol_symbols::Symbols;
+use rule_ends::{are_two_types, is_rule_from_to};
 use std::alloc::{AllocError, Global};
 use std::marker::Model;
 

@@ -77,15 +77,14 @@ passes_within policy test number e = go (slice_get (stored_rules policy) number)
     go None at t = absurd (false≢true t)
     go (Some rule) at t = slice_get_within (stored_rules policy) number rule at
 
-pub source_is_end : (policy : Parts) (number : ℕ) (rule : StoredRule) → HasTypeValues policy → is_between_types policy number ≡ true → slice_get (stored_rules policy) number ≡ Some rule → IsDeclaredRule policy rule → IsEnd policy rule.source
-source_is_end policy number rule has e at declared =
-    let types : has_type_ends rule.kind ≡ true = ap (passes (λ (r : StoredRule). has_type_ends r.kind)) (sym at) ∙ e in
-    is_end policy rule.source has (subst (λ (table : TableKind). IsDeclaredIn policy.symbols table rule.source) (source_is_type rule.kind types) declared.source)
+pub type_ends : (policy : Parts) (number : ℕ) (rule : StoredRule) → is_between_types policy number ≡ true → slice_get (stored_rules policy) number ≡ Some rule → has_type_ends rule.kind ≡ true
+type_ends policy number rule e at = ap (passes (λ (r : StoredRule). has_type_ends r.kind)) (sym at) ∙ e
 
-pub target_is_end : (policy : Parts) (number : ℕ) (rule : StoredRule) → HasTypeValues policy → is_between_types policy number ≡ true → slice_get (stored_rules policy) number ≡ Some rule → IsDeclaredRule policy rule → IsEnd policy rule.target
-target_is_end policy number rule has e at declared =
-    let types : has_type_ends rule.kind ≡ true = ap (passes (λ (r : StoredRule). has_type_ends r.kind)) (sym at) ∙ e in
-    is_end policy rule.target has (subst (λ (table : TableKind). IsDeclaredIn policy.symbols table rule.target) (target_is_type rule.kind types) declared.target)
+pub source_is_end : (policy : Parts) (rule : StoredRule) → HasTypeValues policy → has_type_ends rule.kind ≡ true → IsDeclaredRule policy rule → IsEnd policy rule.source
+source_is_end policy rule has types declared = is_end policy rule.source has (subst (λ (table : TableKind). IsDeclaredIn policy.symbols table rule.source) (source_is_type rule.kind types) declared.source)
+
+pub target_is_end : (policy : Parts) (rule : StoredRule) → HasTypeValues policy → has_type_ends rule.kind ≡ true → IsDeclaredRule policy rule → IsEnd policy rule.target
+target_is_end policy rule has types declared = is_end policy rule.target has (subst (λ (table : TableKind). IsDeclaredIn policy.symbols table rule.target) (target_is_type rule.kind types) declared.target)
 
 pub its_ends : (policy : Parts) (number : ℕ) (rule : StoredRule) → slice_get (stored_rules policy) number ≡ Some rule → rule_passes policy (has_ends rule.source rule.target) number ≡ true
 its_ends policy number rule at = ap (passes (has_ends rule.source rule.target)) at ∙ and_from (rule.source == rule.source) (rule.target == rule.target) (eq-eqb rule.source rule.source refl) (eq-eqb rule.target rule.target refl)
@@ -122,3 +121,9 @@ ends_more policy rules sources targets number source target are passed is_source
   sources_are = All-push (IsEnd policy) sources source are.sources_are is_source;
   targets_are = All-push (IsEnd policy) targets target are.targets_are is_target;
 }
+
+-- one rule more, with its ends
+pub gathered_more : (policy : Parts) (rules sources targets new_rules new_sources new_targets : List ℕ) (number : ℕ) (rule : StoredRule) → HasTypeValues policy → AreEndsOf policy rules sources targets → slice_get (stored_rules policy) number ≡ Some rule
+    → IsDeclaredRule policy rule → has_type_ends rule.kind ≡ true → new_rules ≡ rules ++ number ∷ [] → new_sources ≡ sources ++ rule.source ∷ [] → new_targets ≡ targets ++ rule.target ∷ [] → AreEndsOf policy new_rules new_sources new_targets
+gathered_more policy rules sources targets new_rules new_sources new_targets number rule has are at declared types r s t =
+    rw (r, s, t) (ends_more policy rules sources targets number rule.source rule.target are (its_ends policy number rule at) (source_is_end policy rule has types declared) (target_is_end policy rule has types declared))

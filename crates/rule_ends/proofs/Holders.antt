@@ -1,8 +1,9 @@
 -- The types and attributes that expand to a type are the type itself and the attributes of its row.
 use Rattle.std.proofs.Common.{◌≡◌, ℕ, ◌+◌, ◌-◌, ◌<◌, ◌≤◌, Bool, true, false, List, [], ◌∷◌, Option, Some, None, Result, Ok, Err, IfOk, get_or, refl, sym, ap, subst, ◌∙◌, inl, inr, arith}
-use Rattle.std.specs.Prelude.{◌==◌, ◌&&◌, ◌||◌, nat_le, nat_lt, is_some}
+use Rattle.std.specs.Prelude.{◌==◌, ◌&&◌, ◌||◌, nat_le, nat_lt, is_some, option_map}
 use Rattle.std.specs.List.{All, Contains, filter, list_any, range_with_len}
 use Rattle.std.proofs.lemmas.Bool.{false≢true, cases_Bool, eq-eqb, eqb-true, and_parts, and_from, or_cases, or_left, or_right, le-leb, leb-true, lt-ltb, cond-true, cond-false}
+use Rattle.pol_cursor.specs.References.{Placed}
 use Rattle.pol_bitmap.specs.declared.Node.{Node}
 use Rattle.pol_bitmap.specs.Nodes.{bits_of, has_bit}
 use Rattle.pol_bitmap.specs.Sets.{IsSet}
@@ -16,14 +17,16 @@ use Rattle.pol_symbols.specs.PolicySymbols.{flavour_in}
 use Rattle.pol_file.specs.declared.Parts.{Parts}
 use Rattle.pol_expand.specs.Expansion.{Expansions, IsDeclared, IsTouching, expansion}
 use Rattle.pol_expand.specs.Flavours.{is_flavour}
-use Rattle.pol_expand.specs.PolicyMap.{IsPolicyMap, has_flavour, row_in, expand, values_of_flavour}
+use Rattle.pol_expand.specs.PolicyMap.{IsPolicyMap, has_flavour, row_found, row_in, expand, values_of_flavour}
 use Rattle.pol_expand.proofs.PolicyMaps.{declared_in}
 use Rattle.pol_expand.proofs.Values.{same_tests}
 use Rattle.value_groups.specs.Marking.{is_among, with_value}
 use Rattle.value_groups.proofs.Words.{among_bits, nodes_pass}
 use Rattle.rule_ends.specs.ChosenRules.{holds_type}
-use Rattle.rule_ends.specs.EndTables.{IsEnd, has_places, holds_any, is_type_value, is_attribute_bit}
+use Rattle.rule_ends.specs.EndTables.{IsEnd, has_places, holds_any, is_attribute_bit}
+use Rattle.rule_ends.specs.PlainTypes.{is_type_value}
 use Rattle.rule_ends.proofs.Anys.{any_gives, any_from, among_contains, contains_among, or_false}
+use Rattle.rule_ends.proofs.TypesOutside.{type_parts}
 
 -- what a value is, where it is not an attribute
 plain_end : (declared : Option Flavour) → is_some declared ≡ true → is_flavour Attribute declared ≡ false → is_flavour Plain declared ≡ true
@@ -54,12 +57,6 @@ of_type policy value e = cond-false (has_flavour policy.symbols Attribute value)
 is_type_of : (policy : Parts) (node : ℕ) → 1 ≤ node → node ≤ policy.symbols.types.nprim → has_flavour policy.symbols Plain node ≡ true → is_type_value policy node ≡ true
 is_type_of policy node least most plain =
     and_from (nat_le 1 node && nat_le node policy.symbols.types.nprim) (has_flavour policy.symbols Plain node) (and_from (nat_le 1 node) (nat_le node policy.symbols.types.nprim) (le-leb 1 node least) (le-leb node policy.symbols.types.nprim most)) plain
-
-type_parts : (policy : Parts) (node : ℕ) → is_type_value policy node ≡ true → (1 ≤ node) × (node ≤ policy.symbols.types.nprim) × (has_flavour policy.symbols Plain node ≡ true)
-type_parts policy node e =
-    let outer = and_parts (nat_le 1 node && nat_le node policy.symbols.types.nprim) (has_flavour policy.symbols Plain node) e in
-    let inner = and_parts (nat_le 1 node) (nat_le node policy.symbols.types.nprim) outer.0 in
-    (leb-true 1 node inner.0, leb-true node policy.symbols.types.nprim inner.1, outer.1)
 
 -- a bit of an attribute's value
 bit_parts : (policy : Parts) (groups : List (List ℕ)) (value bit : ℕ) → is_attribute_bit policy groups value bit ≡ true → (has_flavour policy.symbols Attribute value ≡ true) × (bit ≡ value - 1)
@@ -156,19 +153,45 @@ expands_within policy value is =
       | inr none ↦ All-same P (expand policy value) (value ∷ []) (of_type policy value none) (All-cons P value [] (is.within.0, omega (arith, is.within.1)) (All-nil P))
     ]
 
+-- ---- whether an end expands to a type
+
+-- the row of a type value, as it is found
+pub row_is : (found : Option (Placed (List Node))) (row : List Node) → option_map (λ row. row.value) found ≡ Some row → row_found found ≡ row
+row_is None row h = absurd cc
+row_is (Some r) row h = cc
+
+-- an attribute expands to the types whose rows have its bit
+pub holds_attribute : (policy : Parts) (end value : ℕ) → has_flavour policy.symbols Attribute end ≡ true → (is_type_value policy value && has_bit (row_in policy value) (end - 1)) ≡ holds_type policy end value
+unfolding holds_type
+holds_attribute policy end value attribute =
+    let n = policy.symbols.types.nprim in
+    let plain = has_flavour policy.symbols Plain value in
+    let has = has_bit (row_in policy value) (end - 1) in
+    let test : ℕ → Bool = λ type. has_flavour policy.symbols Plain type && has_bit (row_in policy type) (end - 1) in
+    let types = filter test (range_with_len 1 n) in
+    same_tests (is_type_value policy value && has) (is_among types value)
+    (λ h. (let parts = and_parts (is_type_value policy value) has h in
+    let type = type_parts policy value parts.0 in
+    contains_among types value (keeps test (range_with_len 1 n) value (contains_range 1 n value type.0 (omega (arith, type.1))) (and_from plain has type.2 parts.1))))
+    (λ h. (let there = kept test (range_with_len 1 n) value (among_contains types value h) in
+    let passes = and_parts plain has there.1 in
+    let range = within_range n value there.0 in
+    and_from (is_type_value policy value) has (is_type_of policy value range.0 range.1 passes.0) passes.1))
+    ∙ ap (λ (xs : List ℕ). is_among xs value) (sym (of_attribute policy end attribute))
+
+-- any other end expands to itself
+pub holds_itself : (policy : Parts) (end value : ℕ) → has_flavour policy.symbols Attribute end ≡ false → (end == value) ≡ holds_type policy end value
+unfolding holds_type
+holds_itself policy end value plain = sym (ap (λ (xs : List ℕ). is_among xs value) (of_type policy end plain) ∙ or_false (end == value))
+
 pub held_among : (policy : Parts) (value type : ℕ) (bits : List ℕ) → bits ≡ expand policy value → is_among bits type ≡ holds_type policy value type
 unfolding holds_type
 held_among policy value type bits e = ap (λ (xs : List ℕ). is_among xs type) e
 
 -- a type expands to itself
 pub held_alone : (policy : Parts) (value type : ℕ) → is_type_value policy value ≡ true → (value == type) ≡ holds_type policy value type
-unfolding holds_type
 held_alone policy value type is =
-    let none : has_flavour policy.symbols Attribute value ≡ false = not_true (has_flavour policy.symbols Attribute value) (plain_is_no_attribute (flavour_in policy.symbols value) (type_parts policy value is).2) in
-    sym (ap (λ (xs : List ℕ). is_among xs type) (of_type policy value none) ∙ or_false (value == type))
-
-pub type_within : (policy : Parts) (value : ℕ) → is_type_value policy value ≡ true → value ≤ policy.symbols.types.nprim
-type_within policy value is = (type_parts policy value is).1
+    holds_itself policy value type (not_true (has_flavour policy.symbols Attribute value) (plain_is_no_attribute (flavour_in policy.symbols value) (type_parts policy value is).2))
 
 -- what some ends expand to is within the policy's types
 pub held_within : (policy : Parts) (ends : List ℕ) (type : ℕ) → All (IsEnd policy) ends → list_any (λ end. holds_type policy end type) ends ≡ true → (1 ≤ type) × (type < 1 + policy.symbols.types.nprim)

@@ -1,5 +1,6 @@
 pub mod Anys
 pub mod Ends
 pub mod Steps
+pub mod TypesOutside
 pub mod Holders
 pub mod Found

@@ -1,7 +1,7 @@
 -- The ends of chosen rules, by the places of the rules in their list. It serves the code alone.
-use Rattle.std.specs.Prelude.{◌≡◌, ℕ, ◌+◌, ◌<◌, ◌==◌, nat_le, nat_lt, ◌&&◌, Bool, true, List, length, map, not, is_some, slice_index}
+use Rattle.std.specs.Prelude.{◌≡◌, ℕ, ◌+◌, ◌<◌, ◌==◌, nat_lt, ◌&&◌, Bool, true, List, length, map, not, is_some, slice_index}
 use Rattle.std.specs.List.{All, filter, flat_map, list_any}
-use Rattle.pol_datums.specs.declared.Flavour.TheVariants.{Plain, Attribute}
+use Rattle.pol_datums.specs.declared.Flavour.TheVariants.{Attribute}
 use Rattle.pol_symbols.specs.PolicySymbols.{flavour_in}
 use Rattle.pol_file.specs.declared.Parts.{Parts}
 use Rattle.pol_file.specs.TypeValues.{IsTypeValue}
@@ -49,10 +49,6 @@ abbrev pub is_other_end : List ℕ → (ℕ → List ℕ) → List ℕ → ℕ �
 is_other_end others groups from value = list_any (λ end. list_any (λ place. slice_index others place == value) (groups end)) from
 
 -- ---- the ends that hold a type
-
--- a value is that of a type, and of no attribute
-abbrev pub is_type_value : Parts → ℕ → Bool
-is_type_value policy value = nat_le 1 value && nat_le value policy.symbols.types.nprim && has_flavour policy.symbols Plain value
 
 -- a rule has a value as its end
 abbrev pub has_places : List (List ℕ) → ℕ → Bool

@@ -5,8 +5,9 @@ ghost use Rattle.pol_bitmap.specs.Nodes.{bits_of};
 ghost use Rattle.pol_expand.specs.PolicyMap.{row_in, IsPolicyMap};
 ghost use Rattle.value_groups.specs.Marking.{is_among};
 ghost use Rattle.rule_ends.specs.ChosenRules.{holds_type};
-ghost use Rattle.rule_ends.specs.EndTables.{IsEnd, has_places, is_type_value, is_attribute_bit};
+ghost use Rattle.rule_ends.specs.EndTables.{IsEnd, has_places, is_attribute_bit};
 
+use crate::plain_types::is_type;
 use pol_bitmap::Set;
 use pol_datums::Flavour;
 use pol_expand::{TypeMap, is_flavour};
@@ -35,15 +36,6 @@ pub fn ends_holding(
     // the clause of the values says that they are below the count
     let _ = ends.values();
     Ok(ends)
-}
-
-// Whether a value is that of a type, and of no attribute.
-fn is_type(policy: &Policy<'_>, value: u32) -> bool
-    ensures { result ≡ is_type_value policy.now value }
-{
-    1 <= value
-        && value <= policy.type_count()
-        && is_flavour(Flavour::Plain, policy.symbols().flavour(value))
 }
 
 // Adds the attributes of the row of a type that rules have.

@@ -4,8 +4,10 @@ ghost use Rattle.pol_bitmap.specs.Nodes.{bits_of};
 ghost use Rattle.pol_expand.specs.PolicyMap.{IsPolicyMap};
 ghost use Rattle.rule_order.specs.ListedOrder.{AreRules};
 ghost use Rattle.rule_ends.specs.ChosenRules.{is_between_types, any_joins, rules_between, targets_from, sources_to, sources_to_any};
+ghost use Rattle.rule_ends.specs.EndTables.{AreEndsOf};
 
-use crate::end_table::EndTable;
+use crate::end_table::{EndTable, gathered_rules};
+use crate::gathered::GatheredRules;
 use crate::holding::{ends_holding, types_of, values_in};
 use crate::walking::{found_rules, has_rule, other_ends};
 use pol_bitmap::Set;
@@ -52,7 +54,23 @@ impl<'p> RuleEnds<'p> {
         requires few { length numbers.items < 2 ^ 32 }
         ensures { IfOk result (λ ends. ends ≡ record { policy = policy.now; rules = numbers.items }) }
     {
-        let table = EndTable::of_rules(alloc, policy, numbers)?;
+        let gathered = gathered_rules(alloc, policy, &numbers)?;
+        RuleEnds::of_gathered(alloc, policy, types, gathered)
+    }
+
+    /// The same of rules that were gathered with their ends.
+    pub fn of_gathered(
+        alloc: Global,
+        policy: &'p Policy<'p>,
+        types: &'p TypeMap,
+        gathered: GatheredRules,
+    ) -> Result<RuleEnds<'p>, AllocError>
+        requires map { IsPolicyMap policy.now types.now }
+        requires ends { AreEndsOf policy.now gathered.rules.items gathered.sources.items gathered.targets.items }
+        requires few { length gathered.rules.items < 2 ^ 32 }
+        ensures { IfOk result (λ ends. ends ≡ record { policy = policy.now; rules = gathered.rules.items }) }
+    {
+        let table = EndTable::of_gathered(alloc, policy, gathered)?;
         Ok(RuleEnds {
             policy,
             types,

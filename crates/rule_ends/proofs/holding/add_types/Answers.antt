@@ -4,14 +4,15 @@ use Rattle.std.proofs.lemmas.List.Elements.{All-same, All-weaker}
 use Rattle.pol_bitmap.specs.Nodes.{bits_of}
 use Rattle.pol_expand.specs.PolicyMap.{expand}
 use Rattle.value_groups.specs.Marking.{is_among}
-use Rattle.rule_ends.specs.EndTables.{is_type_value}
-use Rattle.rule_ends.proofs.Holders.{end_declared, expands_within, held_alone, held_among, type_within}
+use Rattle.rule_ends.specs.PlainTypes.{is_type_value}
+use Rattle.rule_ends.proofs.Holders.{end_declared, expands_within, held_alone, held_among}
+use Rattle.rule_ends.proofs.TypesOutside.{type_within}
 use Rattle.rule_ends.proofs.holding.add_types.Goals as goal
 
 pub add-requires : goal.add-requires
 add-requires c =
     let is : is_type_value c.args.policy.now c.args.end ≡ true = sym c.is_type.ensures ∙ c.if-is_type.true in
-    omega (arith, type_within c.args.policy.now c.args.end is, c.requires.count)
+    omega (arith, (type_within c.args.policy.now c.args.end is).1, c.requires.count)
 
 pub returns-then-is_type-clause-each : goal.returns-then-is_type-clause-each
 returns-then-is_type-clause-each c type =

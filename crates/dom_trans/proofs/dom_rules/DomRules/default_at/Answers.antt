@@ -6,7 +6,7 @@ use Rattle.pol_rules.specs.declared.RulePart.{RulePart}
 use Rattle.pol_rules.specs.declared.RulePart.TheVariants.{Default}
 use Rattle.pol_rules.specs.StoredRules.{stored, stored_rules}
 use Rattle.rule_ends.specs.ChosenRules.{ChosenRules, any_joins}
-use Rattle.rule_ends.specs.EndTables.{is_type_value}
+use Rattle.rule_ends.specs.PlainTypes.{is_type_value}
 use Rattle.dom_trans.specs.Grants.{grants, part_has_default, file, entrypoint}
 use Rattle.dom_trans.proofs.Defaults.{without_default, without_point, with_point}
 use Rattle.dom_trans.proofs.dom_rules.DomRules.default_at.Goals as goal
@@ -25,7 +25,7 @@ returns-then-not-is_type-clause-each c =
     let policy = c.args.self.now in
     let at = subst (λ (p : Parts). slice_get (stored_rules p) c.args.number ≡ Some (stored c.rule.result)) c.self.view_is c.rule.ensures.is in
     without_point policy c.args.entry c.args.number (stored c.rule.result) c.in-Default.b at c.in-Default.is
-    (ap (λ (t : Bool). t && grants policy c.in-Default.b c.args.entry file entrypoint) (sym c.is_type.ensures ∙ c.if-not-is_type.true))
+    (ap (λ (t : Bool). t && grants policy c.in-Default.b c.args.entry file entrypoint) (ap (λ (p : Parts). is_type_value p c.in-Default.b) (sym c.policy.ensures) ∙ sym c.is_type.ensures ∙ c.if-not-is_type.true))
 
 pub returns-then-not-branch-clause-each : goal.returns-then-not-branch-clause-each
 returns-then-not-branch-clause-each c =
@@ -41,4 +41,4 @@ returns-clause-each c =
     let at = subst (λ (p : Parts). slice_get (stored_rules p) c.args.number ≡ Some (stored c.rule.result)) c.self.view_is c.rule.ensures.is in
     let joins = c.in_ok-has_between.ensures ∙ ap (λ (ends : ChosenRules). any_joins ends.policy ends.rules c.in-Default.b c.args.entry) c.list.ensures in
     with_point policy c.args.entry c.args.number (stored c.rule.result) c.in-Default.b at c.in-Default.is
-    (and_from (is_type_value policy c.in-Default.b) (grants policy c.in-Default.b c.args.entry file entrypoint) (sym c.is_type.ensures ∙ c.if-not-is_type.false) (sym joins ∙ c.if-not-branch.false))
+    (and_from (is_type_value policy c.in-Default.b) (grants policy c.in-Default.b c.args.entry file entrypoint) (ap (λ (p : Parts). is_type_value p c.in-Default.b) (sym c.policy.ensures) ∙ sym c.is_type.ensures ∙ c.if-not-is_type.false) (sym joins ∙ c.if-not-branch.false))

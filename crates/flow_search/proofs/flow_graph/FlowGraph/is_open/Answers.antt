@@ -1,10 +1,11 @@
-use Rattle.std.proofs.Common.{subst, ◌∙◌}
-use Rattle.pol_expand.proofs.Values.{has_is}
+use Rattle.std.proofs.Common.{◌≡◌, subst}
+use Rattle.pol_bitmap.specs.Nodes.{bits_of}
+use Rattle.rule_ends.specs.PlainTypes.{types_outside}
 use Rattle.flow_search.specs.FlowEdges.{FlowSearch}
-use Rattle.flow_search.specs.FlowParts.{AreOpen}
+use Rattle.flow_search.proofs.Successors.{has_open}
 use Rattle.flow_search.proofs.flow_graph.FlowGraph.is_open.Goals as goal
 
 pub returns-clause-may : goal.returns-clause-may
 returns-clause-may c =
-    has_is c.has.result c.self.inside.open_types c.args.node c.has.ensures
-    ∙ (subst (λ (s : FlowSearch). AreOpen s.policy s.excluded c.self.inside.open_types) c.self.view_is c.self.invariant.2).each c.args.node
+    has_open c.args.self.now c.self.inside.open_types c.args.node c.has.result
+    (subst (λ (s : FlowSearch). bits_of c.self.inside.open_types ≡ types_outside s.policy s.excluded) c.self.view_is c.self.invariant.2) c.has.ensures

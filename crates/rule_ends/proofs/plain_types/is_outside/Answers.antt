@@ -2,7 +2,7 @@ use Rattle.std.proofs.Common.{Bool, sym, ap, ◌∙◌}
 use Rattle.std.specs.Prelude.{◌&&◌, not}
 use Rattle.pol_bitmap.specs.Nodes.{has_bit}
 use Rattle.pol_expand.proofs.Values.{has_is}
-use Rattle.dom_trans.proofs.dom_rules.DomRules.is_outside.Goals as goal
+use Rattle.rule_ends.proofs.plain_types.is_outside.Goals as goal
 
 pub returns-then-is_type : goal.returns-then-is_type
 returns-then-is_type c =

@@ -2,8 +2,8 @@ use Rattle.std.proofs.Common.{◌-◌, List, sym, ap, ◌∙◌, slice_get}
 use Rattle.pol_bitmap.specs.declared.Node.{Node}
 use Rattle.pol_bitmap.specs.Nodes.{has_bit}
 use Rattle.pol_expand.proofs.Values.{has_is}
-use Rattle.flow_search.proofs.HeldTypes.{row_is}
-use Rattle.flow_search.proofs.holding.row_has.Goals as goal
+use Rattle.rule_ends.proofs.Holders.{row_is}
+use Rattle.rule_ends.proofs.joining.row_has.Goals as goal
 
 pub returns : goal.returns
 returns c =
