@@ -8,8 +8,8 @@ use Rattle.std.proofs.Math.Seq.{take-append_seam}
 use Rattle.std.proofs.lemmas.List.{take_more, length-map}
 use Rattle.std.proofs.lemmas.Option.{get_or_from_slice_get, slice_get_within}
 use Rattle.pol_cursor.specs.References.{Placed}
-use Rattle.pol_avtab.specs.declared.CondNodeRec.{CondNodeRec}
-use Rattle.pol_avtab.specs.CondNodeRecord.{rules_of_branch as access_vectors_of}
+use Rattle.pol_conditionals.specs.declared.CondNodeRec.{CondNodeRec}
+use Rattle.pol_conditionals.specs.CondNodeRecord.{rules_of_branch as access_vectors_of}
 use Rattle.info_lines.proofs.FileOrder.{first_of, none_of}
 use Rattle.pol_rules.proofs.RuleSums.{node_length}
 use Rattle.pol_symbols.specs.declared.Symbols.{Symbols}

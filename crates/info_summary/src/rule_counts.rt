@@ -7,7 +7,7 @@ ghost use Rattle.info_summary.specs.RuleCounts.{kind_counts};
 ghost use Rattle.info_summary.specs.Summary.{rule_lines};
 
 use crate::entry::{Entry, count};
-use pol_avtab::Conditionals;
+use pol_conditionals::Conditionals;
 use pol_read::{Policy, RuleKind};
 
 /// The counts of the stored rules of each kind.

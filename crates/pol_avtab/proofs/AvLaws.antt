@@ -1,22 +1,18 @@
--- The two laws of access vectors, of their table, of conditional nodes and of the list of them.
-use Rattle.std.proofs.Common.{◌≡◌, ℕ, zero, suc, ◌∷◌, Bool, true, false, Option, None, List, length, refl, ap, append_assoc}
+-- The two laws of access vectors and of their table.
+use Rattle.std.proofs.Common.{◌≡◌, ℕ, Bool, true, false, Option, List, length, refl, append_assoc}
 use Rattle.std.specs.List.{flat_map, AllByRecursion}
 use Rattle.std.proofs.lemmas.List.{append-nil}
 use Rattle.pol_cursor.specs.Outcome.{Reader, Outcome, Got, Bad, and_then, field}
-use Rattle.pol_cursor.specs.Contexts.{records_after}
-use Rattle.pol_cursor.specs.Parts.{number, list_of, records_at, counted, spell_counted, CountedFits}
-use Rattle.pol_cursor.specs.References.{Placed, placed, without_places}
+use Rattle.pol_cursor.specs.Parts.{number}
+use Rattle.pol_cursor.specs.References.{Placed, without_places}
 use Rattle.pol_cursor.specs.Laws.{Again, Reads, IsSpelling, IsReadAgain, IsReadFromSpelling}
-use Rattle.pol_cursor.proofs.Laws.{Reads-done, Reads-part, Reads-number, Reads-number_if, Reads-string, Reads-list_of, Again-done, Again-part, Again-as, Again-number, Again-number_if, Again-string-of, Again-list_of, records_spelled, records_again, counted_spelled, counted_again}
-use Rattle.pol_cursor.proofs.Lists.{records_unplaced}
+use Rattle.pol_cursor.proofs.Laws.{Reads-done, Reads-part, Reads-number, Reads-number_if, Reads-string, Reads-list_of, Again-done, Again-part, Again-as, Again-number, Again-number_if, Again-string-of, Again-list_of, counted_spelled, counted_again}
 use Rattle.pol_cursor.proofs.ContextLists.{records_after_unplaced}
-use Rattle.pol_expr.proofs.ConditionLaws.{condition_spelled, condition_again}
 use Rattle.pol_avtab.specs.declared.av_key.AvKey.{AvKey}
 use Rattle.pol_avtab.specs.declared.av_rec.AvRec.{AvRec}
 use Rattle.pol_avtab.specs.declared.av_rec.AvPart.TheVariants.{Data, Extended}
 use Rattle.pol_avtab.specs.AvRecord.{is_extended, extended_at, data_at, part_at, av_at, spell_part, spell_av, PartFits, AvFits}
-use Rattle.pol_avtab.specs.CondNodeRecord.{conditional_rules_at, condnode_at, spell_condnode, CondNodeFits}
-use Rattle.pol_avtab.specs.AvTables.{rule_at, after_rule, no_rules, placed_rules_at, table_at, rules_at, plain_table_at, spell_table, TableFits, conditionals_at, plain_conditionals_at, spell_conditionals, ConditionalsFit}
+use Rattle.pol_avtab.specs.AvTables.{rule_at, after_rule, no_rules, placed_rules_at, table_at, rules_at, plain_table_at, spell_table, TableFits}
 
 -- ---- the last part
 
@@ -98,7 +94,7 @@ unfolding plain_table_at
 table_again version = counted_again (field 17 1) (rules_at version) spell_av AvFits (rules_again version)
 
 -- a counted list that is read with places
-unplaced_counted : {A : Type 0} (bytes : List ℕ) (placed_at : ℕ → Reader (List (Placed A))) (plain_at : ℕ → Reader (List A)) → ((n next : ℕ) → without_places (placed_at n bytes next) ≡ plain_at n bytes next)
+pub unplaced_counted : {A : Type 0} (bytes : List ℕ) (placed_at : ℕ → Reader (List (Placed A))) (plain_at : ℕ → Reader (List A)) → ((n next : ℕ) → without_places (placed_at n bytes next) ≡ plain_at n bytes next)
     → (o : Outcome ℕ) → without_places (and_then o (λ n next. placed_at n bytes next)) ≡ and_then o (λ n next. plain_at n bytes next)
 unplaced_counted bytes placed_at plain_at each (Got n next) = each n next
 unplaced_counted bytes placed_at plain_at each (Bad f) = refl
@@ -107,60 +103,3 @@ pub table_unplaced : (version : ℕ) (bytes : List ℕ) (place : ℕ) → withou
 unfolding table_at plain_table_at placed_rules_at rules_at
 table_unplaced version bytes place =
     unplaced_counted bytes (placed_rules_at version) (rules_at version) (λ n next. records_after_unplaced rule_at after_rule n (no_rules version) bytes next) (number (field 17 1) 4 bytes place)
-
--- ---- conditional nodes
-
-conditional_rules_spelled : (version part : ℕ) → IsReadFromSpelling (counted (field 19 part) (conditional_rules_at version)) (spell_counted spell_av) (CountedFits AvFits)
-conditional_rules_spelled version part = counted_spelled (field 19 part) (conditional_rules_at version) spell_av AvFits (records_spelled (av_at version None) spell_av AvFits (av_spelled version None))
-
-conditional_rules_again : (version part : ℕ) → IsReadAgain (counted (field 19 part) (conditional_rules_at version)) (spell_counted spell_av) (CountedFits AvFits)
-conditional_rules_again version part = counted_again (field 19 part) (conditional_rules_at version) spell_av AvFits (records_again (av_at version None) spell_av AvFits (av_again version None))
-
-pub condnode_spelled : (version : ℕ) → IsReadFromSpelling (condnode_at version) spell_condnode CondNodeFits
-unfolding condnode_at
-condnode_spelled version =
-    Reads-part condition_spelled λ condition condition-fits.
-    Reads-part (conditional_rules_spelled version 5) λ true_rules true_rules-fit.
-    Reads-part (conditional_rules_spelled version 6) λ false_rules false_rules-fit.
-    Reads-done _ (record { condition = condition; true_rules = true_rules; false_rules = false_rules }) (record {
-      same = simp (append_assoc, append-nil);
-      fitting = record { condition = condition-fits; true_rules = true_rules-fit; false_rules = false_rules-fit };
-    })
-
-pub condnode_again : (version : ℕ) → IsReadAgain (condnode_at version) spell_condnode CondNodeFits
-unfolding condnode_at
-condnode_again version node fits =
-    Again-as
-    (Again-part _ (condition_again node.condition fits.condition)
-    (Again-part _ (conditional_rules_again version 5 node.true_rules fits.true_rules)
-    (Again-part _ (conditional_rules_again version 6 node.false_rules fits.false_rules)
-    (Again-done node))))
-    (simp (append_assoc, append-nil))
-
--- ---- the list of conditional nodes
-
-pub conditionals_spelled : (version : ℕ) → IsReadFromSpelling (plain_conditionals_at version) spell_conditionals ConditionalsFit
-unfolding plain_conditionals_at
-conditionals_spelled version = counted_spelled (field 18 1) (records_at (condnode_at version)) spell_condnode CondNodeFits (records_spelled (condnode_at version) spell_condnode CondNodeFits (condnode_spelled version))
-
-pub conditionals_again : (version : ℕ) → IsReadAgain (plain_conditionals_at version) spell_conditionals ConditionalsFit
-unfolding plain_conditionals_at
-conditionals_again version = counted_again (field 18 1) (records_at (condnode_at version)) spell_condnode CondNodeFits (records_again (condnode_at version) spell_condnode CondNodeFits (condnode_again version))
-
-pub conditionals_unplaced : (version : ℕ) (bytes : List ℕ) (place : ℕ) → without_places (conditionals_at version bytes place) ≡ plain_conditionals_at version bytes place
-unfolding conditionals_at plain_conditionals_at
-conditionals_unplaced version bytes place =
-    unplaced_counted bytes (records_at (placed (condnode_at version))) (records_at (condnode_at version)) (λ n next. records_unplaced (condnode_at version) n bytes next) (number (field 18 1) 4 bytes place)
-
--- ---- a context that stays
-
-first_then : {A B : Type 0} (o : Outcome A) (f g : A → ℕ → Outcome B) → ((x : A) (next : ℕ) → f x next ≡ g x next) → and_then o f ≡ and_then o g
-first_then (Got x next) f g same = same x next
-first_then (Bad e) f g same = refl
-
--- Records that all are read under the same context are read alone.
-pub records_alone : {S A : Type 0} (record_at : S → Reader A) (n : ℕ) (context : S) (bytes : List ℕ) (place : ℕ) → records_after record_at (λ s x. s) n context bytes place ≡ records_at (placed (record_at context)) n bytes place
-unfolding records_after records_at list_of
-records_alone record_at zero context bytes place = refl
-records_alone record_at (suc n) context bytes place =
-    first_then (placed (record_at context) bytes place) _ _ (λ r next. ap (λ (o : Outcome (List (Placed _))). and_then o (λ rs k. Got (r ∷ rs) k)) (records_alone record_at n context bytes next))

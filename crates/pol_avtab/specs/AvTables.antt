@@ -1,17 +1,13 @@
--- Record 17, the table of access vectors (libsepol's avtab_read), and record 18, the list of conditional nodes (cond_read_list).
+-- Record 17: the table of access vectors (libsepol's avtab_read).
 use Rattle.std.specs.Prelude.{ℕ, Some, List, []}
 use Rattle.pol_cursor.specs.Outcome.{Reader, field}
-use Rattle.pol_cursor.specs.Parts.{list_of, counted, records_at, spell_counted, CountedFits}
+use Rattle.pol_cursor.specs.Parts.{list_of, counted, spell_counted, CountedFits}
 use Rattle.pol_cursor.specs.Contexts.{records_after}
-use Rattle.pol_cursor.specs.References.{Placed, placed}
+use Rattle.pol_cursor.specs.References.{Placed}
 use Rattle.pol_avtab.specs.declared.av_rec.AvRec.{AvRec}
 use Rattle.pol_avtab.specs.declared.av_key.AvKey.{AvKey}
-use Rattle.pol_avtab.specs.declared.condnode_rec.CondNodeRec.{CondNodeRec}
 use Rattle.pol_avtab.specs.AvKeys.{key_of, with_key}
 use Rattle.pol_avtab.specs.AvRecord.{av_at, spell_av, AvFits}
-use Rattle.pol_avtab.specs.CondNodeRecord.{condnode_at, spell_condnode, CondNodeFits}
-
--- ---- the table
 
 -- what a rule is read under: the version, and the keys of the rules before it
 pub record Earlier : Type 0 where
@@ -49,18 +45,3 @@ spell_table rules = spell_counted spell_av rules
 
 abbrev pub TableFits : List AvRec → Type 0
 TableFits rules = CountedFits AvFits rules
-
--- ---- the list of conditional nodes
-
-unfoldable pub conditionals_at : ℕ → Reader (List (Placed CondNodeRec))
-conditionals_at version = counted (field 18 1) (records_at (placed (condnode_at version)))
-
--- the same without the places
-unfoldable pub plain_conditionals_at : ℕ → Reader (List CondNodeRec)
-plain_conditionals_at version = counted (field 18 1) (records_at (condnode_at version))
-
-abbrev pub spell_conditionals : List CondNodeRec → List ℕ
-spell_conditionals nodes = spell_counted spell_condnode nodes
-
-abbrev pub ConditionalsFit : List CondNodeRec → Type 0
-ConditionalsFit nodes = CountedFits CondNodeFits nodes

@@ -1,3 +1,8 @@
+use pol_cursor::OwnedList;
+
+/// Access vectors, owned.
+pub type AvRecList = OwnedList<AvRec>;
+
 /// An access vector, owned: one rule of a policy.
 #[derive(Drop)]
 pub struct AvRec {

@@ -1,4 +1,4 @@
-//! Access vectors, their table, and the rules under conditions: records of the policy format.
+//! Access vectors and their table: records of the policy format.
 #![tactic(auto)]
 
 mod av_key;
@@ -9,12 +9,7 @@ mod av_table;
 mod av_view;
 mod av_write;
 mod causes;
-mod conditionals;
-mod condnode_rec;
-mod condnode_view;
-mod condnode_write;
 mod parts;
-mod place_groups;
 mod record_laws;
 mod xnumbers;
 mod xperms;
@@ -22,16 +17,10 @@ mod xperms;
 pub use av_key::AvKey;
 pub use av_keys::AvKeys;
 pub use av_kind::{Av, AvContext};
-pub use av_rec::{AvPart, AvRec};
+pub use av_rec::{AvPart, AvRec, AvRecList};
 pub use av_table::{AvTable, read_table};
 pub use av_view::{AvView, read_av};
-pub use av_write::write_av;
-pub use conditionals::{CondNode, Conditionals, read_conditionals};
-pub use condnode_rec::{AvRecList, CondNodeRec, CondNodeRecList};
-pub use condnode_view::{CondNodeView, read_condnode};
-pub use condnode_write::{write_conditionals, write_condnode, write_table};
-pub use record_laws::{
-    access_vectors_have_laws, conditional_nodes_have_laws, conditionals_have_laws, tables_have_laws,
-};
+pub use av_write::{write_av, write_table};
+pub use record_laws::{access_vectors_have_laws, tables_have_laws};
 pub use xnumbers::XNumbers;
 pub use xperms::{XPerms, shown_mask};

@@ -4,8 +4,7 @@ ghost use Rattle.pol_cursor.specs.Laws.{IsReadAgain, IsReadFromSpelling};
 ghost use Rattle.pol_cursor.specs.References.{without_places};
 ghost use Rattle.pol_avtab.specs.declared.av_key.AvKey.{AvKey};
 ghost use Rattle.pol_avtab.specs.AvRecord.{av_at, spell_av, AvFits};
-ghost use Rattle.pol_avtab.specs.CondNodeRecord.{condnode_at, spell_condnode, CondNodeFits};
-ghost use Rattle.pol_avtab.specs.AvTables.{table_at, plain_table_at, spell_table, TableFits, conditionals_at, plain_conditionals_at, spell_conditionals, ConditionalsFit};
+ghost use Rattle.pol_avtab.specs.AvTables.{table_at, plain_table_at, spell_table, TableFits};
 
 /// An access vector that is spelled and accepted is read again, and one that was read is spelled by the bytes that it was
 /// read from: in a table behind rules with any keys, and under a condition.
@@ -21,17 +20,4 @@ pub fn tables_have_laws()
     ensures again { (version : ℕ) → IsReadAgain (plain_table_at version) spell_table TableFits }
     ensures spelled { (version : ℕ) → IsReadFromSpelling (plain_table_at version) spell_table TableFits }
     ensures unplaced { (version : ℕ) (bytes : List ℕ) (place : ℕ) → without_places (table_at version bytes place) ≡ plain_table_at version bytes place }
-{}
-
-/// The same of a conditional node.
-pub fn conditional_nodes_have_laws()
-    ensures again { (version : ℕ) → IsReadAgain (condnode_at version) spell_condnode CondNodeFits }
-    ensures spelled { (version : ℕ) → IsReadFromSpelling (condnode_at version) spell_condnode CondNodeFits }
-{}
-
-/// The same of the list of conditional nodes, which is read with their places as without them.
-pub fn conditionals_have_laws()
-    ensures again { (version : ℕ) → IsReadAgain (plain_conditionals_at version) spell_conditionals ConditionalsFit }
-    ensures spelled { (version : ℕ) → IsReadFromSpelling (plain_conditionals_at version) spell_conditionals ConditionalsFit }
-    ensures unplaced { (version : ℕ) (bytes : List ℕ) (place : ℕ) → without_places (conditionals_at version bytes place) ≡ plain_conditionals_at version bytes place }
 {}

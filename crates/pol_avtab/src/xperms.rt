@@ -1,4 +1,4 @@
-ghost use Rattle.std.specs.Prelude.{◌≡◌, ◌+◌, ◌≤◌, ◌<◌, ℕ, true, false, IfSome, IfNone, length};
+ghost use Rattle.std.specs.Prelude.{◌≡◌, ◌+◌, ◌≤◌, ◌<◌, ℕ, false, IfSome, IfNone, length};
 ghost use Rattle.std.specs.List.{All};
 ghost use Rattle.pol_bitmap.specs.Nodes.{IsLeastFrom};
 ghost use Rattle.pol_avtab.specs.XPerms.{xperms_in, has_xbit, holds, numbers_of, shown_mask, IsNextBit};

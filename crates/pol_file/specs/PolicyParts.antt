@@ -6,7 +6,8 @@ use Rattle.pol_cursor.specs.References.{placed}
 use Rattle.pol_bitmap.specs.Bitmap.{bitmap_at}
 use Rattle.pol_header.specs.HeaderRecord.{header_at}
 use Rattle.pol_symbols.specs.PolicySymbols.{symbols_at}
-use Rattle.pol_avtab.specs.AvTables.{table_at as rule_table_at, conditionals_at}
+use Rattle.pol_avtab.specs.AvTables.{table_at as rule_table_at}
+use Rattle.pol_conditionals.specs.CondNodeList.{conditionals_at}
 use Rattle.pol_trans.specs.RoleTransRecord.{role_trans_at}
 use Rattle.pol_trans.specs.RoleAllowRecord.{role_allow_at}
 use Rattle.pol_trans.specs.RangeTransRecord.{range_trans_at}

@@ -8,7 +8,7 @@ use Rattle.pol_datums.specs.CategoryRecord.{category_references}
 use Rattle.pol_symbols.specs.UserRecord.{user_references}
 use Rattle.pol_symbols.specs.declared.symbols.Symbols.{Symbols}
 use Rattle.pol_avtab.specs.AvRecord.{av_references}
-use Rattle.pol_avtab.specs.CondNodeRecord.{condnode_references}
+use Rattle.pol_conditionals.specs.CondNodeRecord.{condnode_references}
 use Rattle.pol_trans.specs.RoleTransRecord.{role_trans_references}
 use Rattle.pol_trans.specs.RoleAllowRecord.{role_allow_references}
 use Rattle.pol_trans.specs.NameTransRecord.{name_trans_references}

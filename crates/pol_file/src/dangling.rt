@@ -2,12 +2,12 @@
 ghost use Rattle.std.specs.Prelude.{◌≡◌, List};
 ghost use Rattle.std.specs.List.{flat_map};
 ghost use Rattle.pol_symbols.specs.PolicySymbols.{name_in};
-ghost use Rattle.pol_avtab.specs.CondNodeRecord.{condnode_references};
+ghost use Rattle.pol_conditionals.specs.CondNodeRecord.{condnode_references};
 ghost use Rattle.pol_cursor.specs.References.{AreDeclared, references_in};
 ghost use Rattle.pol_file.specs.PolicyReferences.{symbol_references, name_transition_references, rule_references, context_references, label_references, policy_references};
 
 use crate::parts::{LabelLists, Parts, RuleLists};
-use pol_avtab::Conditionals;
+use pol_conditionals::Conditionals;
 use pol_contexts::Contexts;
 use pol_cursor::{Fault, Names, check_records};
 use pol_symbols::Symbols;

@@ -1,7 +1,8 @@
 // The parts of a policy, in the order of the file.
 use crate::type_map::TypeMap;
-use pol_avtab::{AvTable, Conditionals};
+use pol_avtab::AvTable;
 use pol_bitmap::BitmapView;
+use pol_conditionals::Conditionals;
 use pol_contexts::Contexts;
 use pol_genfs::GenfsList;
 use pol_header::HeaderView;

@@ -5,8 +5,9 @@ ghost use Rattle.pol_file.specs.PolicyParts.{front_at, rule_lists_at, label_list
 
 use crate::parts::{Front, LabelLists, Parts, RuleLists};
 use crate::type_map::read_type_map;
-use pol_avtab::{read_conditionals, read_table};
+use pol_avtab::read_table;
 use pol_bitmap::BitmapView;
+use pol_conditionals::read_conditionals;
 use pol_contexts::read_contexts;
 use pol_cursor::{Cursor, Field, ReadError, TableKind};
 use pol_genfs::read_genfs;

@@ -9,8 +9,9 @@ use Rattle.pol_classes.specs.ClassTables.{class_start, after_class, class_under,
 use Rattle.pol_symbols.specs.PolicySymbols.{roles_at, types_at, users_at, booleans_at, levels_at, categories_at, rule_tables_at, other_tables_at, symbols_at}
 use Rattle.pol_avtab.specs.declared.AvKey.{AvKey}
 use Rattle.pol_avtab.specs.AvRecord.{is_extended, extended_at, data_at, part_at, av_at}
-use Rattle.pol_avtab.specs.CondNodeRecord.{condnode_at}
-use Rattle.pol_avtab.specs.AvTables.{rule_at, after_rule, no_rules, placed_rules_at, table_at as rule_table_at, conditionals_at}
+use Rattle.pol_conditionals.specs.CondNodeRecord.{condnode_at}
+use Rattle.pol_avtab.specs.AvTables.{rule_at, after_rule, no_rules, placed_rules_at, table_at as rule_table_at}
+use Rattle.pol_conditionals.specs.CondNodeList.{conditionals_at}
 use Rattle.pol_trans.specs.RoleTransRecord.{role_trans_at}
 use Rattle.pol_trans.specs.RoleAllowRecord.{role_allow_at}
 use Rattle.pol_trans.specs.RangeTransRecord.{range_trans_at}

@@ -11,7 +11,8 @@ use Rattle.pol_commons.specs.declared.CommonRec.{CommonRec}
 use Rattle.pol_commons.specs.CommonTable.{commons_at}
 use Rattle.pol_classes.specs.ClassTables.{class_under, after_class, class_start, class_table_at}
 use Rattle.pol_symbols.specs.PolicySymbols.{roles_at, types_at, users_at, booleans_at, levels_at, categories_at, rule_tables_at, other_tables_at, symbols_at}
-use Rattle.pol_avtab.specs.AvTables.{rule_at, after_rule, no_rules, placed_rules_at, table_at as rule_table_at, conditionals_at}
+use Rattle.pol_avtab.specs.AvTables.{rule_at, after_rule, no_rules, placed_rules_at, table_at as rule_table_at}
+use Rattle.pol_conditionals.specs.CondNodeList.{conditionals_at}
 use Rattle.pol_trans.specs.NameTransRecord.{name_trans_at}
 use Rattle.pol_trans.specs.NameGroupRecord.{name_group_at}
 use Rattle.pol_trans.specs.NameTransitions.{entries_at, groups_at, name_transitions_at}

@@ -27,9 +27,11 @@ use Rattle.pol_symbols.specs.declared.symbols.OtherTables.{OtherTables}
 use Rattle.pol_classes.proofs.ClassLaws.{class_spelled}
 use Rattle.pol_symbols.proofs.UserLaws.{user_spelled}
 use Rattle.pol_avtab.specs.AvRecord.{spell_av}
-use Rattle.pol_avtab.specs.CondNodeRecord.{spell_condnode}
-use Rattle.pol_avtab.specs.AvTables.{table_at as rule_table_at, plain_table_at, spell_table as spell_rules, TableFits, conditionals_at, plain_conditionals_at, spell_conditionals, ConditionalsFit}
-use Rattle.pol_avtab.proofs.AvLaws.{table_spelled, table_unplaced, conditionals_spelled, conditionals_unplaced}
+use Rattle.pol_conditionals.specs.CondNodeRecord.{spell_condnode}
+use Rattle.pol_avtab.specs.AvTables.{table_at as rule_table_at, plain_table_at, spell_table as spell_rules, TableFits}
+use Rattle.pol_conditionals.specs.CondNodeList.{conditionals_at, plain_conditionals_at, spell_conditionals, ConditionalsFit}
+use Rattle.pol_avtab.proofs.AvLaws.{table_spelled, table_unplaced}
+use Rattle.pol_conditionals.proofs.CondNodeLaws.{conditionals_spelled, conditionals_unplaced}
 use Rattle.pol_cursor.specs.References.{values_of}
 use Rattle.pol_trans.specs.RoleTransRecord.{role_trans_at, spell_role_trans, RoleTransFits}
 use Rattle.pol_trans.specs.RoleAllowRecord.{role_allow_at, spell_role_allow, RoleAllowFits}

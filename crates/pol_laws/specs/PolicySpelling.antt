@@ -16,7 +16,7 @@ use Rattle.pol_classes.specs.ClassRecord.{spell_class}
 use Rattle.pol_symbols.specs.UserRecord.{spell_user}
 use Rattle.pol_symbols.specs.declared.symbols.Symbols.{Symbols}
 use Rattle.pol_avtab.specs.AvRecord.{spell_av}
-use Rattle.pol_avtab.specs.CondNodeRecord.{spell_condnode}
+use Rattle.pol_conditionals.specs.CondNodeRecord.{spell_condnode}
 use Rattle.pol_trans.specs.RoleTransRecord.{spell_role_trans}
 use Rattle.pol_trans.specs.RoleAllowRecord.{spell_role_allow}
 use Rattle.pol_trans.specs.NameTransRecord.{spell_name_trans}

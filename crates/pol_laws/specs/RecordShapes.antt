@@ -9,7 +9,7 @@ use Rattle.pol_constraints.specs.ConstraintRecord.{has_names, has_type_set}
 use Rattle.pol_classes.specs.declared.ClassRec.{ClassRec}
 use Rattle.pol_symbols.specs.declared.UserRec.{UserRec}
 use Rattle.pol_avtab.specs.declared.AvRec.{AvRec}
-use Rattle.pol_avtab.specs.declared.CondNodeRec.{CondNodeRec}
+use Rattle.pol_conditionals.specs.declared.CondNodeRec.{CondNodeRec}
 use Rattle.pol_avtab.specs.AvRecord.{is_extended}
 use Rattle.pol_avtab.specs.XPerms.{xperms_of}
 use Rattle.pol_trans.specs.declared.RangeTransRec.{RangeTransRec}

@@ -1,10 +1,11 @@
 ghost use Rattle.std.specs.Prelude.{◌≡◌, ◌<◌, ◌≤◌, ◌-◌, Ok, Some, None, IfOk, option_map, slice_get, length};
-ghost use Rattle.pol_avtab.specs.CondNodeRecord.{node_condition};
+ghost use Rattle.pol_conditionals.specs.CondNodeRecord.{node_condition};
 ghost use Rattle.pol_file.specs.Acceptance.{accept, undeclared, Accepts};
 ghost use Rattle.pol_file.specs.TypeValues.{IsTypeValue, HasTypeValues};
 
-use pol_avtab::{AvTable, Conditionals};
+use pol_avtab::AvTable;
 use pol_bitmap::BitmapView;
+use pol_conditionals::Conditionals;
 use pol_contexts::Contexts;
 use pol_cursor::{ReadError, TableKind};
 use pol_datums::TypeView;

@@ -15,10 +15,11 @@ use Rattle.pol_symbols.specs.PolicySymbols.{symbols_at}
 use Rattle.pol_symbols.specs.declared.Symbols.{Symbols}
 use Rattle.pol_avtab.specs.declared.AvKey.{AvKey}
 use Rattle.pol_avtab.specs.declared.AvRec.{AvRec}
-use Rattle.pol_avtab.specs.declared.CondNodeRec.{CondNodeRec}
+use Rattle.pol_conditionals.specs.declared.CondNodeRec.{CondNodeRec}
 use Rattle.pol_avtab.specs.AvRecord.{is_extended, av_length, extended_at, data_at, part_at, av_at}
-use Rattle.pol_avtab.specs.AvTables.{rule_at, after_rule, no_rules, placed_rules_at, table_at as rule_table_at, conditionals_at}
-use Rattle.pol_avtab.specs.CondNodeRecord.{condnode_at, placed_rules, rules_of_branch as access_vectors_of, true_place, false_place}
+use Rattle.pol_avtab.specs.AvTables.{rule_at, after_rule, no_rules, placed_rules_at, table_at as rule_table_at}
+use Rattle.pol_conditionals.specs.CondNodeList.{conditionals_at}
+use Rattle.pol_conditionals.specs.CondNodeRecord.{condnode_at, placed_rules, rules_of_branch as access_vectors_of, true_place, false_place}
 use Rattle.pol_trans.specs.declared.NameDatumRec.{NameDatumRec}
 use Rattle.pol_trans.specs.declared.NameGroupRec.{NameGroupRec}
 use Rattle.pol_trans.specs.declared.NameTrans.TheVariants.{Entries, Groups}

@@ -16,12 +16,13 @@ use Rattle.pol_avtab.specs.declared.AvKey.{AvKey}
 use Rattle.pol_avtab.specs.declared.AvRec.{AvRec}
 use Rattle.pol_avtab.specs.declared.AvPart.{AvPart}
 use Rattle.pol_avtab.specs.declared.AvPart.TheVariants.{Data, Extended}
-use Rattle.pol_avtab.specs.declared.CondNodeRec.{CondNodeRec}
+use Rattle.pol_conditionals.specs.declared.CondNodeRec.{CondNodeRec}
 use Rattle.pol_avtab.specs.XPerms.{shown_mask, Numbers}
 use Rattle.pol_avtab.specs.AvKeys.{kind_of}
 use Rattle.pol_avtab.specs.AvRecord.{is_extended, is_kind, xkind_test, extended_at, data_at, part_at, av_at}
-use Rattle.pol_avtab.specs.AvTables.{rule_at, after_rule, no_rules, placed_rules_at, table_at as rule_table_at, conditionals_at}
-use Rattle.pol_avtab.specs.CondNodeRecord.{condnode_at}
+use Rattle.pol_avtab.specs.AvTables.{rule_at, after_rule, no_rules, placed_rules_at, table_at as rule_table_at}
+use Rattle.pol_conditionals.specs.CondNodeList.{conditionals_at}
+use Rattle.pol_conditionals.specs.CondNodeRecord.{condnode_at}
 use Rattle.pol_trans.specs.RoleTransRecord.{role_trans_at}
 use Rattle.pol_trans.specs.RoleAllowRecord.{role_allow_at}
 use Rattle.pol_trans.specs.NameTransitions.{name_transitions_at}

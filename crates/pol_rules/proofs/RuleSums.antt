@@ -11,12 +11,12 @@ use Rattle.pol_cursor.specs.References.{Placed}
 use Rattle.pol_symtab.specs.SymbolTables.{primary_index, primary_name}
 use Rattle.pol_symtab.proofs.Searches.{primary_within, primary_name_at, primary_name_none, place_of}
 use Rattle.pol_avtab.specs.declared.AvRec.{AvRec}
-use Rattle.pol_avtab.specs.declared.CondNodeRec.{CondNodeRec}
+use Rattle.pol_conditionals.specs.declared.CondNodeRec.{CondNodeRec}
 use Rattle.pol_avtab.specs.declared.AvPart.{AvPart}
 use Rattle.pol_avtab.specs.declared.AvPart.TheVariants.{Data, Extended}
 use Rattle.pol_avtab.specs.XPerms.{Numbers, xperms_of, mask_of}
 use Rattle.pol_rules.specs.declared.rule.RulePart.TheVariants as parts
-use Rattle.pol_avtab.specs.CondNodeRecord.{rules_of_branch as access_vectors_of}
+use Rattle.pol_conditionals.specs.CondNodeRecord.{rules_of_branch as access_vectors_of}
 use Rattle.pol_file.specs.declared.Parts.{Parts}
 use Rattle.pol_rules.specs.StoredRules.{StoredRule, plain_part, rule_part, av_rule, rules_of_branch, rules_of_node, rules_of_nodes, name_rules, rule_sections, stored_rules}
 use Rattle.pol_rules.specs.RuleNumbers.{lengths_of, node_lengths}

@@ -16,11 +16,11 @@ use Rattle.pol_expr.specs.ConditionRecord.{condition_references}
 use Rattle.pol_avtab.specs.declared.AvRec.{AvRec}
 use Rattle.pol_avtab.specs.declared.AvPart.{AvPart}
 use Rattle.pol_avtab.specs.declared.AvPart.TheVariants.{Data, Extended}
-use Rattle.pol_avtab.specs.declared.CondNodeRec.{CondNodeRec}
+use Rattle.pol_conditionals.specs.declared.CondNodeRec.{CondNodeRec}
 use Rattle.pol_avtab.specs.AvKeys.{kind_of}
 use Rattle.pol_avtab.specs.XPerms.{shown_mask}
 use Rattle.pol_avtab.specs.AvRecord.{av_length, is_default, part_references, av_references}
-use Rattle.pol_avtab.specs.CondNodeRecord.{placed_rules, node_condition, true_place, false_place, branch_rules, condnode_references, rules_of_branch as access_vectors_of}
+use Rattle.pol_conditionals.specs.CondNodeRecord.{placed_rules, node_condition, true_place, false_place, branch_rules, condnode_references, rules_of_branch as access_vectors_of}
 use Rattle.pol_cursor.specs.Runs.{placed_from}
 use Rattle.pol_trans.specs.declared.RoleTransRec.{RoleTransRec}
 use Rattle.pol_trans.specs.declared.RoleAllowRec.{RoleAllowRec}

@@ -6,7 +6,7 @@ use Rattle.pol_cursor.specs.declared.TableKind.{TableKind}
 use Rattle.pol_cursor.specs.declared.TableKind.TheVariants.{Roles, Types, Classes}
 use Rattle.pol_symbols.specs.PolicySymbols.{name_in}
 use Rattle.pol_symbols.specs.declared.Symbols.{Symbols}
-use Rattle.pol_avtab.specs.declared.CondNodeRec.{CondNodeRec}
+use Rattle.pol_conditionals.specs.declared.CondNodeRec.{CondNodeRec}
 use Rattle.pol_rules.specs.declared.rule.RuleKind.{RuleKind}
 use Rattle.pol_rules.specs.declared.rule.RuleKind.TheVariants.{Allow, Auditallow, Dontaudit, AllowXperm, AuditallowXperm, DontauditXperm, TypeTransition, TypeChange, TypeMember, RoleAllow, RoleTransition, RangeTransition}
 use Rattle.pol_rules.specs.declared.rule.RulePart.{RulePart}

@@ -6,7 +6,7 @@ use Rattle.pol_cursor.specs.References.{Placed}
 use Rattle.pol_bitmap.specs.declared.node.Node.{Node}
 use Rattle.pol_bitmap.specs.Nodes.{node_bits}
 use Rattle.pol_symbols.specs.declared.Symbols.{Symbols}
-use Rattle.pol_avtab.specs.declared.CondNodeRec.{CondNodeRec}
+use Rattle.pol_conditionals.specs.declared.CondNodeRec.{CondNodeRec}
 use Rattle.pol_trans.specs.declared.NameDatumRec.{NameDatumRec}
 use Rattle.pol_trans.specs.declared.NameGroupRec.{NameGroupRec}
 use Rattle.pol_trans.specs.NameGroupRecord.{name_data_of}

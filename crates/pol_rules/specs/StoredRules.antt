@@ -10,11 +10,11 @@ use Rattle.pol_symbols.specs.declared.Symbols.{Symbols}
 use Rattle.pol_avtab.specs.declared.AvRec.{AvRec}
 use Rattle.pol_avtab.specs.declared.AvPart.{AvPart}
 use Rattle.pol_avtab.specs.declared.AvPart.TheVariants.{Data, Extended}
-use Rattle.pol_avtab.specs.declared.CondNodeRec.{CondNodeRec}
+use Rattle.pol_conditionals.specs.declared.CondNodeRec.{CondNodeRec}
 use Rattle.pol_avtab.specs.AvKeys.{kind_of}
 use Rattle.pol_avtab.specs.AvRecord.{is_default}
 use Rattle.pol_avtab.specs.XPerms.{shown_mask}
-use Rattle.pol_avtab.specs.CondNodeRecord.{rules_of_branch as access_vectors_of}
+use Rattle.pol_conditionals.specs.CondNodeRecord.{rules_of_branch as access_vectors_of}
 use Rattle.pol_trans.specs.declared.RoleTransRec.{RoleTransRec}
 use Rattle.pol_trans.specs.declared.RoleAllowRec.{RoleAllowRec}
 use Rattle.pol_trans.specs.declared.NameTransRec.{NameTransRec}

@@ -5,7 +5,7 @@ ghost use Rattle.pol_rules.specs.RuleNumbers.{node_lengths, section_lengths, IsN
 
 use crate::name_index::{NameIndex, index_names};
 use crate::sums::Sums;
-use pol_avtab::Conditionals;
+use pol_conditionals::Conditionals;
 use pol_file::Parts;
 use pol_symbols::Symbols;
 use pol_trans::NameTrans;

@@ -11,8 +11,9 @@ use crate::rule::{Condition, Rule, RuleEnds};
 use crate::rule_index::RuleIndex;
 use crate::rule_record::{RuleRecord, vector_ends, vector_rule};
 use crate::sums::Sums;
-use pol_avtab::{AvTable, AvView, Conditionals};
+use pol_avtab::{AvTable, AvView};
 use pol_bitmap::Node;
+use pol_conditionals::Conditionals;
 use pol_file::Parts;
 use pol_symbols::Symbols;
 use pol_trans::{

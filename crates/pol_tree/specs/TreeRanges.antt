@@ -15,7 +15,7 @@ use Rattle.pol_datums.specs.CategoryRecord.{CategoryFits}
 use Rattle.pol_classes.specs.ClassRecord.{ClassFits}
 use Rattle.pol_symbols.specs.UserRecord.{UserFits}
 use Rattle.pol_avtab.specs.AvRecord.{AvFits}
-use Rattle.pol_avtab.specs.CondNodeRecord.{CondNodeFits}
+use Rattle.pol_conditionals.specs.CondNodeRecord.{CondNodeFits}
 use Rattle.pol_trans.specs.RoleTransRecord.{RoleTransFits}
 use Rattle.pol_trans.specs.RoleAllowRecord.{RoleAllowFits}
 use Rattle.pol_trans.specs.NameTransRecord.{NameTransFits}

@@ -1,5 +1,5 @@
 -- The first wrong optional part of a tree, in the order of the file.
-use Rattle.std.specs.Prelude.{ℕ, ◌==◌, not, Option, [], ◌∷◌, length, slice_index}
+use Rattle.std.specs.Prelude.{◌==◌, not, Option, [], ◌∷◌, length, slice_index}
 use Rattle.pol_cursor.specs.declared.Field.{Field}
 use Rattle.pol_cursor.specs.Outcome.{field}
 use Rattle.pol_contexts.specs.ContextTables.{has_infiniband}

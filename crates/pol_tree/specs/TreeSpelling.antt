@@ -1,5 +1,5 @@
 -- How a tree is spelled: its parts in the order of the file (libsepol's policydb_write).
-use Rattle.std.specs.Prelude.{ℕ, Bool, List, ◌++◌, slice_index, if◌then◌else◌}
+use Rattle.std.specs.Prelude.{ℕ, List, ◌++◌, slice_index, if◌then◌else◌}
 use Rattle.std.specs.List.{flat_map}
 use Rattle.pol_cursor.specs.Parts.{spell_counted}
 use Rattle.pol_bitmap.specs.Bitmap.{spell_bitmap}
@@ -15,7 +15,7 @@ use Rattle.pol_datums.specs.CategoryRecord.{spell_category}
 use Rattle.pol_classes.specs.ClassRecord.{spell_class}
 use Rattle.pol_symbols.specs.UserRecord.{spell_user}
 use Rattle.pol_avtab.specs.AvRecord.{spell_av}
-use Rattle.pol_avtab.specs.CondNodeRecord.{spell_condnode}
+use Rattle.pol_conditionals.specs.CondNodeRecord.{spell_condnode}
 use Rattle.pol_trans.specs.RoleTransRecord.{spell_role_trans}
 use Rattle.pol_trans.specs.RoleAllowRecord.{spell_role_allow}
 use Rattle.pol_trans.specs.NameTransRecord.{spell_name_trans}

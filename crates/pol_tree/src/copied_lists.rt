@@ -3,10 +3,11 @@ ghost use Rattle.std.specs.Prelude.{◌≡◌, IfOk};
 ghost use Rattle.pol_cursor.specs.References.{values_of};
 ghost use Rattle.pol_tree.specs.PolicyTree.{entries_of, groups_of};
 
-use pol_avtab::{AvRecList, CondNodeRecList, Conditionals};
+use pol_avtab::AvRecList;
 use pol_bitmap::{Set, SetList};
 use pol_classes::{Class, ClassRecList, ClassTable};
 use pol_commons::CommonRecList;
+use pol_conditionals::{CondNodeRecList, Conditionals};
 use pol_contexts::{
     Contexts, FsRecList, FsUseRecList, IbEndPortRecList, IbPkeyRecList, NetifRecList, Node6RecList,
     NodeRecList, PortRecList, SidRecList,

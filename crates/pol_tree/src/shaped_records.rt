@@ -1,7 +1,8 @@
 // The optional parts of each kind of record.
 use crate::shaped::{Shaped, first_wrong, wrong_presence, wrong_where};
-use pol_avtab::{AvPart, AvRec, CondNodeRec};
+use pol_avtab::{AvPart, AvRec};
 use pol_classes::ClassRec;
+use pol_conditionals::CondNodeRec;
 use pol_constraints::{ConstraintItem, ConstraintRec};
 use pol_context::ContextRec;
 use pol_contexts::{AddressRec, FsUseRec, IbEndPortRec, IbPkeyRec, NamedRec, PortRec, SidRec};

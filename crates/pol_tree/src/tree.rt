@@ -1,7 +1,8 @@
-use pol_avtab::{AvRecList, CondNodeRecList};
+use pol_avtab::AvRecList;
 use pol_bitmap::{Set, SetList};
 use pol_classes::ClassRecList;
 use pol_commons::CommonRecList;
+use pol_conditionals::CondNodeRecList;
 use pol_contexts::{
     FsRecList, FsUseRecList, IbEndPortRecList, IbPkeyRecList, NetifRecList, Node6RecList,
     NodeRecList, PortRecList, SidRecList,

@@ -1,13 +1,12 @@
 -- The tree of a policy that was read fits: each part of it does.
-use Rattle.std.proofs.Common.{◌≡◌, ℕ, Bool, true, false, None, List, [], length, refl, if◌then◌else◌, lit<}
+use Rattle.std.proofs.Common.{ℕ, Bool, true, false, None, List, [], refl, if◌then◌else◌, lit<}
 use Rattle.std.specs.List.{AllByRecursion}
 use Rattle.pol_cursor.specs.declared.Field.{Field}
-use Rattle.pol_cursor.specs.Outcome.{Reader, field}
+use Rattle.pol_cursor.specs.Outcome.{field}
 use Rattle.pol_cursor.specs.Parts.{end_at, CountedFits}
 use Rattle.pol_cursor.specs.References.{values_of}
-use Rattle.pol_cursor.specs.Spelling.{AreBytes}
 use Rattle.pol_cursor.proofs.Laws.{Reads-as}
-use Rattle.pol_bitmap.specs.Bitmap.{bitmap_at, spell_bitmap, BitmapFits}
+use Rattle.pol_bitmap.specs.Bitmap.{bitmap_at, BitmapFits}
 use Rattle.pol_bitmap.proofs.Laws.{bitmap_spelled}
 use Rattle.pol_header.specs.HeaderRecord.{header_at, HeaderFits}
 use Rattle.pol_header.proofs.HeaderLaws.{header_spelled}
@@ -25,7 +24,7 @@ use Rattle.pol_symbols.specs.declared.RuleTables.{RuleTables}
 use Rattle.pol_symbols.specs.declared.OtherTables.{OtherTables}
 use Rattle.pol_symbols.specs.PolicySymbols.{rule_tables_at, other_tables_at, symbols_at}
 use Rattle.pol_avtab.specs.AvRecord.{AvFits}
-use Rattle.pol_avtab.specs.CondNodeRecord.{CondNodeFits}
+use Rattle.pol_conditionals.specs.CondNodeRecord.{CondNodeFits}
 use Rattle.pol_trans.specs.RoleTransRecord.{RoleTransFits}
 use Rattle.pol_trans.specs.RoleAllowRecord.{RoleAllowFits}
 use Rattle.pol_trans.specs.NameTransRecord.{NameTransFits}
@@ -53,7 +52,7 @@ use Rattle.pol_laws.specs.TableShapes.{has_groups}
 use Rattle.pol_laws.proofs.SpelledPolicy.{end_spelled}
 use Rattle.pol_tree.specs.PolicyTree.{entries_of, groups_of, tree_of}
 use Rattle.pol_tree.specs.TreeRanges.{TreeFits}
-use Rattle.pol_write.proofs.Findings.{Fit, fit-part, fit-done, laws-alone}
+use Rattle.pol_write.proofs.Findings.{Fit, fit-part, fit-done}
 use Rattle.pol_write.proofs.ListFindings.{FitsIf}
 use Rattle.pol_write.proofs.PartLaws.{commons-laws, classes-laws, roles-laws, types-laws, users-laws, booleans-laws, levels-laws, categories-laws, avtab-laws, condlist-laws, roletrans-laws, roleallow-laws, nametrans-laws, namegroup-laws, rangetrans-laws, sid-laws, named-laws, port-laws, address-laws, fsuse-laws, ibpkey-laws, ibendport-laws, genfs-laws, typemap-laws}
 

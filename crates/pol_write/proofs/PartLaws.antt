@@ -25,9 +25,11 @@ use Rattle.pol_symbols.specs.UserRecord.{spell_user, UserFits}
 use Rattle.pol_symbols.specs.PolicySymbols.{roles_at, types_at, users_at, booleans_at, levels_at, categories_at}
 use Rattle.pol_symbols.proofs.UserLaws.{user_spelled, user_again}
 use Rattle.pol_avtab.specs.AvRecord.{spell_av, AvFits}
-use Rattle.pol_avtab.specs.CondNodeRecord.{spell_condnode, CondNodeFits}
-use Rattle.pol_avtab.specs.AvTables.{table_at as rule_table_at, plain_table_at, conditionals_at, plain_conditionals_at}
-use Rattle.pol_avtab.proofs.AvLaws.{table_spelled as rules_spelled, table_again as rules_again, table_unplaced as rules_unplaced, conditionals_spelled, conditionals_again, conditionals_unplaced}
+use Rattle.pol_conditionals.specs.CondNodeRecord.{spell_condnode, CondNodeFits}
+use Rattle.pol_avtab.specs.AvTables.{table_at as rule_table_at, plain_table_at}
+use Rattle.pol_conditionals.specs.CondNodeList.{conditionals_at, plain_conditionals_at}
+use Rattle.pol_avtab.proofs.AvLaws.{table_spelled as rules_spelled, table_again as rules_again, table_unplaced as rules_unplaced}
+use Rattle.pol_conditionals.proofs.CondNodeLaws.{conditionals_spelled, conditionals_again, conditionals_unplaced}
 use Rattle.pol_trans.specs.RoleTransRecord.{role_trans_at, spell_role_trans, RoleTransFits}
 use Rattle.pol_trans.specs.RoleAllowRecord.{role_allow_at, spell_role_allow, RoleAllowFits}
 use Rattle.pol_trans.specs.NameTransRecord.{name_trans_at, spell_name_trans, NameTransFits}
@@ -42,13 +44,13 @@ use Rattle.pol_contexts.specs.AddressRecord.{address_at, spell_address, AddressF
 use Rattle.pol_contexts.specs.FsUseRecord.{fsuse_at, spell_fsuse, FsUseFits}
 use Rattle.pol_contexts.specs.IbPkeyRecord.{ibpkey_at, spell_ibpkey, IbPkeyFits}
 use Rattle.pol_contexts.specs.IbEndPortRecord.{ibendport_at, spell_ibendport, IbEndPortFits}
-use Rattle.pol_contexts.specs.ContextTables.{has_infiniband, table_if}
+use Rattle.pol_contexts.specs.ContextTables.{table_if}
 use Rattle.pol_contexts.proofs.ContextLaws.{sid_spelled, sid_again, named_spelled, named_again, port_spelled, port_again, address_spelled, address_again, fsuse_spelled, fsuse_again, ibpkey_spelled, ibpkey_again, ibendport_spelled, ibendport_again}
 use Rattle.pol_genfs.specs.GenfsRecord.{genfs_at, spell_genfs, GenfsFits}
 use Rattle.pol_genfs.proofs.GenfsLaws.{genfs_spelled, genfs_again}
 use Rattle.pol_file.specs.TypeMapRows.{type_map_at}
 use Rattle.pol_laws.specs.PolicySpelling.{spell_if}
-use Rattle.pol_write.proofs.Findings.{HasLaws, laws-through, laws-alone}
+use Rattle.pol_write.proofs.Findings.{HasLaws, laws-through}
 use Rattle.pol_write.proofs.ListFindings.{list-laws, table-laws, rows-laws, AreSoManyFitting, list_if-laws, FitsIf}
 
 -- ---- the symbol tables

@@ -20,8 +20,8 @@ use Rattle.rule_criteria.specs.Elements.{elements_of}
 use Rattle.pol_cursor.specs.References.{Placed}
 use Rattle.pol_expr.specs.declared.ConditionRec.{ConditionRec}
 use Rattle.pol_expr.specs.ConditionMeaning.{booleans_in}
-use Rattle.pol_avtab.specs.declared.CondNodeRec.{CondNodeRec}
-use Rattle.pol_avtab.specs.CondNodeRecord.{node_condition}
+use Rattle.pol_conditionals.specs.declared.CondNodeRec.{CondNodeRec}
+use Rattle.pol_conditionals.specs.CondNodeRecord.{node_condition}
 use Rattle.pol_file.specs.declared.Parts.{Parts}
 use Rattle.rule_criteria.specs.declared.Criterion.{Criterion}
 use Rattle.rule_criteria.specs.declared.Mode.{Mode}

@@ -7,7 +7,7 @@ use Rattle.pol_cursor.specs.declared.TableKind.TheVariants.{Classes, Booleans}
 use Rattle.pol_symbols.specs.PolicySymbols.{value_in}
 use Rattle.pol_symbols.specs.declared.Symbols.{Symbols}
 use Rattle.pol_expr.specs.ConditionMeaning.{booleans_in}
-use Rattle.pol_avtab.specs.declared.CondNodeRec.{CondNodeRec}
+use Rattle.pol_conditionals.specs.declared.CondNodeRec.{CondNodeRec}
 use Rattle.pol_rules.specs.declared.RuleKind.{RuleKind}
 use Rattle.pol_rules.specs.declared.RuleKind.TheVariants.{RoleAllow}
 use Rattle.pol_rules.specs.declared.RulePart.{RulePart}

@@ -9,7 +9,7 @@ use Rattle.pol_expr.specs.declared.Symbol.{Symbol}
 use Rattle.pol_expr.specs.Infix.{infix_of}
 use Rattle.pol_expr.specs.Trees.{Leaf, Not, Binary, applied}
 use Rattle.pol_expr.specs.ConditionMeaning.{ConditionTree, condition_symbols, condition_words}
-use Rattle.pol_avtab.specs.declared.CondNodeRec.{CondNodeRec}
+use Rattle.pol_conditionals.specs.declared.CondNodeRec.{CondNodeRec}
 use Rattle.pol_rules.specs.declared.rule.Condition.{Condition}
 
 -- the trees that symbols leave, the latest of them first: each takes its operands from those before it

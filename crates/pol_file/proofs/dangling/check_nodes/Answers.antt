@@ -1,5 +1,5 @@
 use Rattle.std.proofs.Common.{◌∙◌, sym}
-use Rattle.pol_avtab.specs.CondNodeRecord.{condnode_references}
+use Rattle.pol_conditionals.specs.CondNodeRecord.{condnode_references}
 use Rattle.pol_cursor.proofs.DanglingLists.{dangling_later, dangling_here}
 use Rattle.pol_file.proofs.dangling.check_nodes.Goals as goal
 

@@ -1,6 +1,6 @@
 use Rattle.std.proofs.Common.{◌≡◌, drop}
 use Rattle.pol_cursor.specs.References.{dangling_of}
-use Rattle.pol_avtab.specs.CondNodeRecord.{condnode_references}
+use Rattle.pol_conditionals.specs.CondNodeRecord.{condnode_references}
 use Rattle.pol_cursor.specs.References.{references_in}
 use Rattle.pol_file.proofs.dangling.check_nodes.Given as goal
 

@@ -1,7 +1,0 @@
-use Rattle.std.proofs.Common.{◌≡◌, take, map}
-use Rattle.pol_avtab.specs.PlaceGroups.{places_of}
-use Rattle.pol_avtab.specs.CondNodeRecord.{branch_rules}
-use Rattle.pol_avtab.proofs.conditionals.places_of_rules.Given as goal
-
-abbrev pub invariant-loop-i : goal.invariant-loop-i
-invariant-loop-i l = l.groups ≡ map (λ node. places_of (branch_rules node l.branch)) (take l.i l.nodes)

@@ -1,0 +1,3 @@
+pub mod CondNodeLaws
+pub mod RulePlaces
+pub mod Groups

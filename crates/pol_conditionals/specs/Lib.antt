@@ -1,0 +1,3 @@
+pub mod CondNodeRecord
+pub mod CondNodeList
+pub mod PlaceGroups

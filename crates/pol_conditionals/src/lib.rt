@@ -1,0 +1,15 @@
+//! Rules under conditions: the conditional nodes, and the list of them, records of the policy format.
+#![tactic(auto)]
+
+mod conditionals;
+mod condnode_rec;
+mod condnode_view;
+mod condnode_write;
+mod place_groups;
+mod record_laws;
+
+pub use conditionals::{CondNode, Conditionals, read_conditionals};
+pub use condnode_rec::{CondNodeRec, CondNodeRecList};
+pub use condnode_view::{CondNodeView, read_condnode};
+pub use condnode_write::{write_conditionals, write_condnode};
+pub use record_laws::{conditional_nodes_have_laws, conditionals_have_laws};
