@@ -21,7 +21,7 @@ use pol_cursor::{NumberList, OwnedList};
 use pol_expand::TypeMap;
 use pol_read::Policy;
 use pol_rules::RulePart;
-use rule_ends::{RuleEnds, are_two_types, is_type};
+use rule_ends::{ChosenRules, are_two_types, is_type};
 use std::alloc::{AllocError, Global};
 use std::marker::Model;
 use value_groups::DenseSet;
@@ -31,7 +31,7 @@ use value_groups::DenseSet;
 pub struct DomRules<'p> {
     policy: &'p Policy<'p>,
     // One for each grant, in their order.
-    lists: Vec<RuleEnds<'p>>,
+    lists: Vec<ChosenRules<'p>>,
 }
 
 impl<'p> Model for DomRules<'p> {
@@ -87,7 +87,7 @@ impl<'p> DomRules<'p> {
     }
 
     // The rules of a grant.
-    fn list(&self, grant: Grant) -> &RuleEnds<'p>
+    fn list(&self, grant: Grant) -> &ChosenRules<'p>
         ensures { result.now ≡ chosen self.now (rules_of self.now grant) }
     {
         &self.lists[grant.place()]
@@ -486,7 +486,7 @@ impl<'p> DomRules<'p> {
 
 // Adds rules with their ends to lists.
 fn push_ends<'p>(
-    lists: &mut Vec<RuleEnds<'p>>,
+    lists: &mut Vec<ChosenRules<'p>>,
     policy: &'p Policy<'p>,
     types: &'p TypeMap,
     numbers: Vec<u32>,
@@ -496,7 +496,7 @@ fn push_ends<'p>(
     ensures { OnOk result (lists.new.items ≡ lists.old.items ++ chosen policy.now numbers.items ∷ []) }
 {
     let alloc = *lists.allocator();
-    lists.push(RuleEnds::build(alloc, policy, types, numbers)?)?;
+    lists.push(ChosenRules::build(alloc, policy, types, numbers)?)?;
     Ok(())
 }
 
@@ -504,7 +504,7 @@ fn push_ends<'p>(
 fn between_where(
     alloc: Global,
     holds: bool,
-    rules: &RuleEnds<'_>,
+    rules: &ChosenRules<'_>,
     source: u32,
     target: u32,
 ) -> Result<NumberList, AllocError>

@@ -16,7 +16,7 @@ use perm_map::PermMap;
 use pol_bitmap::Set;
 use pol_expand::TypeMap;
 use pol_read::Policy;
-use rule_ends::{RuleEnds, are_two_types, types_outside};
+use rule_ends::{ChosenRules, are_two_types, types_outside};
 use rule_order::sort_by_rule_order;
 use std::alloc::{AllocError, Global};
 use std::marker::Model;
@@ -33,9 +33,9 @@ pub struct FlowGraph<'p> {
     weigher: Weigher<'p>,
     least: u8,
     // The rules that flow from the source to the target at least the weight.
-    out: RuleEnds<'p>,
+    out: ChosenRules<'p>,
     // Those that flow from the target to the source.
-    into: RuleEnds<'p>,
+    into: ChosenRules<'p>,
     excluded: Set,
     // The types that may be an end of an edge.
     open_types: Set,
@@ -75,8 +75,8 @@ impl<'p> FlowGraph<'p> {
         let weigher = Weigher::new(alloc, policy, map)?;
         let found = rules_reaching(alloc, &weigher, least)?;
         Ok(FlowGraph {
-            out: RuleEnds::of_gathered(alloc, policy, types, found.out)?,
-            into: RuleEnds::of_gathered(alloc, policy, types, found.into)?,
+            out: ChosenRules::of_gathered(alloc, policy, types, found.out)?,
+            into: ChosenRules::of_gathered(alloc, policy, types, found.into)?,
             open_types: types_outside(alloc, policy, excluded)?,
             excluded: excluded.share()?,
             weigher,

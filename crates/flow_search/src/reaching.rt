@@ -11,16 +11,16 @@ ghost use Rattle.flow_search.specs.FlowParts.{rules_reaching};
 use crate::reach_test::ReachTest;
 use crate::weigher::Weigher;
 use pol_read::{Policy, Rule};
-use rule_ends::GatheredRules;
+use rule_ends::RulesWithEnds;
 use std::alloc::{AllocError, Global};
 
 /// Rules with their ends.
 #[derive(Drop)]
 pub struct Reaching {
     /// Those that flow from the source to the target at least the weight.
-    pub out: GatheredRules,
+    pub out: RulesWithEnds,
     /// Those that flow from the target to the source.
-    pub into: GatheredRules,
+    pub into: RulesWithEnds,
 }
 
 /// Goes through the rules of a policy once.
@@ -40,8 +40,8 @@ pub fn rules_reaching(
     let policy = weigher.policy();
     let count = policy.rule_count();
     let test = ReachTest::new(alloc, weigher, least)?;
-    let mut out = GatheredRules::new(alloc);
-    let mut into = GatheredRules::new(alloc);
+    let mut out = RulesWithEnds::new(alloc);
+    let mut into = RulesWithEnds::new(alloc);
     for number in 0..count {
         let rule = policy.rule(number);
         let ways = test.ways(&rule);
@@ -53,7 +53,7 @@ pub fn rules_reaching(
 
 // Adds the rule of a number where a test holds.
 fn add_where(
-    found: &mut GatheredRules,
+    found: &mut RulesWithEnds,
     holds: bool,
     policy: &Policy<'_>,
     number: u32,

@@ -1,12 +1,10 @@
 -- The tree of a policy is spelled as the policy is, where this has no wrong optional part.
-use Rattle.std.proofs.Common.{◌≡◌, ℕ, Bool, true, false, None, List, [], ◌++◌, refl, sym, ap, ◌∙◌, append_assoc, if◌then◌else◌}
+use Rattle.std.proofs.Common.{◌≡◌, ℕ, Bool, true, false, None, List, [], ◌++◌, refl, sym, append_assoc, if◌then◌else◌}
 use Rattle.pol_cursor.specs.Parts.{spell_counted}
 use Rattle.pol_trans.specs.NameTransRecord.{spell_name_trans}
 use Rattle.pol_trans.specs.NameGroupRecord.{spell_name_group}
 use Rattle.pol_trans.specs.declared.NameTrans.{NameTrans}
 use Rattle.pol_trans.specs.declared.NameTrans.TheVariants.{Entries, Groups}
-use Rattle.pol_contexts.specs.IbPkeyRecord.{spell_ibpkey}
-use Rattle.pol_contexts.specs.IbEndPortRecord.{spell_ibendport}
 use Rattle.pol_contexts.specs.ContextTables.{has_infiniband}
 use Rattle.pol_file.specs.declared.Parts.{Parts}
 use Rattle.pol_laws.specs.PolicySpelling.{spell_if, spell_list, spell_symbol_table, spell_front as spell_front_parts, spell_symbols as spell_symbol_tables, spell_name_transitions as spell_either, spell_rule_lists, spell_contexts as spell_context_tables, spell_label_lists, spell_policy}

@@ -1,5 +1,5 @@
 // The optional parts of records and of lists.
-ghost use Rattle.std.specs.Prelude.{◌≡◌, ℕ, Option, length};
+ghost use Rattle.std.specs.Prelude.{◌≡◌, ℕ, Option};
 ghost use Rattle.pol_cursor.specs.declared.Field.{Field};
 ghost use Rattle.pol_laws.specs.OptionalParts.{wrong_if, shape_of_part, shape_of_list, first_of, first_in};
 

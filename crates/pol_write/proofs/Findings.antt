@@ -2,7 +2,7 @@
 use Rattle.std.proofs.Common.{◌≡◌, ℕ, ◌+◌, List, [], ◌++◌, length, refl, sym, ap, subst, ◌∙◌, append_assoc, arith}
 use Rattle.std.proofs.lemmas.List.{length-append}
 use Rattle.pol_cursor.specs.Outcome.{Outcome, Reader, Got, Bad, and_then, ◌>>=◌, done}
-use Rattle.pol_cursor.specs.Laws.{Reads, IsOf, Again, IsReadAgain, IsReadFromSpelling}
+use Rattle.pol_cursor.specs.Laws.{Reads, IsOf, IsReadAgain, IsReadFromSpelling}
 use Rattle.pol_cursor.proofs.Laws.{Reads-then, Reads-done}
 
 -- ---- what reading a text again gives

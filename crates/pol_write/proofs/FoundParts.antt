@@ -1,9 +1,6 @@
 -- The bytes of a tree, read again: each part is bad, or gives what the tree has.
-use Rattle.std.proofs.Common.{◌≡◌, ℕ, Bool, true, false, None, List, [], ◌++◌, length, refl, sym, ap, subst, ◌∙◌, append_assoc, if◌then◌else◌}
-use Rattle.std.specs.Prelude.{nat_le, slice_index}
+use Rattle.std.proofs.Common.{◌≡◌, ℕ, Bool, true, false, None, List, [], ◌++◌, length, refl, sym, append_assoc, if◌then◌else◌}
 use Rattle.std.proofs.lemmas.List.{append-nil}
-use Rattle.std.specs.List.{flat_map}
-use Rattle.pol_cursor.specs.Outcome.{Reader, field}
 use Rattle.pol_cursor.specs.Parts.{spell_counted, CountedFits}
 use Rattle.pol_cursor.specs.References.{values_of}
 use Rattle.pol_bitmap.specs.Bitmap.{bitmap_at, spell_bitmap, BitmapFits}
@@ -40,7 +37,7 @@ use Rattle.pol_laws.specs.PolicySpelling.{spell_if}
 use Rattle.pol_laws.specs.TableShapes.{has_groups}
 use Rattle.pol_tree.specs.declared.Tree.{Tree}
 use Rattle.pol_tree.specs.PolicyTree.{entries_of, groups_of}
-use Rattle.pol_tree.specs.TreeSpelling.{header_of, table_of, spell_front, spell_symbols, spell_name_transitions, spell_rules, spell_contexts, spell_labels}
+use Rattle.pol_tree.specs.TreeSpelling.{header_of, table_of, spell_front, spell_symbols, spell_rules, spell_contexts, spell_labels}
 use Rattle.pol_tree.specs.TreeRanges.{TreeFits}
 use Rattle.pol_write.proofs.Findings.{FindsAgain, finds-part, finds-done, finds-as, laws-alone}
 use Rattle.pol_write.proofs.ListFindings.{FitsIf}

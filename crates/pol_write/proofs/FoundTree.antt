@@ -5,7 +5,7 @@ use Rattle.std.proofs.lemmas.List.{append-nil}
 use Rattle.std.proofs.lemmas.Bool.{eqb-true}
 use Rattle.pol_cursor.specs.declared.Fault.{Fault}
 use Rattle.pol_cursor.specs.declared.Field.{Field}
-use Rattle.pol_cursor.specs.Outcome.{Outcome, Reader, Got, Bad, field}
+use Rattle.pol_cursor.specs.Outcome.{Outcome, Got, Bad, field}
 use Rattle.pol_cursor.specs.Parts.{end_at}
 use Rattle.pol_cursor.specs.References.{values_of}
 use Rattle.pol_header.specs.declared.HeaderRec.{HeaderRec}

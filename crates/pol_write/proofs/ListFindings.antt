@@ -10,7 +10,7 @@ use Rattle.pol_cursor.specs.Laws.{IsReadAgain, IsReadFromSpelling}
 use Rattle.pol_cursor.proofs.Laws.{Reads-list_of, Again-list_of, records_spelled, records_again, counted_spelled, counted_again}
 use Rattle.pol_cursor.proofs.Lists.{records_unplaced}
 use Rattle.pol_cursor.proofs.ContextLists.{records_after_unplaced}
-use Rattle.pol_symtab.specs.SymbolTables.{Table, BareTable, bare, table_at, bare_table_at, spell_table, TableFits}
+use Rattle.pol_symtab.specs.SymbolTables.{bare, table_at, bare_table_at, spell_table, TableFits}
 use Rattle.pol_symtab.proofs.TableLaws.{table_spelled, table_again, table_unplaced}
 use Rattle.pol_contexts.specs.ContextTables.{table_if}
 use Rattle.pol_laws.specs.PolicySpelling.{spell_if}

@@ -1,6 +1,5 @@
 -- The tree of a file that is accepted is sound, and is spelled by the bytes of the file.
-use Rattle.std.proofs.Common.{◌≡◌, ℕ, ◌≤◌, true, Option, Some, None, Ok, List, length, refl, ◌∙◌}
-use Rattle.std.specs.Prelude.{nat_le}
+use Rattle.std.proofs.Common.{◌≡◌, ℕ, ◌≤◌, None, Ok, List, length, refl, ◌∙◌}
 use Rattle.std.proofs.lemmas.Bool.{le-leb}
 use Rattle.pol_cursor.specs.Spelling.{AreBytes}
 use Rattle.pol_file.specs.declared.Parts.{Parts}
@@ -10,7 +9,6 @@ use Rattle.pol_laws.proofs.ShapedPolicy.{accepted_is_shaped}
 use Rattle.pol_laws.proofs.SpelledPolicy.{accepted_is_spelled}
 use Rattle.pol_tree.specs.PolicyTree.{tree_of}
 use Rattle.pol_tree.specs.TreeSpelling.{spell}
-use Rattle.pol_tree.specs.TreeShape.{shape}
 use Rattle.pol_tree.specs.TreeRanges.{TreeFits}
 use Rattle.pol_tree.proofs.ShapedTree.{tree-shaped}
 use Rattle.pol_tree.proofs.SpelledTree.{tree-spelled}

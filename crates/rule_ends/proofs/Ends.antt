@@ -91,15 +91,6 @@ its_ends policy number rule at = ap (passes (has_ends rule.source rule.target)) 
 
 -- ---- the ends of rules, place by place
 
-pub ends_none : (policy : Parts) (sources targets : List ℕ) → sources ≡ [] → targets ≡ [] → AreEndsOf policy [] sources targets
-ends_none policy sources targets s t = rw (s, t) (record {
-  sources_long = refl;
-  targets_long = refl;
-  each = λ place lt. absurd (omega (arith, lt));
-  sources_are = λ k d lt. absurd (omega (arith, lt));
-  targets_are = λ k d lt. absurd (omega (arith, lt));
-})
-
 pub ends_more : (policy : Parts) (rules sources targets : List ℕ) (number source target : ℕ) → AreEndsOf policy rules sources targets → rule_passes policy (has_ends source target) number ≡ true → IsEnd policy source → IsEnd policy target
     → AreEndsOf policy (rules ++ number ∷ []) (sources ++ source ∷ []) (targets ++ target ∷ [])
 ends_more policy rules sources targets number source target are passed is_source is_target = record {

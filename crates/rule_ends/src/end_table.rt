@@ -4,7 +4,7 @@ ghost use Rattle.rule_ends.specs.ChosenRules.{is_between_types};
 ghost use Rattle.value_groups.specs.Grouping.{AreGroupsOf};
 ghost use Rattle.rule_ends.specs.EndTables.{AreEndsOf};
 
-use crate::gathered::GatheredRules;
+use crate::gathered::RulesWithEnds;
 use pol_read::Policy;
 use std::alloc::{AllocError, Global};
 use value_groups::Groups;
@@ -24,7 +24,7 @@ impl EndTable {
     pub fn of_gathered(
         alloc: Global,
         policy: &Policy<'_>,
-        gathered: GatheredRules,
+        gathered: RulesWithEnds,
     ) -> Result<EndTable, AllocError>
         requires few { length gathered.rules.items < 2 ^ 32 }
         requires ends { AreEndsOf policy.now gathered.rules.items gathered.sources.items gathered.targets.items }
@@ -51,12 +51,12 @@ pub fn gathered_rules(
     alloc: Global,
     policy: &Policy<'_>,
     numbers: &[u32],
-) -> Result<GatheredRules, AllocError>
+) -> Result<RulesWithEnds, AllocError>
     requires { All (λ number. is_between_types policy.now number ≡ true) numbers.now }
     ensures rules { IfOk result (λ gathered. gathered.rules.items ≡ numbers.now) }
     ensures ends { IfOk result (λ gathered. AreEndsOf policy.now gathered.rules.items gathered.sources.items gathered.targets.items) }
 {
-    let mut gathered = GatheredRules::new(alloc);
+    let mut gathered = RulesWithEnds::new(alloc);
     for number in numbers {
         gathered.add(policy, *number, &policy.rule(*number))?;
     }

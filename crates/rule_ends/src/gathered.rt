@@ -10,19 +10,19 @@ use std::alloc::{AllocError, Global};
 
 /// Rules that are gathered one by one, with their ends, each at the place of its number.
 #[derive(Drop)]
-pub struct GatheredRules {
+pub struct RulesWithEnds {
     pub rules: Vec<u32>,
     pub sources: Vec<u32>,
     pub targets: Vec<u32>,
 }
 
-impl GatheredRules {
+impl RulesWithEnds {
     /// No rule yet.
-    pub fn new(alloc: Global) -> GatheredRules
+    pub fn new(alloc: Global) -> RulesWithEnds
         ensures none { result.rules.items ≡ [] }
         ensures ends { (policy : Parts) → AreEndsOf policy result.rules.items result.sources.items result.targets.items }
     {
-        GatheredRules {
+        RulesWithEnds {
             rules: Vec::new(alloc),
             sources: Vec::new(alloc),
             targets: Vec::new(alloc),

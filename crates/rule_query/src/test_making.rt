@@ -1,5 +1,5 @@
 // The test of a criterion.
-ghost use Rattle.std.specs.Prelude.{◌≡◌, IfOk};
+ghost use Rattle.std.specs.Prelude.{IfOk};
 ghost use Rattle.pol_expand.specs.PolicyMap.{IsPolicyMap};
 ghost use Rattle.rule_query.specs.Given.{shown};
 ghost use Rattle.rule_query.specs.Tests.{HasPatternWord};

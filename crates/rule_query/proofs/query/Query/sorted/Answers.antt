@@ -1,7 +1,6 @@
-use Rattle.std.proofs.Common.{length, refl, arith}
-use Rattle.pol_rules.specs.StoredRules.{stored_rules}
+use Rattle.std.proofs.Common.{refl}
 use Rattle.rule_query.specs.Meeting.{meets}
-use Rattle.rule_query.proofs.Passing.{kept_all, kept_next}
+use Rattle.rule_query.proofs.Passing.{kept_next}
 use Rattle.rule_query.proofs.query.Query.sorted.Goals as goal
 
 pub loop-n-preserved : goal.loop-n-preserved

@@ -6,7 +6,7 @@ use Rattle.value_groups.specs.Grouping.{group_of}
 use Rattle.rule_ends.specs.ChosenRules.{ChosenRules, holds_type, targets_from}
 use Rattle.rule_ends.specs.EndTables.{IsEnd, is_other_end}
 use Rattle.rule_ends.proofs.Found.{targets_are, groups_within, others_are_ends}
-use Rattle.rule_ends.proofs.rule_ends.RuleEnds.targets_of.Goals as goal
+use Rattle.rule_ends.proofs.chosen_rules.ChosenRules.targets_of.Goals as goal
 
 pub other_ends-requires-clause-places : goal.other_ends-requires-clause-places
 other_ends-requires-clause-places c =

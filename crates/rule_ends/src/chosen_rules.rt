@@ -7,7 +7,7 @@ ghost use Rattle.rule_ends.specs.ChosenRules.{is_between_types, any_joins, rules
 ghost use Rattle.rule_ends.specs.EndTables.{AreEndsOf};
 
 use crate::end_table::{EndTable, gathered_rules};
-use crate::gathered::GatheredRules;
+use crate::gathered::RulesWithEnds;
 use crate::holding::{ends_holding, types_of, values_in};
 use crate::walking::{found_rules, has_rule, other_ends};
 use pol_bitmap::Set;
@@ -23,13 +23,13 @@ use std::marker::Model;
 /// The rules stand by their stored sources and by their stored targets. The stored ends that hold a type are the type itself and
 /// the attributes of its row in the policy's map of types, so that the rules of a type are found without looking at others.
 #[derive(Drop)]
-pub struct RuleEnds<'p> {
+pub struct ChosenRules<'p> {
     policy: &'p Policy<'p>,
     types: &'p TypeMap,
     table: EndTable,
 }
 
-impl<'p> Model for RuleEnds<'p> {
+impl<'p> Model for ChosenRules<'p> {
     ghost use Rattle.rule_ends.specs.ChosenRules.{ChosenRules};
     ghost use Rattle.rule_ends.specs.EndTables.{IsTableOf};
     ghost use Rattle.pol_expand.specs.PolicyMap.{IsPolicyMap};
@@ -41,21 +41,21 @@ impl<'p> Model for RuleEnds<'p> {
     ghost invariant = { λ r. IsPolicyMap r.policy.now r.types.now × IsTableOf r.policy.now r.table.rules.items r.table.sources.items r.table.targets.items r.table.by_source r.table.by_target };
 }
 
-impl<'p> RuleEnds<'p> {
+impl<'p> ChosenRules<'p> {
     /// The rules of these numbers, with the map of the policy's types. The ends of each rule are types and attributes.
     pub fn build(
         alloc: Global,
         policy: &'p Policy<'p>,
         types: &'p TypeMap,
         numbers: Vec<u32>,
-    ) -> Result<RuleEnds<'p>, AllocError>
+    ) -> Result<ChosenRules<'p>, AllocError>
         requires map { IsPolicyMap policy.now types.now }
         requires rules { All (λ number. is_between_types policy.now number ≡ true) numbers.items }
         requires few { length numbers.items < 2 ^ 32 }
         ensures { IfOk result (λ ends. ends ≡ record { policy = policy.now; rules = numbers.items }) }
     {
         let gathered = gathered_rules(alloc, policy, &numbers)?;
-        RuleEnds::of_gathered(alloc, policy, types, gathered)
+        ChosenRules::of_gathered(alloc, policy, types, gathered)
     }
 
     /// The same of rules that were gathered with their ends.
@@ -63,15 +63,15 @@ impl<'p> RuleEnds<'p> {
         alloc: Global,
         policy: &'p Policy<'p>,
         types: &'p TypeMap,
-        gathered: GatheredRules,
-    ) -> Result<RuleEnds<'p>, AllocError>
+        gathered: RulesWithEnds,
+    ) -> Result<ChosenRules<'p>, AllocError>
         requires map { IsPolicyMap policy.now types.now }
         requires ends { AreEndsOf policy.now gathered.rules.items gathered.sources.items gathered.targets.items }
         requires few { length gathered.rules.items < 2 ^ 32 }
         ensures { IfOk result (λ ends. ends ≡ record { policy = policy.now; rules = gathered.rules.items }) }
     {
         let table = EndTable::of_gathered(alloc, policy, gathered)?;
-        Ok(RuleEnds {
+        Ok(ChosenRules {
             policy,
             types,
             table,

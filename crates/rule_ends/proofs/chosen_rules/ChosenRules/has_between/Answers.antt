@@ -3,7 +3,7 @@ use Rattle.value_groups.specs.Grouping.{group_of}
 use Rattle.rule_ends.specs.ChosenRules.{ChosenRules, holds_type, joins, any_joins}
 use Rattle.rule_ends.specs.EndTables.{any_found}
 use Rattle.rule_ends.proofs.Found.{by_sources, any_is, groups_within}
-use Rattle.rule_ends.proofs.rule_ends.RuleEnds.has_between.Goals as goal
+use Rattle.rule_ends.proofs.chosen_rules.ChosenRules.has_between.Goals as goal
 
 pub has_rule-requires : goal.has_rule-requires
 has_rule-requires c =

@@ -1,7 +1,7 @@
 use Rattle.pol_file.proofs.Acceptances.{accepted_has_type_values}
 use Rattle.pol_rules.specs.StoredRules.{stored}
 use Rattle.rule_ends.proofs.Ends.{gathered_more}
-use Rattle.rule_ends.proofs.gathered.GatheredRules.add.Goals as goal
+use Rattle.rule_ends.proofs.gathered.RulesWithEnds.add.Goals as goal
 
 pub returns-clause-ends : goal.returns-clause-ends
 returns-clause-ends c =

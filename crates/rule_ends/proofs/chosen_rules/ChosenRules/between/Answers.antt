@@ -4,7 +4,7 @@ use Rattle.value_groups.specs.Grouping.{group_of}
 use Rattle.rule_ends.specs.ChosenRules.{ChosenRules, rules_between}
 use Rattle.rule_ends.specs.EndTables.{rules_found}
 use Rattle.rule_ends.proofs.Found.{between_is, groups_within}
-use Rattle.rule_ends.proofs.rule_ends.RuleEnds.between.Goals as goal
+use Rattle.rule_ends.proofs.chosen_rules.ChosenRules.between.Goals as goal
 
 pub found_rules-requires-clause-rules : goal.found_rules-requires-clause-rules
 found_rules-requires-clause-rules c =
