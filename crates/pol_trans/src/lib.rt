@@ -8,6 +8,7 @@ mod name_datum_view;
 mod name_group_rec;
 mod name_group_view;
 mod name_group_write;
+mod name_parts;
 mod name_trans;
 mod name_trans_rec;
 mod name_trans_view;
@@ -23,6 +24,7 @@ mod role_trans_rec;
 mod role_trans_view;
 mod role_trans_write;
 mod rows;
+mod transition;
 
 pub use lists::{
     NameGroupList, NameTransList, RangeTransList, RoleAllowList, RoleTransList, read_range_trans,
@@ -50,3 +52,4 @@ pub use role_allow_write::write_role_allow;
 pub use role_trans_rec::{RoleTransRec, RoleTransRecList};
 pub use role_trans_view::{RoleTransView, read_role_trans_entry};
 pub use role_trans_write::write_role_trans;
+pub use transition::{TransitionKind, TransitionView};

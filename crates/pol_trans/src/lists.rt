@@ -12,23 +12,24 @@ use crate::range_trans_rec::RangeTransRec;
 use crate::role_allow_rec::RoleAllowRec;
 use crate::role_trans_rec::RoleTransRec;
 use crate::rows::{RANGE_TRANS, ROLE_ALLOW, ROLE_TRANS};
+use crate::transition::TransitionKind;
 use pol_cursor::{Cursor, Field, ReadAlone, ReadError, Records, read_counted};
 use std::alloc::Global;
 
 /// The role transitions of a policy. Contracts see the list of them, each with its place.
-pub type RoleTransList<'a> = Records<'a, RoleTransRec>;
+pub type RoleTransList<'a> = Records<'a, TransitionKind<RoleTransRec>>;
 
 /// The role allows of a policy. Contracts see the list of them, each with its place.
-pub type RoleAllowList<'a> = Records<'a, RoleAllowRec>;
+pub type RoleAllowList<'a> = Records<'a, TransitionKind<RoleAllowRec>>;
 
 /// The range transitions of a policy. Contracts see the list of them, each with its place.
-pub type RangeTransList<'a> = Records<'a, RangeTransRec>;
+pub type RangeTransList<'a> = Records<'a, TransitionKind<RangeTransRec>>;
 
 /// The file-name transitions of a policy, one by one. Contracts see the list of them, each with its place.
-pub type NameTransList<'a> = Records<'a, NameTransRec>;
+pub type NameTransList<'a> = Records<'a, TransitionKind<NameTransRec>>;
 
 /// The file-name transitions of a policy, in groups. Contracts see the list of them, each with its place.
-pub type NameGroupList<'a> = Records<'a, NameGroupRec>;
+pub type NameGroupList<'a> = Records<'a, TransitionKind<NameGroupRec>>;
 
 /// Reads the list of that code: a count, which is its first part, and so many records.
 pub fn read_list<'a, K: ReadAlone + Drop>(

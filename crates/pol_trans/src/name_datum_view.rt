@@ -1,16 +1,17 @@
-ghost use Rattle.std.specs.Prelude.{◌≡◌, ◌+◌, [], ◌∷◌, IfOk};
+ghost use Rattle.std.specs.Prelude.{◌≡◌, ◌+◌, [], ◌∷◌};
 ghost use Rattle.pol_cursor.specs.References.{dangling_of};
 ghost use Rattle.pol_trans.specs.NameGroupRecord.{name_datum_in, HasNameDatum, name_datum_reference};
 
 use crate::name_datum_rec::NameDatumRec;
 use crate::rows::NAME_GROUP;
+use crate::transition::{Stored, TransitionView};
 use pol_bitmap::{BitmapView, Set};
 use pol_cursor::TableKind::Types;
 use pol_cursor::{
     Copied, Cursor, Fault, Field, Inner, Names, Record, RecordView, dangling, u32_in,
 };
 use std::alloc::{AllocError, Global};
-use std::marker::Model;
+use std::marker::PhantomData;
 
 // The default's field.
 const DEFAULT: Field = Field {
@@ -19,23 +20,7 @@ const DEFAULT: Field = Field {
 };
 
 /// A datum of a group of file-name transitions in the buffer.
-#[derive(Drop)]
-pub struct NameDatumView<'a> {
-    bytes: &'a [u8],
-    place: u32,
-}
-
-impl<'a> Model for NameDatumView<'a> {
-    ghost use Rattle.pol_cursor.specs.References.{Placed};
-    ghost use Rattle.pol_trans.specs.declared.name_datum_rec.NameDatumRec.{NameDatumRec};
-    ghost use Rattle.pol_trans.specs.NameGroupRecord.{name_datum_in, HasNameDatum};
-
-    ghost Value = { Placed NameDatumRec };
-
-    ghost view = { λ v. record { place = v.place; value = name_datum_in v.bytes.now v.place } };
-
-    ghost invariant = { λ v. HasNameDatum v.bytes.now v.place };
-}
+pub type NameDatumView<'a> = TransitionView<'a, NameDatumRec>;
 
 impl<'a> NameDatumView<'a> {
     /// The place of its first byte.
@@ -68,14 +53,17 @@ impl<'a> NameDatumView<'a> {
         let place = self.place + self.sources().size();
         dangling(names, place, DEFAULT, Types, self.default())
     }
+}
 
-    /// The same datum, owned.
-    pub fn rec(&self, alloc: Global) -> Result<NameDatumRec, AllocError>
-        ensures { IfOk result (λ datum. datum ≡ self.now.value) }
-    {
+impl Stored for NameDatumRec {
+    ghost standing = { name_datum_in };
+
+    ghost has = { HasNameDatum };
+
+    fn copy_of(view: &NameDatumView<'_>, alloc: Global) -> Result<NameDatumRec, AllocError> {
         Ok(NameDatumRec {
-            sources: Set::from_view(alloc, &self.sources())?,
-            default: self.default(),
+            sources: Set::from_view(alloc, &view.sources())?,
+            default: view.default(),
         })
     }
 }
@@ -120,7 +108,11 @@ impl<'a> RecordView<'a> for NameDatum {
     ghost shown = { λ view. view };
 
     fn at(bytes: &'a [u8], place: u32) -> NameDatumView<'a> {
-        NameDatumView { bytes, place }
+        NameDatumView {
+            bytes,
+            place,
+            owned: PhantomData,
+        }
     }
 }
 
