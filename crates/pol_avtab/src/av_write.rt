@@ -14,7 +14,7 @@ pub fn write_av(av: &AvRec, _version: u32, out: &mut Vec<u8>) -> Result<(), Allo
 }
 
 /// Appends the bytes of a table of access vectors, which are the same in each version: their number, and then they. Out of
-/// memory, a beginning of the bytes was appended; so it is with the writers below.
+/// memory, a beginning of the bytes was appended.
 pub fn write_table(rules: &AvRecList, _version: u32, out: &mut Vec<u8>) -> Result<(), AllocError>
     ensures { Writes out.old.items out.new.items (spell_table rules.now) result }
 {

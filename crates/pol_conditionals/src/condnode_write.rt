@@ -6,7 +6,8 @@ use crate::condnode_rec::{CondNodeRec, CondNodeRecList};
 use pol_cursor::{Part, Written};
 use std::alloc::AllocError;
 
-/// Appends the bytes of a conditional node, which are the same in each version: its condition, and then the two lists.
+/// Appends the bytes of a conditional node, which are the same in each version: its condition, and then the two lists. Out of
+/// memory, a beginning of the bytes was appended; so it is with the writer below.
 pub fn write_condnode(
     node: &CondNodeRec,
     _version: u32,
