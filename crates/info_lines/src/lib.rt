@@ -1,6 +1,7 @@
 //! The kinds of listings, their lines, which are made one after the other, and the order of names.
 #![tactic(auto)]
 
+mod entry_lines;
 mod file_lines;
 mod laws;
 mod lines;
@@ -8,6 +9,7 @@ mod listing;
 mod name_order;
 mod name_sets;
 
+pub use entry_lines::{EntryLines, EntryText};
 pub use file_lines::{ChainedLines, FileLines};
 pub use laws::primary_records_are_listed_once;
 pub use lines::{LineText, Lines, NumberedLines};
