@@ -1,6 +1,8 @@
 -- Parts of a list of items, and those after them.
 use Rattle.std.proofs.Common.{◌≡◌, ◌+◌, ◌++◌, ◌∷◌, [], ℕ, zero, suc, List, take, drop, Option, Some, None, sym, ◌∙◌, ap, refl, arith}
+use Rattle.std.specs.List.{concat}
 use Rattle.std.proofs.lemmas.List.{take-append-drop, drop-drop}
+use Rattle.std.proofs.lemmas.List.Folds.{concat-append}
 use Rattle.se_items.specs.Paging.{page, most_items}
 
 pub page_then : (from count : ℕ) (items : List (List ℕ)) → page from (Some count) items ++ page (from + count) None items ≡ page from None items
@@ -8,6 +10,10 @@ unfolding page
 page_then from count items =
     let all : List (List ℕ) = take most_items items in
     ap (λ rest. take count (drop from all) ++ rest) (sym (drop-drop count from all)) ∙ take-append-drop count (drop from all)
+
+-- and so of their texts
+pub texts_then : (from count : ℕ) (items : List (List ℕ)) → concat (page from (Some count) items) ++ concat (page (from + count) None items) ≡ concat (page from None items)
+texts_then from count items = sym (concat-append (page from (Some count) items) (page (from + count) None items)) ∙ ap concat (page_then from count items)
 
 take-none : {A : Type 0} (count : ℕ) → take {A = A} count [] ≡ []
 take-none zero = refl
