@@ -3,5 +3,7 @@
 
 mod flow;
 mod flow_texts;
+mod laws;
 
 pub use flow::answer_flow;
+pub use laws::flows_resume;

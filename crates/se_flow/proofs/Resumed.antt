@@ -1,0 +1,21 @@
+-- Some flows or walks, and then those after them.
+use Rattle.std.proofs.Common.{◌≡◌, ◌+◌, ◌++◌, ℕ, List, Some, None, Result, Ok, Err, refl}
+use Rattle.pol_file.specs.declared.Parts.{Parts}
+use Rattle.perm_map.specs.declared.MapFault.{MapFault}
+use Rattle.perm_map.specs.PermissionMap.{Entry, map_of, weights_of}
+use Rattle.se_items.proofs.Resuming.{texts_then}
+use Rattle.se_status.proofs.Unless.{parts_then}
+use Rattle.se_walks.specs.TypeNames.{first_unknown, type_words}
+use Rattle.se_words.specs.FlowRequest.{FlowAsks}
+use Rattle.se_flow.specs.FlowAnswer.{flow_answer, flow_items, flows_text, is_listed, mapped_answer}
+
+mapped-then : (asks : FlowAsks) (policy : Parts) (count : ℕ) (read : Result (List Entry) MapFault)
+    → (mapped_answer (record asks { limit = Some count }) policy read).text ++ (mapped_answer (record asks { from = asks.from + count; limit = None }) policy read).text ≡ (mapped_answer (record asks { limit = None }) policy read).text
+unfolding flows_text is_listed
+mapped-then asks policy count (Ok entries) = parts_then (first_unknown policy (type_words asks.source asks.target asks.excluded)) _ _ _ (texts_then asks.from count (flow_items asks policy (weights_of entries)))
+mapped-then asks policy count (Err fault) = refl
+
+pub answer_then : (asks : FlowAsks) (policy : Parts) (bytes : List ℕ) (count : ℕ)
+    → (flow_answer (record asks { limit = Some count }) policy bytes).text ++ (flow_answer (record asks { from = asks.from + count; limit = None }) policy bytes).text ≡ (flow_answer (record asks { limit = None }) policy bytes).text
+unfolding flow_answer
+answer_then asks policy bytes count = mapped-then asks policy count (map_of bytes)
