@@ -1,5 +1,5 @@
 pub mod Words
 pub mod Ranges
 pub mod Marks
-pub mod Chains
+pub mod PlacesByValue
 pub mod Stretches

@@ -2,7 +2,7 @@ ghost use Rattle.std.specs.Prelude.{◌≡◌, ◌<◌, ◌≤◌, ◌^◌, IfOk
 ghost use Rattle.std.specs.List.{All};
 ghost use Rattle.value_groups.specs.Grouping.{group_of, AreGroupsOf};
 
-use crate::chain::{chain_of, push_places};
+use crate::counting::{places_by_value, starts_of};
 use std::alloc::{AllocError, Global};
 use std::marker::Model;
 
@@ -33,14 +33,8 @@ impl Groups {
         requires within { All (λ value. value ≤ most) values.now }
         ensures { IfOk result (λ groups. AreGroupsOf most values.now groups) }
     {
-        let chain = chain_of(alloc, values, most)?;
-        let mut starts = Vec::with_capacity(alloc, most as usize + 2)?;
-        let mut places = Vec::with_capacity(alloc, values.len())?;
-        for value in 0..most + 1 {
-            starts.push(places.len())?;
-            push_places(&mut places, values, most, &chain, value)?;
-        }
-        starts.push(places.len())?;
+        let starts = starts_of(alloc, values, most)?;
+        let places = places_by_value(alloc, values, most, &starts)?;
         Ok(Groups { starts, places })
     }
 

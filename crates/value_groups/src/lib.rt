@@ -4,7 +4,7 @@
 //! value is found by where its group begins.
 #![tactic(auto)]
 
-mod chain;
+mod counting;
 mod dense_set;
 mod groups;
 mod marked;
