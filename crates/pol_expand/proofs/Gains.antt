@@ -3,34 +3,49 @@ use Rattle.std.proofs.Common.{◌≡◌, inl, inr, ℕ, zero, suc, ◌+◌, ◌-
 use Rattle.std.specs.Prelude.{◌==◌, ◌&&◌, ◌||◌, nat_lt, bit_or, slice_index_or}
 use Rattle.std.specs.Int.{bit_at, w64}
 use Rattle.std.specs.List.{All, Contains, filter, list_any, range_with_len}
-use Rattle.std.proofs.lemmas.Bool.{cases_eq, eqb-true, eq-eqb, ne_eqb, or_left, or_right, cases_Bool, cases_lt, lt-ltb, le-ltb, false≢true}
+use Rattle.std.specs.List.Sorted.{IsStrictlyIncreasing}
+use Rattle.std.proofs.lemmas.Bool.{cases_eq, eqb-true, eq-eqb, ne_eqb, or_left, or_right, cases_Bool, cases_lt, lt-ltb, le-ltb}
 use Rattle.std.proofs.lemmas.Nat.Bits.{bit_at_set_same, bit_at_set_other, bit_at-zero}
-use Rattle.std.proofs.lemmas.List.{get_or_past, get_or-set_same, get_or-set_other, length-set, take-append-le, take_all}
+use Rattle.std.proofs.lemmas.List.{get_or-set_same, get_or-set_other, length-set, take-append-le, take_all}
 use Rattle.std.proofs.lemmas.List.Elements.{All-contains, All-filter, All-weaker, filter-append}
-use Rattle.std.proofs.lemmas.List.FromFn.{get_or-map-range_with_len}
+use Rattle.std.proofs.lemmas.List.Folds.{list_any_at, list_any_more, list_any_none}
 use Rattle.std.proofs.lemmas.Map.Views.{Contains-from_any}
 use Rattle.pol_bitmap.specs.declared.node.Node.{Node}
 use Rattle.pol_bitmap.specs.Nodes.{bits_of, node_has, node_bits, has_bit}
 use Rattle.pol_bitmap.proofs.BitLists.{has_bit-from_bits, bits-from_has_bit}
-use Rattle.pol_bitmap.proofs.Elements.{range_holds}
+use Rattle.pol_bitmap.proofs.Elements.{contains_range, keeps, range_holds}
 use Rattle.pol_bitmap.specs.Sets.{IsSet, IsSetFrom}
 use Rattle.pol_bitmap.proofs.LowestBits.{no_bits}
 use Rattle.pol_bitmap.proofs.Merging.{IsRisingTo, fits-more, made-end, or_nothing}
-use Rattle.pol_bitmap.proofs.SetMaking.{starts_below}
+use Rattle.pol_bitmap.proofs.SetMaking.{before_below, starts_below}
 use Rattle.pol_expand.specs.Expansion.{HaveRows, row_of}
-use Rattle.pol_expand.specs.Inverting.{has_attribute, is_flagged, word_has_type, GainType, AreWords, HaveRoom, GainNodes, AreListsBelow, AreLists}
-use Rattle.pol_expand.proofs.Values.{same_tests}
+use Rattle.pol_expand.specs.Inverting.{attribute_bits, has_attribute, is_one_of, word_has_type, GainType, AreWords, HaveRoom, GainNodes, AreListsBelow, AreLists}
+use Rattle.pol_expand.proofs.Values.{filter_rises, same_tests}
 
--- ---- flags
--- a flag of a bit says whether its value is an attribute
-pub flagged_is : (flags : List Bool) (attributes : List Node) (n bit : ℕ) → flags ≡ map (has_bit attributes) (range_with_len 1 n) → bit < n → is_flagged flags bit ≡ has_bit attributes (bit + 1)
-flagged_is flags attributes n bit e lt = ap (λ (fs : List Bool). slice_index_or fs bit false) e ∙ get_or-map-range_with_len (has_bit attributes) 1 n bit (bit + 1) false (omega arith) (omega arith)
+-- ---- bits
 
-pub flagged_within : (flags : List Bool) (bit : ℕ) → is_flagged flags bit ≡ true → bit < length flags
-flagged_within flags bit is = elim (cases_lt bit (length flags)) [
-  | inl lt ↦ lt
-  | inr le ↦ absurd (false≢true (sym (get_or_past flags bit false le) ∙ is))
-]
+-- what is among some is one of them
+any_from : (bit : ℕ) (xs : List ℕ) → Contains xs bit → is_one_of xs bit ≡ true
+any_from bit [] (k, lt, is) = absurd (omega arith)
+any_from bit (x ∷ xs) (zero, lt, is) = let same : bit ≡ x = cc in or_left (bit == x) (is_one_of xs bit) (eq-eqb bit x same)
+any_from bit (x ∷ xs) (suc k, lt, is) = or_right (bit == x) (is_one_of xs bit) (any_from bit xs (k, omega (arith, lt), is))
+
+from_any : (bit : ℕ) (xs : List ℕ) → is_one_of xs bit ≡ true → Contains xs bit
+from_any bit xs h = Contains-from_any {eq = ◌==◌} eqb-true bit xs h
+
+-- the bits of the attributes are those of their values
+pub attribute_bit : (attributes : List Node) (n bit : ℕ) → bit < n → has_bit attributes (bit + 1) ≡ true → is_one_of (attribute_bits attributes n) bit ≡ true
+attribute_bit attributes n bit lt is = any_from bit (attribute_bits attributes n) (keeps (λ b. has_bit attributes (b + 1)) (range_with_len 0 n) bit (contains_range 0 n bit (omega arith) (omega (arith, lt))) is)
+
+pub attribute_bits_within : (attributes : List Node) (n : ℕ) → All (λ bit. bit < n) (attribute_bits attributes n)
+attribute_bits_within attributes n = All-filter (λ b. has_bit attributes (b + 1)) (λ (bit : ℕ). bit < n) (range_with_len 0 n)
+    (All-weaker (λ (bit : ℕ). (0 ≤ bit) × (bit < 0 + n)) (λ (bit : ℕ). bit < n) (λ bit w. omega (arith, w.1)) (range_with_len 0 n) (range_holds 0 n))
+
+pub attribute_bits_rise : (attributes : List Node) (n : ℕ) → IsStrictlyIncreasing (attribute_bits attributes n)
+attribute_bits_rise attributes n = filter_rises (λ b. has_bit attributes (b + 1)) 0 n
+
+pub one_within : (bits : List ℕ) (n bit : ℕ) → All (λ b. b < n) bits → is_one_of bits bit ≡ true → bit < n
+one_within bits n bit within is = All-contains (λ (b : ℕ). b < n) bits bit within (from_any bit bits is)
 
 -- ---- one type
 
@@ -85,14 +100,6 @@ gains_nowhere words bit place past = record {
 -- ---- the bits of a row
 
 -- what is among the bits of a row is what the row has
-any_from : (bit : ℕ) (xs : List ℕ) → Contains xs bit → list_any (λ x. bit == x) xs ≡ true
-any_from bit [] (k, lt, is) = absurd (omega arith)
-any_from bit (x ∷ xs) (zero, lt, is) = let same : bit ≡ x = cc in or_left (bit == x) (list_any (λ x. bit == x) xs) (eq-eqb bit x same)
-any_from bit (x ∷ xs) (suc k, lt, is) = or_right (bit == x) (list_any (λ x. bit == x) xs) (any_from bit xs (k, omega (arith, lt), is))
-
-from_any : (bit : ℕ) (xs : List ℕ) → list_any (λ x. bit == x) xs ≡ true → Contains xs bit
-from_any bit xs h = Contains-from_any {eq = ◌==◌} eqb-true bit xs h
-
 row_bits : (bit : ℕ) (row : List Node) → list_any (λ x. bit == x) (bits_of row) ≡ has_bit row bit
 row_bits bit row = same_tests _ (has_bit row bit) (λ t. has_bit-from_bits row bit (from_any bit (bits_of row) t)) (λ t. any_from bit (bits_of row) (bits-from_has_bit row bit t))
 
@@ -223,76 +230,83 @@ node_behind ns start map h whole fit some map_fit below =
 pub nothing_behind : (types : List ℕ) (start map : ℕ) → map ≡ 0 → types ≡ types ++ node_bits (record { start = start; map = map })
 nothing_behind types start map none = sym (ap (λ (xs : List ℕ). types ++ xs) (no_bits (record { start = start; map = map }) none) ∙ append-nil types)
 
--- the lists of the first bits have gained the types of their words, and the others are left
-pub record Pushing (flags : List Bool) (start : ℕ) (words : List ℕ) (i : ℕ) (old now : List (List ℕ)) : Type 0 where
+-- the lists of the first of some bits have gained the types of their words, and the others are left
+pub record Pushing (bits : List ℕ) (start : ℕ) (words : List ℕ) (i : ℕ) (old now : List (List ℕ)) : Type 0 where
   pub count : length now ≡ length old
-  pub each : (bit : ℕ) → is_flagged flags bit ≡ true → slice_index_or now bit [] ≡ slice_index_or old bit [] ++ cond (nat_lt bit i) (node_bits (record { start = start; map = slice_index_or words bit 0 })) []
+  pub each : (bit : ℕ) → is_one_of bits bit ≡ true → slice_index_or now bit [] ≡ slice_index_or old bit [] ++ cond (is_one_of (take i bits) bit) (node_bits (record { start = start; map = slice_index_or words bit 0 })) []
 
-pub pushing_start : (flags : List Bool) (start : ℕ) (words : List ℕ) (old : List (List ℕ)) → Pushing flags start words 0 old old
-pushing_start flags start words old = record { count = refl; each = λ bit is. sym (ap (λ (b : Bool). slice_index_or old bit [] ++ cond b (node_bits (record { start = start; map = slice_index_or words bit 0 })) []) (le-ltb bit 0 (omega arith)) ∙ append-nil (slice_index_or old bit [])) }
+pub pushing_start : (bits : List ℕ) (start : ℕ) (words : List ℕ) (old : List (List ℕ)) → Pushing bits start words 0 old old
+pushing_start bits start words old = record { count = refl; each = λ bit is. sym (append-nil (slice_index_or old bit [])) }
+
+-- the next bit has not come yet, as they rise
+not_yet : (bits : List ℕ) (i bit : ℕ) → IsStrictlyIncreasing bits → i < length bits → bit ≡ get_or bits i 0 → is_one_of (take i bits) bit ≡ false
+not_yet bits i bit rise lt e = list_any_none (λ other. bit == other) (take i bits)
+    (All-weaker (λ (c : ℕ). c < get_or bits i 0) (λ (c : ℕ). (bit == c) ≡ false) (λ c below. ne_eqb bit c (λ (same : bit ≡ c). omega (arith, e, same, below))) (take i bits) (before_below bits i rise lt))
+
+next_is_one : (bits : List ℕ) (i bit : ℕ) → i < length bits → bit ≡ get_or bits i 0 → is_one_of bits bit ≡ true
+next_is_one bits i bit lt e = list_any_at (λ other. bit == other) bits i 0 lt (eq-eqb bit (get_or bits i 0) e)
 
 -- the list of the next bit has what it had
-pub pushing_here : (flags : List Bool) (start : ℕ) (words : List ℕ) (i : ℕ) (old now : List (List ℕ)) → Pushing flags start words i old now → is_flagged flags i ≡ true → slice_index_or now i [] ≡ slice_index_or old i []
-pushing_here flags start words i old now h is =
-    h.each i is ∙ ap (λ (b : Bool). slice_index_or old i [] ++ cond b (node_bits (record { start = start; map = slice_index_or words i 0 })) []) (le-ltb i i (omega arith)) ∙ append-nil (slice_index_or old i [])
+pub pushing_here : (bits : List ℕ) (start : ℕ) (words : List ℕ) (i bit : ℕ) (old now : List (List ℕ)) → Pushing bits start words i old now → IsStrictlyIncreasing bits → i < length bits → bit ≡ get_or bits i 0 → slice_index_or now bit [] ≡ slice_index_or old bit []
+pushing_here bits start words i bit old now h rise lt e =
+    h.each bit (next_is_one bits i bit lt e)
+    ∙ ap (λ (b : Bool). slice_index_or old bit [] ++ cond b (node_bits (record { start = start; map = slice_index_or words bit 0 })) []) (not_yet bits i bit rise lt e)
+    ∙ append-nil (slice_index_or old bit [])
 
-one_further : (i bit : ℕ) → (bit ≡ i → ⊥) → nat_lt bit i ≡ nat_lt bit (i + 1)
-one_further i bit apart = elim (cases_lt bit i) [
-  | inl lt ↦ lt-ltb bit i lt ∙ sym (lt-ltb bit (i + 1) (omega arith))
-  | inr le ↦ le-ltb bit i le ∙ sym (le-ltb bit (i + 1) (omega (arith, le, apart)))
-]
+-- so that it has room
+pub pushing_room : (bits : List ℕ) (start : ℕ) (words : List ℕ) (i bit : ℕ) (old now : List (List ℕ)) → Pushing bits start words i old now → IsStrictlyIncreasing bits → i < length bits → bit ≡ get_or bits i 0 → HaveRoom bits start old
+    → All (λ other. other < start) (slice_index_or now bit [])
+pushing_room bits start words i bit old now h rise lt e room = rw (pushing_here bits start words i bit old now h rise lt e) (room bit (next_is_one bits i bit lt e))
 
-pub pushing_next : (flags : List Bool) (start : ℕ) (words : List ℕ) (i : ℕ) (old now : List (List ℕ)) (list : List ℕ) → Pushing flags start words i old now → is_flagged flags i ≡ true → i < length now
-    → list ≡ slice_index_or now i [] ++ node_bits (record { start = start; map = slice_index_or words i 0 }) → Pushing flags start words (i + 1) old (set now i list)
-pushing_next flags start words i old now list h flag lt e = record {
-  count = length-set now i list ∙ h.count;
-  each = λ bit is. elim (cases_eq bit i) [
+one_further : (bits : List ℕ) (i bit : ℕ) → i < length bits → is_one_of (take (i + 1) bits) bit ≡ (is_one_of (take i bits) bit || (bit == get_or bits i 0))
+one_further bits i bit lt = list_any_more (λ other. bit == other) bits i 0 lt
+
+pub pushing_next : (bits : List ℕ) (start : ℕ) (words : List ℕ) (i at : ℕ) (old now : List (List ℕ)) (list : List ℕ) → Pushing bits start words i old now → IsStrictlyIncreasing bits → i < length bits → at ≡ get_or bits i 0 → at < length now
+    → list ≡ slice_index_or now at [] ++ node_bits (record { start = start; map = slice_index_or words at 0 }) → Pushing bits start words (i + 1) old (set now at list)
+pushing_next bits start words i at old now list h rise lt is inside e = record {
+  count = length-set now at list ∙ h.count;
+  each = λ bit one. elim (cases_eq bit at) [
     | inl same ↦
-        ap (λ (k : ℕ). slice_index_or (set now i list) k []) same
-        ∙ get_or-set_same now i list [] lt
+        ap (λ (k : ℕ). slice_index_or (set now at list) k []) same
+        ∙ get_or-set_same now at list [] inside
         ∙ e
-        ∙ ap (λ (xs : List ℕ). xs ++ node_bits (record { start = start; map = slice_index_or words i 0 })) (pushing_here flags start words i old now h flag)
+        ∙ ap (λ (xs : List ℕ). xs ++ node_bits (record { start = start; map = slice_index_or words at 0 })) (pushing_here bits start words i at old now h rise lt is)
         ∙ ap (λ (k : ℕ). slice_index_or old k [] ++ node_bits (record { start = start; map = slice_index_or words k 0 })) (sym same)
-        ∙ ap (λ (b : Bool). slice_index_or old bit [] ++ cond b (node_bits (record { start = start; map = slice_index_or words bit 0 })) []) (sym (lt-ltb bit (i + 1) (omega (arith, same))))
+        ∙ ap (λ (b : Bool). slice_index_or old bit [] ++ cond b (node_bits (record { start = start; map = slice_index_or words bit 0 })) [])
+        (sym (one_further bits i bit lt ∙ or_right (is_one_of (take i bits) bit) (bit == get_or bits i 0) (eq-eqb bit (get_or bits i 0) (same ∙ is))))
     | inr apart ↦
-        get_or-set_other now i bit list [] apart
-        ∙ h.each bit is
-        ∙ ap (λ (b : Bool). slice_index_or old bit [] ++ cond b (node_bits (record { start = start; map = slice_index_or words bit 0 })) []) (one_further i bit apart)
+        get_or-set_other now at bit list [] apart
+        ∙ h.each bit one
+        ∙ ap (λ (b : Bool). slice_index_or old bit [] ++ cond b (node_bits (record { start = start; map = slice_index_or words bit 0 })) [])
+        (sym (one_further bits i bit lt ∙ or_false (is_one_of (take i bits) bit) (bit == get_or bits i 0) (ne_eqb bit (get_or bits i 0) (λ (same : bit ≡ get_or bits i 0). apart (same ∙ sym is)))))
   ];
 }
 
-pub pushing_skip : (flags : List Bool) (start : ℕ) (words : List ℕ) (i : ℕ) (old now : List (List ℕ)) → Pushing flags start words i old now → is_flagged flags i ≡ false → Pushing flags start words (i + 1) old now
-pushing_skip flags start words i old now h flag = record {
+pub pushing_end : (bits : List ℕ) (start : ℕ) (words : List ℕ) (i : ℕ) (old now : List (List ℕ)) → Pushing bits start words i old now → length bits ≡ i → GainNodes bits start words old now
+pushing_end bits start words i old now h all = record {
   count = h.count;
   each = λ bit is.
       h.each bit is
       ∙ ap (λ (b : Bool). slice_index_or old bit [] ++ cond b (node_bits (record { start = start; map = slice_index_or words bit 0 })) [])
-      (one_further i bit (λ (e : bit ≡ i). false≢true (sym flag ∙ ap (is_flagged flags) (sym e) ∙ is)));
-}
-
-pub pushing_end : (flags : List Bool) (start : ℕ) (words : List ℕ) (i : ℕ) (old now : List (List ℕ)) → Pushing flags start words i old now → length flags ≡ i → GainNodes flags start words old now
-pushing_end flags start words i old now h all = record {
-  count = h.count;
-  each = λ bit is.
-      h.each bit is ∙ ap (λ (b : Bool). slice_index_or old bit [] ++ cond b (node_bits (record { start = start; map = slice_index_or words bit 0 })) []) (lt-ltb bit i (omega (arith, all, flagged_within flags bit is)));
+      (ap (λ (xs : List ℕ). is_one_of xs bit) (take_all i bits (omega (arith, all))) ∙ is);
 }
 
 -- the types below a number leave room for others
-pub lists_room : (rows : List (List Node)) (types : List Node) (flags : List Bool) (n : ℕ) (lists : List (List ℕ)) → AreListsBelow rows types flags n lists → HaveRoom flags n lists
-lists_room rows types flags n lists h bit is = rw (h.each bit is) (All-filter (has_attribute rows types bit) (λ (other : ℕ). other < n) (range_with_len 0 n)
+pub lists_room : (rows : List (List Node)) (types : List Node) (bits : List ℕ) (n : ℕ) (lists : List (List ℕ)) → AreListsBelow rows types bits n lists → HaveRoom bits n lists
+lists_room rows types bits n lists h bit is = rw (h.each bit is) (All-filter (has_attribute rows types bit) (λ (other : ℕ). other < n) (range_with_len 0 n)
     (All-weaker (λ (other : ℕ). (0 ≤ other) × (other < 0 + n)) (λ (other : ℕ). other < n) (λ other w. omega (arith, w.1)) (range_with_len 0 n) (range_holds 0 n)))
 
-pub lists_start : (rows : List (List Node)) (types : List Node) (flags : List Bool) (lists : List (List ℕ)) → length lists ≡ length rows → ((bit : ℕ) → slice_index_or lists bit [] ≡ []) → AreListsBelow rows types flags 0 lists
-lists_start rows types flags lists count nothing = record { count = count; each = λ bit is. nothing bit }
+pub lists_start : (rows : List (List Node)) (types : List Node) (bits : List ℕ) (lists : List (List ℕ)) → length lists ≡ length rows → ((bit : ℕ) → slice_index_or lists bit [] ≡ []) → AreListsBelow rows types bits 0 lists
+lists_start rows types bits lists count nothing = record { count = count; each = λ bit is. nothing bit }
 
-pub lists_next : (rows : List (List Node)) (types : List Node) (flags : List Bool) (start : ℕ) (words : List ℕ) (lists next : List (List ℕ)) → length flags ≡ length rows → AreListsBelow rows types flags start lists → AreWords rows types start 64 words
-    → GainNodes flags start words lists next → AreListsBelow rows types flags (start + 64) next
-lists_next rows types flags start words lists next size h w g = record {
+pub lists_next : (rows : List (List Node)) (types : List Node) (bits : List ℕ) (start : ℕ) (words : List ℕ) (lists next : List (List ℕ)) → All (λ bit. bit < length rows) bits → AreListsBelow rows types bits start lists → AreWords rows types start 64 words
+    → GainNodes bits start words lists next → AreListsBelow rows types bits (start + 64) next
+lists_next rows types bits start words lists next within h w g = record {
   count = g.count ∙ h.count;
   each = λ bit is.
       g.each bit is
       ∙ ap (λ (xs : List ℕ). xs ++ node_bits (record { start = start; map = slice_index_or words bit 0 })) (h.each bit is)
-      ∙ ap (λ (xs : List ℕ). filter (has_attribute rows types bit) (range_with_len 0 start) ++ xs) (word_types rows types start bit words w (omega (arith, flagged_within flags bit is, size, w.count)))
+      ∙ ap (λ (xs : List ℕ). filter (has_attribute rows types bit) (range_with_len 0 start) ++ xs) (word_types rows types start bit words w (omega (arith, one_within bits (length rows) bit within is, w.count)))
       ∙ sym (filter_parts (has_attribute rows types bit) 0 start 64 ∙ ap (λ (a : ℕ). filter (has_attribute rows types bit) (range_with_len 0 start) ++ filter (has_attribute rows types bit) (range_with_len a 64)) (from_zero start));
 }
 
@@ -303,15 +317,15 @@ none_outside rows types bit value have out = elim (cases_Bool (has_bit types val
   | inr not ↦ ap (λ (b : Bool). b && has_bit (row_of rows value) bit) not
 ]
 
-pub lists_end : (rows : List (List Node)) (attributes types : List Node) (flags : List Bool) (n : ℕ) (lists : List (List ℕ)) → flags ≡ map (has_bit attributes) (range_with_len 1 (length rows)) → HaveRows rows types → length rows < n → AreListsBelow rows types flags n lists
+pub lists_end : (rows : List (List Node)) (attributes types : List Node) (bits : List ℕ) (n : ℕ) (lists : List (List ℕ)) → bits ≡ attribute_bits attributes (length rows) → HaveRows rows types → length rows < n → AreListsBelow rows types bits n lists
     → AreLists rows attributes types lists
-lists_end rows attributes types flags n lists e have all h = record {
+lists_end rows attributes types bits n lists e have all h = record {
   count = h.count;
   each = λ bit within attribute.
       let p = has_attribute rows types bit in
-      let flagged : is_flagged flags bit ≡ true = flagged_is flags attributes (length rows) bit e (omega (arith, within, h.count)) ∙ attribute in
+      let one : is_one_of bits bit ≡ true = ap (λ (bs : List ℕ). is_one_of bs bit) e ∙ attribute_bit attributes (length rows) bit (omega (arith, within, h.count)) attribute in
       let size : n ≡ 1 + (length rows + (n - length rows - 1)) = omega arith in
-      h.each bit flagged
+      h.each bit one
       ∙ ap (λ (m : ℕ). filter p (range_with_len 0 m)) size
       ∙ filter_parts p 0 1 (length rows + (n - length rows - 1))
       ∙ ap (λ (xs : List ℕ). xs ++ filter p (range_with_len 1 (length rows + (n - length rows - 1)))) (filter_none p 0 1 (λ c low high. none_outside rows types bit c have (λ w. omega (arith, w.0, high))))

@@ -32,6 +32,10 @@ pub filter_range_more : (p : ℕ → Bool) (i : ℕ) → filter p (range_with_le
 filter_range_more p i = let e : 1 + i ≡ i + 1 = omega arith in
     ap (filter p) (range_more 1 i) ∙ filter-append p (range_with_len 1 i) ((1 + i) ∷ []) ∙ ap (λ (x : ℕ). filter p (range_with_len 1 i) ++ cond (p x) (x ∷ []) []) e
 
+pub filter_below_more : (p : ℕ → Bool) (n : ℕ) → filter p (range_with_len 0 (n + 1)) ≡ filter p (range_with_len 0 n) ++ cond (p n) (n ∷ []) []
+filter_below_more p n = let e : 0 + n ≡ n = omega arith in
+    ap (filter p) (range_more 0 n) ∙ filter-append p (range_with_len 0 n) ((0 + n) ∷ []) ∙ ap (λ (x : ℕ). filter p (range_with_len 0 n) ++ cond (p x) (x ∷ []) []) e
+
 range_rises : (a n : ℕ) → IsStrictlyIncreasing (range_with_len a n)
 range_rises a n k lt =
     let whole = length-range_with_len a n in

@@ -1,5 +1,5 @@
 -- How the map is turned round: for each attribute the list of its types, and then their set.
-use Rattle.std.specs.Prelude.{◌≡◌, map, ℕ, ◌+◌, ◌-◌, ◌≤◌, ◌<◌, Bool, true, false, ◌&&◌, ◌||◌, ◌==◌, nat_lt, Option, Some, None, is_some, List, [], ◌∷◌, ◌++◌, length, slice_index_or, if◌then◌else◌}
+use Rattle.std.specs.Prelude.{◌≡◌, map, ℕ, ◌+◌, ◌-◌, ◌≤◌, ◌<◌, Bool, true, ◌&&◌, ◌||◌, ◌==◌, nat_lt, Option, Some, None, is_some, List, [], ◌∷◌, ◌++◌, length, slice_index_or, if◌then◌else◌}
 use Rattle.std.specs.List.{All, filter, list_any, range_with_len, count_by}
 use Rattle.pol_bitmap.specs.declared.node.Node.{Node}
 use Rattle.std.specs.Int.{bit_at}
@@ -10,9 +10,13 @@ use Rattle.pol_expand.specs.Expansion.{row_of, expansion_of, IsDeclared}
 abbrev pub has_attribute : List (List Node) → List Node → ℕ → ℕ → Bool
 has_attribute rows types bit type = has_bit types type && has_bit (row_of rows type) bit
 
--- whether a bit stands for an attribute, by flags of the values from 1 on
-abbrev pub is_flagged : List Bool → ℕ → Bool
-is_flagged flags bit = slice_index_or flags bit false
+-- the bits that stand for attributes, of those of so many values, rising
+abbrev pub attribute_bits : List Node → ℕ → List ℕ
+attribute_bits attributes count = filter (λ bit. has_bit attributes (bit + 1)) (range_with_len 0 count)
+
+-- whether a bit is one of some
+abbrev pub is_one_of : List ℕ → ℕ → Bool
+is_one_of bits bit = list_any (λ other. bit == other) bits
 
 -- the list of each attribute, all types of whose row have come
 pub record AreLists (rows : List (List Node)) (attributes types : List Node) (lists : List (List ℕ)) : Type 0 where
@@ -36,18 +40,18 @@ pub record AreWords (rows : List (List Node)) (types : List Node) (start n : ℕ
   pub each : (bit k : ℕ) → bit < length words → k < 64 → word_has_type words bit k ≡ (nat_lt k n && has_attribute rows types bit (start + k))
 
 -- the lists of the attributes have types below a number alone
-abbrev pub HaveRoom : List Bool → ℕ → List (List ℕ) → Type 0
-HaveRoom flags start lists = (bit : ℕ) → is_flagged flags bit ≡ true → All (λ other. other < start) (slice_index_or lists bit [])
+abbrev pub HaveRoom : List ℕ → ℕ → List (List ℕ) → Type 0
+HaveRoom bits start lists = (bit : ℕ) → is_one_of bits bit ≡ true → All (λ other. other < start) (slice_index_or lists bit [])
 
 -- The list of each attribute gains the types of its word.
-pub record GainNodes (flags : List Bool) (start : ℕ) (words : List ℕ) (old new : List (List ℕ)) : Type 0 where
+pub record GainNodes (bits : List ℕ) (start : ℕ) (words : List ℕ) (old new : List (List ℕ)) : Type 0 where
   pub count : length new ≡ length old
-  pub each : (bit : ℕ) → is_flagged flags bit ≡ true → slice_index_or new bit [] ≡ slice_index_or old bit [] ++ node_bits (record { start = start; map = slice_index_or words bit 0 })
+  pub each : (bit : ℕ) → is_one_of bits bit ≡ true → slice_index_or new bit [] ≡ slice_index_or old bit [] ++ node_bits (record { start = start; map = slice_index_or words bit 0 })
 
 -- the lists after the types below a number
-pub record AreListsBelow (rows : List (List Node)) (types : List Node) (flags : List Bool) (n : ℕ) (lists : List (List ℕ)) : Type 0 where
+pub record AreListsBelow (rows : List (List Node)) (types : List Node) (bits : List ℕ) (n : ℕ) (lists : List (List ℕ)) : Type 0 where
   pub count : length lists ≡ length rows
-  pub each : (bit : ℕ) → is_flagged flags bit ≡ true → slice_index_or lists bit [] ≡ filter (has_attribute rows types bit) (range_with_len 0 n)
+  pub each : (bit : ℕ) → is_one_of bits bit ≡ true → slice_index_or lists bit [] ≡ filter (has_attribute rows types bit) (range_with_len 0 n)
 
 -- ---- the sets
 

@@ -1,9 +1,10 @@
 // The types of the attributes, gathered in one pass over the rows, 64 types at a time.
 ghost use Rattle.std.specs.Prelude.{◌≡◌, ◌≤◌, ◌<◌, ◌%◌, ◌==◌, ℕ, [], map, IfOk, OnOk, length, replicate, slice_index_or};
-ghost use Rattle.std.specs.List.{range_with_len};
+ghost use Rattle.std.specs.List.{All};
+ghost use Rattle.std.specs.List.Sorted.{IsStrictlyIncreasing};
 ghost use Rattle.pol_bitmap.specs.Nodes.{bits_of, has_bit};
 ghost use Rattle.pol_expand.specs.Expansion.{HaveRows};
-ghost use Rattle.pol_expand.specs.Inverting.{has_attribute, is_flagged, AreLists, AreListsBelow, AreWords, GainNodes, GainType, HaveRoom};
+ghost use Rattle.pol_expand.specs.Inverting.{attribute_bits, has_attribute, AreLists, AreWords, GainNodes, GainType, HaveRoom};
 
 use crate::type_list::TypeList;
 use pol_bitmap::{BitmapView, Set};
@@ -47,26 +48,28 @@ fn lists_of(
     requires types { HaveRows rows.now types.now }
     ensures { IfOk result (λ lists. AreLists rows.now attributes.now types.now lists.items) }
 {
-    let flags = attribute_flags(alloc, attributes, rows.len())?;
+    let bits = attribute_bits(alloc, attributes, rows.len())?;
     let mut lists = empty_lists(alloc, rows.len())?;
     for block in 0..rows.len() / 64 + 1 {
         let start = block as u32 * 64;
         let words = words_of(alloc, rows, types, start)?;
-        push_words(&mut lists, &words, &flags, start)?;
+        push_words(&mut lists, &words, &bits, start)?;
     }
     Ok(lists)
 }
 
-// Whether each value, from 1 on, is an attribute.
-fn attribute_flags(alloc: Global, attributes: &Set, count: usize) -> Result<Vec<bool>, AllocError>
+// The bits that stand for attributes, rising.
+fn attribute_bits(alloc: Global, attributes: &Set, count: usize) -> Result<Vec<u32>, AllocError>
     requires { count ≤ 65535 }
-    ensures { IfOk result (λ flags. flags.items ≡ map (has_bit attributes.now) (range_with_len 1 count)) }
+    ensures { IfOk result (λ bits. bits.items ≡ attribute_bits attributes.now count) }
 {
-    let mut flags = Vec::with_capacity(alloc, count)?;
-    for i in 0..count {
-        flags.push(has_value(attributes, i as u32 + 1))?;
+    let mut bits = Vec::new(alloc);
+    for bit in 0..count as u32 {
+        if has_value(attributes, bit + 1) {
+            bits.push(bit)?;
+        }
     }
-    Ok(flags)
+    Ok(bits)
 }
 
 // As many lists of no type.
@@ -142,19 +145,19 @@ fn add_bit(words: &mut Vec<u64>, bit: u32, place: u32)
 fn push_words(
     lists: &mut [TypeList],
     words: &[u64],
-    flags: &[bool],
+    bits: &[u32],
     start: u32,
 ) -> Result<(), AllocError>
     requires words { length words.now ≡ length lists.old }
-    requires flags { length flags.now ≡ length lists.old }
+    requires within { All (λ bit. bit < length lists.old) bits.now }
+    requires rise { IsStrictlyIncreasing bits.now }
     requires whole { start % 64 ≡ 0 }
-    requires room { HaveRoom flags.now start lists.old }
-    ensures { OnOk result (GainNodes flags.now start words.now lists.old lists.new) }
+    requires room { HaveRoom bits.now start lists.old }
+    ensures { OnOk result (GainNodes bits.now start words.now lists.old lists.new) }
 {
-    for i in 0..words.len() {
-        if flags[i] {
-            lists[i].push_word(start, words[i])?;
-        }
+    for bit in bits {
+        let place = *bit as usize;
+        lists[place].push_word(start, words[place])?;
     }
     Ok(())
 }

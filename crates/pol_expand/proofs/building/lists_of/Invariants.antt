@@ -3,4 +3,4 @@ use Rattle.pol_expand.specs.Inverting.{AreListsBelow}
 use Rattle.pol_expand.proofs.building.lists_of.Given as goal
 
 abbrev pub invariant-loop-block : goal.invariant-loop-block
-invariant-loop-block l = AreListsBelow l.rows l.types l.flags.items (l.block * 64) l.lists.items
+invariant-loop-block l = AreListsBelow l.rows l.types l.bits.items (l.block * 64) l.lists.items

@@ -1,5 +1,5 @@
 use Rattle.pol_expand.proofs.Gains.{Pushing}
 use Rattle.pol_expand.proofs.building.push_words.Given as goal
 
-abbrev pub invariant-loop-i : goal.invariant-loop-i
-invariant-loop-i l = Pushing l.flags l.start l.words l.i l.fn.lists l.lists
+abbrev pub invariant-loop-bit : goal.invariant-loop-bit
+invariant-loop-bit l = Pushing l.bits l.start l.words l.bit-index l.fn.lists l.lists
