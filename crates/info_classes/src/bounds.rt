@@ -1,12 +1,11 @@
 //! The listing of the bounds of types.
 
-ghost use Rattle.std.specs.Prelude.{◌≡◌, ◌<◌, ◌∷◌, [], ◌++◌, IfOk, OnOk, length, map};
+ghost use Rattle.std.specs.Prelude.{◌≡◌, ◌<◌, ◌∷◌, [], ◌++◌, IfOk, OnOk, length};
 ghost use Rattle.std.specs.List.{All, filter};
-ghost use Rattle.info_lines.specs.Listings.{HasLine, line_of};
 ghost use Rattle.info_classes.specs.RecordOrder.{records_at, types_in_order};
 ghost use Rattle.info_classes.specs.BoundsLines.{is_bounded, bounds_line, bounds_listing};
 
-use info_lines::{FileLines, LineText, primary_order};
+use info_lines::{EntryLines, EntryText, primary_order};
 use pol_cursor::TableKind;
 use pol_datums::TypeView;
 use pol_mls::push_name;
@@ -23,45 +22,37 @@ pub struct BoundsLines<'p, 'a> {
 }
 
 impl<'p, 'a> Model for BoundsLines<'p, 'a> {
-    ghost use Rattle.std.specs.Prelude.{ℕ, ◌<◌, ◌^◌, List, map, length};
+    ghost use Rattle.std.specs.Prelude.{ℕ, List, map};
     ghost use Rattle.info_classes.specs.BoundsLines.{bounds_line};
 
     ghost Value = { List (List ℕ) };
 
     ghost view = { λ l. map (bounds_line l.symbols.now) l.types.items };
-
-    ghost invariant = { λ l. length l.types.items < 2 ^ 32 };
 }
 
 impl<'p, 'a> BoundsLines<'p, 'a> {
-    // Those of all bounded types. So many that their numbers do not fit are answered as out of memory.
+    // Those of all bounded types.
     #[tactic(auto, unfolding(crate::specs::BoundsLines::bounds_listing))]
     fn new(alloc: Global, symbols: &'p Symbols<'a>) -> Result<BoundsLines<'p, 'a>, AllocError>
         ensures { IfOk result (λ lines. lines ≡ bounds_listing symbols.now) }
     {
-        let types = bounded_types(alloc, symbols)?;
-        if types.len() > u32::MAX as usize {
-            return Err(AllocError);
-        }
-        Ok(BoundsLines { symbols, types })
-    }
-
-    // How many there are.
-    fn len(&self) -> u32
-        ensures { result ≡ length self.now }
-    {
-        self.types.len() as u32
+        Ok(BoundsLines {
+            symbols,
+            types: bounded_types(alloc, symbols)?,
+        })
     }
 }
 
-impl<'p, 'a> LineText for BoundsLines<'p, 'a> {
-    ghost has = { HasLine };
+impl<'p, 'a> EntryText for BoundsLines<'p, 'a> {
+    ghost lines = { λ lines. lines };
 
-    ghost text = { line_of };
+    fn len(&self) -> usize {
+        self.types.len()
+    }
 
     #[tactic(auto, using(info_lines::proofs::ListingLines::line_at))]
-    fn push_text(&self, number: u32, buffer: &mut Vec<u8>) -> Result<(), AllocError> {
-        push_bounds(buffer, self.symbols, &self.types[number as usize])
+    fn push_text(&self, number: usize, buffer: &mut Vec<u8>) -> Result<(), AllocError> {
+        push_bounds(buffer, self.symbols, &self.types[number])
     }
 }
 
@@ -116,14 +107,11 @@ fn push_bounded<'a>(types: &mut Vec<TypeView<'a>>, t: TypeView<'a>) -> Result<()
 }
 
 /// The bounded types and attributes, in the order of their names.
-#[tactic(auto, using(info_lines::proofs::FileOrder::all_there, info_lines::proofs::FileOrder::all_lines))]
 pub fn bounds_lines<'p, 'a>(
     alloc: Global,
     policy: &'p Policy<'a>,
-) -> Result<FileLines<BoundsLines<'p, 'a>>, AllocError>
+) -> Result<EntryLines<BoundsLines<'p, 'a>>, AllocError>
     ensures { IfOk result (λ lines. lines ≡ bounds_listing policy.now.symbols) }
 {
-    let lines = BoundsLines::new(alloc, policy.symbols())?;
-    let count = lines.len();
-    Ok(FileLines::new(lines, count))
+    Ok(EntryLines::new(BoundsLines::new(alloc, policy.symbols())?))
 }

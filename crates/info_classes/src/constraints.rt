@@ -2,13 +2,12 @@
 
 ghost use Rattle.std.specs.Prelude.{◌≡◌, ◌<◌, IfOk, length, map, option_map};
 ghost use Rattle.std.specs.List.{All};
-ghost use Rattle.info_lines.specs.Listings.{HasLine, line_of};
 ghost use Rattle.info_classes.specs.RecordOrder.{records_at};
 ghost use Rattle.info_classes.specs.ConstraintLines.{constraint_line, constraint_listing, entries_in};
 
 use crate::constraint_entry::{ConstraintEntry, ConstraintKind, constraint_entries};
 use crate::constraint_parts::push_constraint;
-use info_lines::{FileLines, LineText, numbers_listed};
+use info_lines::{EntryLines, EntryText, numbers_listed};
 use pol_cursor::TableKind;
 use pol_symbols::Symbols;
 use std::alloc::{AllocError, Global};
@@ -23,18 +22,16 @@ pub struct ConstraintLines<'p, 'a> {
 }
 
 impl<'p, 'a> Model for ConstraintLines<'p, 'a> {
-    ghost use Rattle.std.specs.Prelude.{ℕ, ◌<◌, ◌^◌, List, map, length};
+    ghost use Rattle.std.specs.Prelude.{ℕ, List, map};
     ghost use Rattle.info_classes.specs.ConstraintLines.{constraint_line};
 
     ghost Value = { List (List ℕ) };
 
     ghost view = { λ l. map (constraint_line l.symbols.now l.kind) l.entries.items };
-
-    ghost invariant = { λ l. length l.entries.items < 2 ^ 32 };
 }
 
 impl<'p, 'a> ConstraintLines<'p, 'a> {
-    // Those of a kind of the classes of these numbers. So many that their numbers do not fit are answered as out of memory.
+    // Those of a kind of the classes of these numbers.
     fn new(
         alloc: Global,
         symbols: &'p Symbols<'a>,
@@ -44,55 +41,38 @@ impl<'p, 'a> ConstraintLines<'p, 'a> {
         requires { All (λ n. n < length symbols.now.classes.records) numbers.now }
         ensures { IfOk result (λ lines. lines ≡ map (constraint_line symbols.now kind) (entries_in kind (records_at symbols.now.classes.records numbers.now))) }
     {
-        let entries = constraint_entries(alloc, symbols, kind, numbers)?;
-        if entries.len() > u32::MAX as usize {
-            return Err(AllocError);
-        }
         Ok(ConstraintLines {
             symbols,
             kind,
-            entries,
+            entries: constraint_entries(alloc, symbols, kind, numbers)?,
         })
-    }
-
-    // How many there are.
-    fn len(&self) -> u32
-        ensures { result ≡ length self.now }
-    {
-        self.entries.len() as u32
     }
 }
 
-impl<'p, 'a> LineText for ConstraintLines<'p, 'a> {
-    ghost has = { HasLine };
+impl<'p, 'a> EntryText for ConstraintLines<'p, 'a> {
+    ghost lines = { λ lines. lines };
 
-    ghost text = { line_of };
+    fn len(&self) -> usize {
+        self.entries.len()
+    }
 
     #[tactic(auto, using(info_lines::proofs::ListingLines::line_at))]
-    fn push_text(&self, number: u32, buffer: &mut Vec<u8>) -> Result<(), AllocError> {
-        push_constraint(
-            buffer,
-            self.symbols,
-            self.kind,
-            &self.entries[number as usize],
-        )
+    fn push_text(&self, number: usize, buffer: &mut Vec<u8>) -> Result<(), AllocError> {
+        push_constraint(buffer, self.symbols, self.kind, &self.entries[number])
     }
 }
 
 // Those of a kind of the classes of these numbers, one after the other.
-#[tactic(auto, using(info_lines::proofs::FileOrder::all_there, info_lines::proofs::FileOrder::all_lines))]
 fn lines_of_classes<'p, 'a>(
     alloc: Global,
     symbols: &'p Symbols<'a>,
     kind: ConstraintKind,
     numbers: &[u32],
-) -> Result<FileLines<ConstraintLines<'p, 'a>>, AllocError>
+) -> Result<EntryLines<ConstraintLines<'p, 'a>>, AllocError>
     requires { All (λ n. n < length symbols.now.classes.records) numbers.now }
     ensures { IfOk result (λ lines. lines ≡ map (constraint_line symbols.now kind) (entries_in kind (records_at symbols.now.classes.records numbers.now))) }
 {
-    let lines = ConstraintLines::new(alloc, symbols, kind, numbers)?;
-    let count = lines.len();
-    Ok(FileLines::new(lines, count))
+    Ok(EntryLines::new(ConstraintLines::new(alloc, symbols, kind, numbers)?))
 }
 
 /// The constraints of a kind, in the order of the classes' names, or where a name is given, those of the class that it finds.
@@ -103,7 +83,7 @@ pub fn constraint_lines<'p, 'a>(
     symbols: &'p Symbols<'a>,
     kind: ConstraintKind,
     name: Option<&[u8]>,
-) -> Result<Option<FileLines<ConstraintLines<'p, 'a>>>, AllocError>
+) -> Result<Option<EntryLines<ConstraintLines<'p, 'a>>>, AllocError>
     ensures { IfOk result (λ lines. lines ≡ constraint_listing symbols.now kind (option_map (λ name. name.now) name.entry)) }
 {
     let Some(numbers) = numbers_listed(alloc, symbols, TableKind::Classes, name)? else {

@@ -2,12 +2,11 @@
 
 ghost use Rattle.std.specs.Prelude.{◌≡◌, ◌<◌, ◌++◌, IfOk, OnOk, length, map, option_map};
 ghost use Rattle.std.specs.List.{All};
-ghost use Rattle.info_lines.specs.Listings.{HasLine, line_of};
 ghost use Rattle.info_classes.specs.RecordOrder.{records_at};
 ghost use Rattle.info_classes.specs.DefaultLines.{default_word, end_word, range_words, choice_words, default_line, entries_in, default_listing};
 
 use crate::default_entry::{DefaultEntry, DefaultKind, default_entries, default_of};
-use info_lines::{FileLines, LineText, numbers_listed};
+use info_lines::{EntryLines, EntryText, numbers_listed};
 use pol_cursor::TableKind;
 use pol_symbols::Symbols;
 use std::alloc::{AllocError, Global};
@@ -20,18 +19,16 @@ pub struct DefaultLines<'a> {
 }
 
 impl<'a> Model for DefaultLines<'a> {
-    ghost use Rattle.std.specs.Prelude.{ℕ, ◌<◌, ◌^◌, List, map, length};
+    ghost use Rattle.std.specs.Prelude.{ℕ, List, map};
     ghost use Rattle.info_classes.specs.DefaultLines.{default_line};
 
     ghost Value = { List (List ℕ) };
 
     ghost view = { λ l. map default_line l.entries.items };
-
-    ghost invariant = { λ l. length l.entries.items < 2 ^ 32 };
 }
 
 impl<'a> DefaultLines<'a> {
-    // Those of the classes of these numbers. So many that their numbers do not fit are answered as out of memory.
+    // Those of the classes of these numbers.
     fn new(
         alloc: Global,
         symbols: &Symbols<'a>,
@@ -40,29 +37,22 @@ impl<'a> DefaultLines<'a> {
         requires { All (λ n. n < length symbols.now.classes.records) numbers.now }
         ensures { IfOk result (λ lines. lines ≡ map default_line (entries_in (records_at symbols.now.classes.records numbers.now))) }
     {
-        let entries = default_entries(alloc, symbols, numbers)?;
-        if entries.len() > u32::MAX as usize {
-            return Err(AllocError);
-        }
-        Ok(DefaultLines { entries })
-    }
-
-    // How many there are.
-    fn len(&self) -> u32
-        ensures { result ≡ length self.now }
-    {
-        self.entries.len() as u32
+        Ok(DefaultLines {
+            entries: default_entries(alloc, symbols, numbers)?,
+        })
     }
 }
 
-impl<'a> LineText for DefaultLines<'a> {
-    ghost has = { HasLine };
+impl<'a> EntryText for DefaultLines<'a> {
+    ghost lines = { λ lines. lines };
 
-    ghost text = { line_of };
+    fn len(&self) -> usize {
+        self.entries.len()
+    }
 
     #[tactic(auto, using(info_lines::proofs::ListingLines::line_at))]
-    fn push_text(&self, number: u32, buffer: &mut Vec<u8>) -> Result<(), AllocError> {
-        push_default(buffer, &self.entries[number as usize])
+    fn push_text(&self, number: usize, buffer: &mut Vec<u8>) -> Result<(), AllocError> {
+        push_default(buffer, &self.entries[number])
     }
 }
 
@@ -121,18 +111,15 @@ fn range_words(default: u32) -> &'static [u8]
 }
 
 // Those of the classes of these numbers, one after the other.
-#[tactic(auto, using(info_lines::proofs::FileOrder::all_there, info_lines::proofs::FileOrder::all_lines))]
 fn lines_of_classes<'a>(
     alloc: Global,
     symbols: &Symbols<'a>,
     numbers: &[u32],
-) -> Result<FileLines<DefaultLines<'a>>, AllocError>
+) -> Result<EntryLines<DefaultLines<'a>>, AllocError>
     requires { All (λ n. n < length symbols.now.classes.records) numbers.now }
     ensures { IfOk result (λ lines. lines ≡ map default_line (entries_in (records_at symbols.now.classes.records numbers.now))) }
 {
-    let lines = DefaultLines::new(alloc, symbols, numbers)?;
-    let count = lines.len();
-    Ok(FileLines::new(lines, count))
+    Ok(EntryLines::new(DefaultLines::new(alloc, symbols, numbers)?))
 }
 
 /// The default rules, in the order of the classes' names, or where a name is given, those of the class that it finds. `None`
@@ -142,7 +129,7 @@ pub fn default_lines<'a>(
     alloc: Global,
     symbols: &Symbols<'a>,
     name: Option<&[u8]>,
-) -> Result<Option<FileLines<DefaultLines<'a>>>, AllocError>
+) -> Result<Option<EntryLines<DefaultLines<'a>>>, AllocError>
     ensures { IfOk result (λ lines. lines ≡ default_listing symbols.now (option_map (λ name. name.now) name.entry)) }
 {
     let Some(numbers) = numbers_listed(alloc, symbols, TableKind::Classes, name)? else {

@@ -1,8 +1,9 @@
 // The paths of the file systems without labels, as one list.
-ghost use Rattle.std.specs.Prelude.{◌≡◌, ◌++◌, IfOk, OnOk};
+ghost use Rattle.std.specs.Prelude.{◌≡◌, ◌++◌, IfOk, OnOk, option_map};
+ghost use Rattle.std.specs.Str.{bytes_eq};
 ghost use Rattle.info_contexts.specs.GenfsLines.{entries_of, entries_in};
+ghost use Rattle.info_contexts.specs.NamedEntries.{is_asked, of_name};
 
-use crate::entry_names::EntryNames;
 use pol_context::ContextView;
 use pol_genfs::{GenfsList, GenfsPathView, GenfsView};
 use std::alloc::{AllocError, Global};
@@ -53,29 +54,44 @@ impl<'a> GenfsEntry<'a> {
     }
 }
 
-impl<'a> EntryNames for Vec<GenfsEntry<'a>> {
-    ghost use Rattle.std.specs.Prelude.{map};
-
-    ghost names = { λ entries. map (λ entry. entry.fstype) entries.items };
-
-    #[tactic(auto, using(info_lines::proofs::ListingLines::line_at))]
-    fn is_named(&self, _: Global, number: u32, name: &[u8]) -> Result<bool, AllocError> {
-        Ok(self[number as usize].fstype() == name)
-    }
-}
-
-/// The paths of all file systems, in file order.
+/// The paths of the file systems of the name, or of all where none is given, in file order.
 pub fn genfs_entries<'a>(
     alloc: Global,
     systems: &GenfsList<'a>,
+    name: Option<&[u8]>,
 ) -> Result<Vec<GenfsEntry<'a>>, AllocError>
-    ensures { IfOk result (λ entries. entries.items ≡ entries_in systems.now) }
+    ensures { IfOk result (λ entries. entries.items ≡ of_name (λ entry. entry.fstype) (option_map (λ name. name.now) name.entry) (entries_in systems.now)) }
 {
     let mut entries = Vec::new(alloc);
     for i in 0..systems.len() {
-        push_entries(&mut entries, &systems.view(i))?;
+        push_asked(&mut entries, &systems.view(i), name)?;
     }
     Ok(entries)
+}
+
+// Appends the paths of a file system, if it is asked for.
+#[tactic(auto, using(crate::proofs::GenfsEntries::all_asked, crate::proofs::GenfsEntries::none_asked))]
+fn push_asked<'a>(
+    entries: &mut Vec<GenfsEntry<'a>>,
+    system: &GenfsView<'a>,
+    name: Option<&[u8]>,
+) -> Result<(), AllocError>
+    ensures { OnOk result (entries.new.items ≡ entries.old.items ++ of_name (λ entry. entry.fstype) (option_map (λ name. name.now) name.entry) (entries_of system.now.value)) }
+{
+    if is_asked(name, system.fstype()) {
+        push_entries(entries, system)?;
+    }
+    Ok(())
+}
+
+// Whether a file system of that name is asked for.
+fn is_asked(name: Option<&[u8]>, fstype: &[u8]) -> bool
+    ensures { result ≡ is_asked (option_map (λ name. name.now) name.entry) fstype.now }
+{
+    match name {
+        Some(name) => fstype == name,
+        None => true,
+    }
 }
 
 // Appends the paths of a file system.

@@ -1,11 +1,10 @@
 // The lines of the contexts of file systems without labels.
 ghost use Rattle.std.specs.Prelude.{◌≡◌, ◌++◌, OnOk};
-ghost use Rattle.info_lines.specs.Listings.{HasLine, line_of};
 ghost use Rattle.info_contexts.specs.GenfsLines.{place_text, class_word, genfs_line, genfs_listing};
 
 use crate::contexts::push_context;
 use crate::genfs_entry::GenfsEntry;
-use info_lines::LineText;
+use info_lines::EntryText;
 use pol_cursor::{Names, TableKind};
 use pol_mls::push_name;
 use pol_symbols::Symbols;
@@ -39,14 +38,17 @@ impl<'p, 'a> GenfsLines<'p, 'a> {
     }
 }
 
-impl<'p, 'a> LineText for GenfsLines<'p, 'a> {
-    ghost has = { HasLine };
+impl<'p, 'a> EntryText for GenfsLines<'p, 'a> {
+    ghost lines = { λ lines. lines };
 
-    ghost text = { line_of };
+    #[tactic(auto, using(info_lines::proofs::FileOrder::as_many))]
+    fn len(&self) -> usize {
+        self.entries.len()
+    }
 
     #[tactic(auto, using(info_lines::proofs::ListingLines::line_at))]
-    fn push_text(&self, number: u32, buffer: &mut Vec<u8>) -> Result<(), AllocError> {
-        push_genfs(buffer, &self.entries[number as usize], self.symbols)
+    fn push_text(&self, number: usize, buffer: &mut Vec<u8>) -> Result<(), AllocError> {
+        push_genfs(buffer, &self.entries[number], self.symbols)
     }
 }
 

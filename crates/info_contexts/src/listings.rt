@@ -15,7 +15,7 @@ use crate::{
     FsUseLines, GenfsLines, IbEndPortLines, IbPkeyLines, NetifLines, Node6Lines, NodeLines,
     PortLines, SidLines,
 };
-use info_lines::{ChainedLines, FileLines, NumberedLines};
+use info_lines::{ChainedLines, EntryLines, FileLines, NumberedLines};
 use pol_read::Policy;
 use std::alloc::{AllocError, Global};
 
@@ -51,23 +51,16 @@ pub fn fsuse_lines<'p, 'a>(
     Ok(NumberedLines::new(lines, numbers))
 }
 
-/// Those of the paths of the file systems of the name that have no labels of their own, or of all where none is given. So many
-/// paths that their numbers do not fit are answered as out of memory.
-#[tactic(auto, using(crate::proofs::NamedEntries::chosen_there, crate::proofs::NamedEntries::chosen_lines, info_lines::proofs::FileOrder::as_many))]
+/// Those of the paths of the file systems of the name that have no labels of their own, or of all where none is given.
 pub fn genfs_lines<'p, 'a>(
     alloc: Global,
     policy: &'p Policy<'a>,
     name: Option<&[u8]>,
-) -> Result<NumberedLines<GenfsLines<'p, 'a>>, AllocError>
+) -> Result<EntryLines<GenfsLines<'p, 'a>>, AllocError>
     ensures { IfOk result (λ lines. lines ≡ genfs_listing_of policy.now.symbols (option_map (λ name. name.now) name.entry) policy.now.labels.genfs) }
 {
-    let entries = genfs_entries(alloc, policy.genfs())?;
-    if entries.len() > u32::MAX as usize {
-        return Err(AllocError);
-    }
-    let numbers = numbers_of_name(alloc, &entries, entries.len() as u32, name)?;
-    let lines = GenfsLines::new(entries, policy.symbols());
-    Ok(NumberedLines::new(lines, numbers))
+    let entries = genfs_entries(alloc, policy.genfs(), name)?;
+    Ok(EntryLines::new(GenfsLines::new(entries, policy.symbols())))
 }
 
 /// Those of the network interfaces of the name, or of all where none is given.

@@ -16,7 +16,7 @@ use info_contexts::{
     PortLines, SidLines, fsuse_lines, genfs_lines, ibendport_lines, ibpkey_lines, netif_lines,
     node_lines, port_lines, sid_lines,
 };
-use info_lines::{ChainedLines, FileLines, Lines, Listing, NumberedLines};
+use info_lines::{ChainedLines, EntryLines, FileLines, Lines, Listing, NumberedLines};
 use info_symbols::{
     AttributeLines, SymbolLines, TypeLines, TypeSet, attribute_statements,
     attribute_statements_named, set_lines, symbol_lines,
@@ -35,12 +35,12 @@ pub enum ListingLines<'p, 'a> {
     /// Those of attributes with their types.
     Attributes(AttributeLines<'p, 'a>),
     /// Those of both kinds of constraints.
-    Constraints(FileLines<ConstraintLines<'p, 'a>>),
-    Defaults(FileLines<DefaultLines<'a>>),
-    Typebounds(FileLines<BoundsLines<'p, 'a>>),
+    Constraints(EntryLines<ConstraintLines<'p, 'a>>),
+    Defaults(EntryLines<DefaultLines<'a>>),
+    Typebounds(EntryLines<BoundsLines<'p, 'a>>),
     InitialSids(NumberedLines<SidLines<'p, 'a>>),
     FsUses(NumberedLines<FsUseLines<'p, 'a>>),
-    Genfscons(NumberedLines<GenfsLines<'p, 'a>>),
+    Genfscons(EntryLines<GenfsLines<'p, 'a>>),
     Netifcons(NumberedLines<NetifLines<'p, 'a>>),
     Nodecons(ChainedLines<NodeLines<'p, 'a>, Node6Lines<'p, 'a>>),
     Portcons(FileLines<PortLines<'p, 'a>>),
