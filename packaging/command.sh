@@ -7,4 +7,4 @@ esac
 # The C library takes a large file's memory in large pages, which are fewer to fault in.
 GLIBC_TUNABLES=${GLIBC_TUNABLES:+$GLIBC_TUNABLES:}glibc.malloc.hugetlb=1
 export GLIBC_TUNABLES
-exec @libexec@/setools "$@"
+exec '@libexec@/setools' "$@"
