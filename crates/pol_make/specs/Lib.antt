@@ -1,0 +1,4 @@
+pub mod SetNodes
+pub mod MadeSymbols
+pub mod MadeRules
+pub mod Made
