@@ -77,12 +77,12 @@ same_user = record { kind = 4; attr = 1; op = 1; names = None; type_set = None }
 unfoldable pub process_constraints : List ConstraintRec
 process_constraints = record { permissions = 1; items = same_user ∷ [] } ∷ []
 
+-- the class of processes, which inherits none
+abbrev pub process_class : ClassRec
+process_class = class (codes "process") [] 3 5 process_permissions process_constraints
+
 unfoldable pub made_classes : List ClassRec
-made_classes =
-    file_class (codes "file") 1 (codes "entrypoint")
-    ∷ file_class (codes "dir") 2 (codes "search")
-    ∷ class (codes "process") [] 3 5 process_permissions process_constraints
-    ∷ []
+made_classes = file_class (codes "file") 1 (codes "entrypoint") ∷ file_class (codes "dir") 2 (codes "search") ∷ process_class ∷ []
 
 -- ---- roles and types
 

@@ -1,5 +1,5 @@
 -- The nodes of a set by its bits.
-use Rattle.std.specs.Prelude.{ℕ, ◌+◌, ◌-◌, ◌%◌, ◌^◌, ◌==◌, List, [], ◌∷◌, if◌then◌else◌}
+use Rattle.std.specs.Prelude.{ℕ, ◌-◌, ◌%◌, ◌^◌, ◌==◌, bit_or, List, [], ◌∷◌, if◌then◌else◌}
 use Rattle.pol_bitmap.specs.declared.Node.{Node}
 
 -- the node of one bit
@@ -9,7 +9,7 @@ node_of bit = record { start = bit - bit % 64; map = 2 ^ (bit % 64) }
 -- nodes with one more before them. It is one with the first of them where both are of the same 64 bits.
 abbrev pub with_node : Node → List Node → List Node
 with_node n [] = n ∷ []
-with_node n (m ∷ ms) = if n.start == m.start then record { start = m.start; map = n.map + m.map } ∷ ms else n ∷ m ∷ ms
+with_node n (m ∷ ms) = if n.start == m.start then record { start = n.start; map = bit_or n.map m.map } ∷ ms else n ∷ m ∷ ms
 
 -- the set of bits that rise
 unfoldable pub set_of : List ℕ → List Node

@@ -1,0 +1,27 @@
+// Sets by their bits.
+ghost use Rattle.std.specs.Prelude.{◌≡◌, IfOk};
+ghost use Rattle.std.specs.List.{range_with_len};
+ghost use Rattle.std.specs.List.Sorted.{IsStrictlyIncreasing};
+ghost use Rattle.pol_make.specs.SetNodes.{set_of};
+
+use pol_bitmap::Set;
+use std::alloc::{AllocError, Global};
+
+/// The set of bits that rise.
+pub fn set_of(alloc: Global, bits: &[u32]) -> Result<Set, AllocError>
+    requires { IsStrictlyIncreasing bits.now }
+    ensures { IfOk result (λ set. set ≡ set_of bits.now) }
+{
+    Set::from_rising(alloc, bits)
+}
+
+/// The set of the first bits, so many.
+pub fn first_bits(alloc: Global, count: u32) -> Result<Set, AllocError>
+    ensures { IfOk result (λ set. set ≡ set_of (range_with_len 0 count)) }
+{
+    let mut bits = Vec::new(alloc);
+    for bit in 0..count {
+        bits.push(bit)?;
+    }
+    set_of(alloc, &bits)
+}
