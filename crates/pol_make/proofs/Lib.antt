@@ -1,2 +1,4 @@
 pub mod Granted
+pub mod GrantedBitmaps
+pub mod GrantedTables
 pub mod SetBits
