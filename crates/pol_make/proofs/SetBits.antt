@@ -1,18 +1,18 @@
 -- The set of bits that rise has just these bits.
-use Rattle.std.proofs.Common.{◌≡◌, ◌↔◌, inl, inr, ℕ, zero, suc, ◌+◌, ◌-◌, ◌%◌, ◌^◌, ◌<◌, ◌≤◌, max, Bool, true, false, ◌||◌, Result, Ok, Err, IfOk, List, [], ◌∷◌, ◌++◌, refl, sym, ap, ◌∙◌, add-one, add-zero, arith}
+use Rattle.std.proofs.Common.{◌≡◌, ◌↔◌, inl, inr, ℕ, ◌+◌, ◌-◌, ◌%◌, ◌^◌, ◌<◌, ◌≤◌, max, Bool, true, false, ◌||◌, Result, Ok, Err, IfOk, List, [], ◌∷◌, refl, sym, ap, ◌∙◌, arith}
 use Rattle.std.specs.Prelude.{bit_or, ◌==◌, ◌&&◌, nat_le, nat_lt}
 use Rattle.std.specs.Int.{bit_at}
-use Rattle.std.specs.List.{All, AllByRecursion, Contains, range_with_len}
+use Rattle.std.specs.List.{All, AllByRecursion, Contains}
 use Rattle.std.proofs.lemmas.Nat.{or_lt, le_or_l, pow_below, pow_pos}
 use Rattle.std.proofs.lemmas.Nat.Bits.{bit_at_or, bit_at-lt, bit_at-pow_same, bit_at-pow_other}
 use Rattle.std.proofs.lemmas.Bool.{cases_eq, cases_Bool, eqb-true, eq-eqb, ne_eqb, and_from, and_parts, le-leb, lt-ltb, leb-true, ltb-true, or_cases, or_left, or_right}
-use Rattle.std.proofs.lemmas.List.Elements.{All-head, All-tail, Contains-append_left, Contains-append_right, Contains-append_cases}
+use Rattle.std.proofs.lemmas.List.Elements.{All-head, All-tail, Contains-append_right, Contains-append_cases}
 use Rattle.pol_bitmap.specs.declared.Node.{Node}
 use Rattle.pol_bitmap.specs.Nodes.{node_has, has_bit, bits_of}
 use Rattle.pol_bitmap.specs.Sets.{IsSet, IsSetFrom}
 use Rattle.pol_bitmap.proofs.Elements.{contains_nothing, contains_one, contains_first}
-use Rattle.pol_bitmap.proofs.BitLists.{RisesFrom, rises_lower, rises_same, bits_rise, has_bit-from_bits, bits-from_has_bit}
-use Rattle.pol_bitmap.proofs.Merging.{by_digits, later, or_nothing}
+use Rattle.pol_bitmap.proofs.BitLists.{RisesFrom, rises_same, bits_rise, has_bit-from_bits, bits-from_has_bit}
+use Rattle.pol_bitmap.proofs.Merging.{by_digits, later}
 use Rattle.pol_bitmap.proofs.SetLaws.{sets_same, set_bits_fit}
 use Rattle.pol_make.specs.SetNodes.{node_of, with_node, set_of}
 
@@ -27,18 +27,18 @@ node_of-has bit c = elim (cases_eq c bit) [
       let one : bit_at (2 ^ (bit % 64)) (c - start) ≡ 1 = rw k (bit_at-pow_same (bit % 64)) in
       and_from _ _ (and_from _ _ (le-leb start c (omega arith)) (lt-ltb c (start + 64) (omega arith))) (eq-eqb _ _ one) ∙ sym (eq-eqb c bit same)
   | inr other ↦ elim (cases_Bool (node_has c (node_of bit))) [
-      | inl has ↦
-          let start = bit - bit % 64 in
-          let p = and_parts (nat_le start c && nat_lt c (start + 64)) _ has in
-          let q = and_parts (nat_le start c) (nat_lt c (start + 64)) p.0 in
-          let le : start ≤ c = leb-true start c q.0 in
-          let lt : c < start + 64 = ltb-true c (start + 64) q.1 in
-          let apart : c - start ≡ bit % 64 → ⊥ = λ k. other (omega arith) in
-          let none : bit_at (2 ^ (bit % 64)) (c - start) ≡ 0 = bit_at-pow_other (bit % 64) (c - start) apart in
-          let one : bit_at (2 ^ (bit % 64)) (c - start) ≡ 1 = eqb-true _ _ p.1 in
-          absurd (cc)
-      | inr none ↦ none ∙ sym (ne_eqb c bit other)
-    ]
+    | inl has ↦
+        let start = bit - bit % 64 in
+        let p = and_parts (nat_le start c && nat_lt c (start + 64)) _ has in
+        let q = and_parts (nat_le start c) (nat_lt c (start + 64)) p.0 in
+        let le : start ≤ c = leb-true start c q.0 in
+        let lt : c < start + 64 = ltb-true c (start + 64) q.1 in
+        let apart : c - start ≡ bit % 64 → ⊥ = λ k. other (omega arith) in
+        let none : bit_at (2 ^ (bit % 64)) (c - start) ≡ 0 = bit_at-pow_other (bit % 64) (c - start) apart in
+        let one : bit_at (2 ^ (bit % 64)) (c - start) ≡ 1 = eqb-true _ _ p.1 in
+        absurd (cc)
+    | inr none ↦ none ∙ sym (ne_eqb c bit other)
+  ]
 ]
 
 digits-or : (p q : ℕ) → p < 2 → q < 2 → (max p q == 1) ≡ ((p == 1) || (q == 1))
@@ -67,7 +67,7 @@ with_node-has n (m ∷ ms) c = elim (cases_eq n.start m.start) [
       let test : (n.start == m.start) ≡ true = eq-eqb n.start m.start same in
       let moved : node_has c (record { start = n.start; map = m.map }) ≡ node_has c m = ap (λ (s : ℕ). node_has c (record { start = s; map = m.map })) same in
       let joined : (node_has c (record { start = n.start; map = bit_or n.map m.map }) || has_bit ms c) ≡ (node_has c n || (node_has c m || has_bit ms c)) =
-          ap (λ (b : Bool). b || has_bit ms c) (joined-has n.start n.map m.map c ∙ ap (λ (b : Bool). node_has c n || b) moved) ∙ or-regroup (node_has c n) (node_has c m) (has_bit ms c)
+      ap (λ (b : Bool). b || has_bit ms c) (joined-has n.start n.map m.map c ∙ ap (λ (b : Bool). node_has c n || b) moved) ∙ or-regroup (node_has c n) (node_has c m) (has_bit ms c)
       in
       rw test joined
   | inr other ↦ rw (ne_eqb n.start m.start other) refl
@@ -145,8 +145,8 @@ set_of_its_bits s h =
     let rises = bits_rise 0 s h.0 in
     let set = set_of-set 0 (bits_of s) rises (each-fits (bits_of s) (set_bits_fit s h)) in
     sets_same 0 0 s (set_of (bits_of s)) h set λ c. same-test (has_bit s c) (has_bit (set_of (bits_of s)) c)
-        (λ there. has-from_bits (bits_of s) c (bits-from_has_bit s c there))
-        (λ there. has_bit-from_bits s c (bits-from_has (bits_of s) c there))
+    (λ there. has-from_bits (bits_of s) c (bits-from_has_bit s c there))
+    (λ there. has_bit-from_bits s c (bits-from_has (bits_of s) c there))
 
 pub set_with_bits : (s : List Node) (bits : List ℕ) → IsSet s → bits_of s ≡ bits → s ≡ set_of bits
 set_with_bits s bits h e = set_of_its_bits s h ∙ ap set_of e
@@ -155,22 +155,3 @@ set_with_bits s bits h e = set_of_its_bits s h ∙ ap set_of e
 pub made_of_bits : {E : Type 0} (r : Result (List Node) E) (bits : List ℕ) → IfOk r IsSet → IfOk r (λ s. bits_of s ≡ bits) → IfOk r (λ s. s ≡ set_of bits)
 made_of_bits (Ok s) bits h e = set_with_bits s bits h e
 made_of_bits (Err f) bits h e = tt
-
--- ---- numbers one after the other
-
-pub range-more : (a n : ℕ) → range_with_len a (n + 1) ≡ range_with_len a n ++ (a + n) ∷ []
-range-more a n = rw add-one (more a n)
-  where
-    more : (a n : ℕ) → range_with_len a (suc n) ≡ range_with_len a n ++ (a + n) ∷ []
-    more a zero = rw add-zero refl
-    more a (suc n) =
-        let e : a + suc n ≡ a + 1 + n = omega arith in
-        rw e (ap (λ (xs : List ℕ). a ∷ xs) (more (a + 1) n))
-
-pub range-rises : (a n : ℕ) → RisesFrom a (range_with_len a n)
-range-rises a zero = tt
-range-rises a (suc n) = (omega arith, range-rises (a + 1) n)
-
-pub range-fits : (end a n : ℕ) → a + n ≤ end → AllByRecursion (λ b. b < end) (range_with_len a n)
-range-fits end a zero le = tt
-range-fits end a (suc n) le = (omega arith, range-fits end (a + 1) n (omega arith))

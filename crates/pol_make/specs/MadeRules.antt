@@ -31,9 +31,13 @@ transition_rules n i =
     ∷ allow (ring_value n i 0) (ring_value n i 1) 1 64
     ∷ []
 
--- reading and writing the files of fifteen types after it
+-- reading and writing the files of the type so many places after it
+abbrev pub file_rule : ℕ → ℕ → ℕ → AvRec
+file_rule n i places = allow (ring_value n i 0) (ring_value n i places) 1 6
+
+-- those of fifteen types
 abbrev pub file_rules : ℕ → ℕ → List AvRec
-file_rules n i = map (λ places. allow (ring_value n i 0) (ring_value n i places) 1 6) (range_with_len 4 15)
+file_rules n i = map (file_rule n i) (range_with_len 4 15)
 
 -- reading the directories of one more type, by its attribute
 abbrev pub attribute_rule : ℕ → ℕ → AvRec

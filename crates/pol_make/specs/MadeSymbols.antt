@@ -15,7 +15,7 @@ use Rattle.pol_datums.specs.declared.BooleanRec.{BooleanRec}
 use Rattle.pol_datums.specs.declared.SensitivityRec.{SensitivityRec}
 use Rattle.pol_datums.specs.declared.CategoryRec.{CategoryRec}
 use Rattle.pol_symbols.specs.declared.UserRec.{UserRec}
-use Rattle.pol_make.specs.SetNodes.{set_of}
+use Rattle.pol_make.specs.SetNodes.{set_of, first_bits}
 
 -- how many attributes there are beside n types: each has twenty of them
 abbrev pub attribute_count : ℕ → ℕ
@@ -92,7 +92,7 @@ role name value dominates types = record { value = value; bounds = 0; name = nam
 
 -- The second has all types.
 unfoldable pub made_roles : ℕ → List RoleRec
-made_roles n = role (codes "object_r") 1 (set_of (0 ∷ [])) (set_of []) ∷ role (codes "system_r") 2 (set_of (1 ∷ [])) (set_of (range_with_len 0 n)) ∷ []
+made_roles n = role (codes "object_r") 1 (set_of (0 ∷ [])) (set_of []) ∷ role (codes "system_r") 2 (set_of (1 ∷ [])) (first_bits n) ∷ []
 
 abbrev pub type_name : ℕ → List ℕ
 type_name number = codes "t" ++ decimal number ++ codes "_t"
@@ -115,8 +115,8 @@ made_types n = map made_type (range_with_len 1 n) ++ map (made_attribute n) (ran
 -- ---- users, booleans and levels
 
 -- all categories
-unfoldable pub all_categories : List Node
-all_categories = set_of (range_with_len 0 1024)
+abbrev pub all_categories : List Node
+all_categories = first_bits 1024
 
 -- the level without categories
 abbrev pub bare_level : LevelRec
@@ -149,8 +149,12 @@ category_name number = codes "c" ++ decimal number
 unfoldable pub made_category : ℕ → CategoryRec
 made_category number = record { value = number + 1; isalias = 0; name = category_name number }
 
-unfoldable pub made_categories : List CategoryRec
-made_categories = map made_category (range_with_len 0 1024)
+-- so many of them
+unfoldable pub categories_of : ℕ → List CategoryRec
+categories_of count = map made_category (range_with_len 0 count)
+
+abbrev pub made_categories : List CategoryRec
+made_categories = categories_of 1024
 
 -- ---- the greatest values
 

@@ -1,5 +1,6 @@
 -- The nodes of a set by its bits.
 use Rattle.std.specs.Prelude.{ℕ, ◌-◌, ◌%◌, ◌^◌, ◌==◌, bit_or, List, [], ◌∷◌, if◌then◌else◌}
+use Rattle.std.specs.List.{range_with_len}
 use Rattle.pol_bitmap.specs.declared.Node.{Node}
 
 -- the node of one bit
@@ -15,3 +16,7 @@ with_node n (m ∷ ms) = if n.start == m.start then record { start = n.start; ma
 unfoldable pub set_of : List ℕ → List Node
 set_of [] = []
 set_of (bit ∷ bits) = with_node (node_of bit) (set_of bits)
+
+-- the set of the first bits, so many
+unfoldable pub first_bits : ℕ → List Node
+first_bits count = set_of (range_with_len 0 count)

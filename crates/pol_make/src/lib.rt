@@ -1,12 +1,12 @@
 //! Policies that are made: of so many types in a ring, for measurements and tests.
 #![tactic(auto)]
 
-mod make;
 mod make_classes;
 mod make_rules;
 mod make_symbols;
 mod make_types;
+mod making;
 mod names;
 mod sets;
 
-pub use make::make;
+pub use making::make;

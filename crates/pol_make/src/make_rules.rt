@@ -3,7 +3,7 @@ ghost use Rattle.std.specs.Prelude.{◌≡◌, ◌≤◌, ◌<◌, ◌+◌, ◌+
 ghost use Rattle.std.specs.List.{range_with_len};
 ghost use Rattle.pol_make.specs.Made.{Allowed};
 ghost use Rattle.pol_make.specs.MadeSymbols.{attribute_count};
-ghost use Rattle.pol_make.specs.MadeRules.{ring_value, attribute_of, allow, transition_rules, file_rules, attribute_rule, rules_of, made_rules, made_sids, type_row, attribute_row, made_rows};
+ghost use Rattle.pol_make.specs.MadeRules.{ring_value, attribute_of, allow, transition_rules, file_rule, file_rules, attribute_rule, rules_of, made_rules, made_sids, type_row, attribute_row, made_rows};
 
 use crate::make_symbols::bare_range;
 use crate::sets::set_of;
@@ -59,9 +59,18 @@ fn push_file_rules(rules: &mut Vec<AvRec>, n: u32, i: u32) -> Result<(), AllocEr
     ensures { OnOk result (rules.new.items ≡ rules.old.items ++ file_rules n i) }
 {
     for places in 4..19 {
-        rules.push(allow(ring_value(n, i, 0), ring_value(n, i, places), 1, 6))?;
+        rules.push(file_rule(n, i, places))?;
     }
     Ok(())
+}
+
+fn file_rule(n: u32, i: u32, places: u32) -> AvRec
+    requires allowed { Allowed n }
+    requires within { i < n }
+    requires near { places < 20 }
+    ensures { result ≡ file_rule n i places }
+{
+    allow(ring_value(n, i, 0), ring_value(n, i, places), 1, 6)
 }
 
 fn attribute_rule(n: u32, i: u32) -> AvRec
@@ -69,7 +78,12 @@ fn attribute_rule(n: u32, i: u32) -> AvRec
     requires within { i < n }
     ensures { result ≡ attribute_rule n i }
 {
-    allow((n + 1 + attribute_of(n, i)) as u16, ring_value(n, i, 19), 2, 2)
+    allow(
+        (n + 1 + attribute_of(n, i)) as u16,
+        ring_value(n, i, 19),
+        2,
+        2,
+    )
 }
 
 // The value of the type so many places after one of the ring.
@@ -137,7 +151,8 @@ fn push_type_rows(alloc: Global, rows: &mut Vec<Set>, n: u32) -> Result<(), Allo
     ensures { OnOk result (rows.new.items ≡ rows.old.items ++ map (type_row n) (range_with_len 0 n)) }
 {
     for i in 0..n {
-        rows.push(set_of(alloc, &[i, n + attribute_of(n, i)])?)?;
+        let row = set_of(alloc, &[i, n + attribute_of(n, i)])?;
+        rows.push(row)?;
     }
     Ok(())
 }
@@ -147,7 +162,8 @@ fn push_attribute_rows(alloc: Global, rows: &mut Vec<Set>, n: u32) -> Result<(),
     ensures { OnOk result (rows.new.items ≡ rows.old.items ++ map attribute_row (range_with_len n (attribute_count n))) }
 {
     for i in 0..n / 20 {
-        rows.push(set_of(alloc, &[n + i])?)?;
+        let row = set_of(alloc, &[n + i])?;
+        rows.push(row)?;
     }
     Ok(())
 }

@@ -1,6 +1,6 @@
 // The users, the booleans, the levels and the categories.
-ghost use Rattle.std.specs.Prelude.{◌≡◌, ◌<◌, IfOk};
-ghost use Rattle.pol_make.specs.MadeSymbols.{all_categories, bare_level, bare_range, whole_range, made_users, boolean, made_booleans, made_levels, made_category, made_categories};
+ghost use Rattle.std.specs.Prelude.{◌≡◌, ◌<◌, ◌≤◌, IfOk};
+ghost use Rattle.pol_make.specs.MadeSymbols.{all_categories, bare_level, bare_range, whole_range, made_users, boolean, made_booleans, made_levels, made_category, categories_of};
 
 use crate::names::{category_name, name};
 use crate::sets::{first_bits, set_of};
@@ -66,7 +66,6 @@ pub fn bare_range(alloc: Global) -> Result<RangeRec, AllocError>
     })
 }
 
-#[tactic(auto, unfolding(crate::specs::MadeSymbols::all_categories))]
 fn all_categories(alloc: Global) -> Result<Set, AllocError>
     ensures { IfOk result (λ set. set ≡ all_categories) }
 {
@@ -107,13 +106,14 @@ pub fn make_levels(alloc: Global) -> Result<SensitivityRecList, AllocError>
     Ok(OwnedList::from_vec(vec![in alloc; level]?))
 }
 
-/// The table of categories.
-#[tactic(auto, unfolding(crate::specs::MadeSymbols::made_categories))]
-pub fn make_categories(alloc: Global) -> Result<CategoryRecList, AllocError>
-    ensures { IfOk result (λ list. list ≡ made_categories) }
+/// A table of so many categories.
+#[tactic(auto, unfolding(crate::specs::MadeSymbols::categories_of))]
+pub fn make_categories(alloc: Global, count: u32) -> Result<CategoryRecList, AllocError>
+    requires { count ≤ 1024 }
+    ensures { IfOk result (λ list. list ≡ categories_of count) }
 {
     let mut categories = Vec::new(alloc);
-    for number in 0..1024 {
+    for number in 0..count {
         categories.push(make_category(alloc, number)?)?;
     }
     Ok(OwnedList::from_vec(categories))

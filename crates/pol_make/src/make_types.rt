@@ -15,8 +15,20 @@ use std::alloc::{AllocError, Global};
 pub fn make_roles(alloc: Global, n: u32) -> Result<RoleRecList, AllocError>
     ensures { IfOk result (λ list. list ≡ made_roles n) }
 {
-    let object = role(alloc, b"object_r", 1, set_of(alloc, &[0])?, set_of(alloc, &[])?)?;
-    let system = role(alloc, b"system_r", 2, set_of(alloc, &[1])?, first_bits(alloc, n)?)?;
+    let object = role(
+        alloc,
+        b"object_r",
+        1,
+        set_of(alloc, &[0])?,
+        set_of(alloc, &[])?,
+    )?;
+    let system = role(
+        alloc,
+        b"system_r",
+        2,
+        set_of(alloc, &[1])?,
+        first_bits(alloc, n)?,
+    )?;
     Ok(OwnedList::from_vec(vec![in alloc; object, system]?))
 }
 

@@ -1,8 +1,7 @@
 // Sets by their bits.
 ghost use Rattle.std.specs.Prelude.{◌≡◌, IfOk};
-ghost use Rattle.std.specs.List.{range_with_len};
 ghost use Rattle.std.specs.List.Sorted.{IsStrictlyIncreasing};
-ghost use Rattle.pol_make.specs.SetNodes.{set_of};
+ghost use Rattle.pol_make.specs.SetNodes.{set_of, first_bits};
 
 use pol_bitmap::Set;
 use std::alloc::{AllocError, Global};
@@ -16,8 +15,9 @@ pub fn set_of(alloc: Global, bits: &[u32]) -> Result<Set, AllocError>
 }
 
 /// The set of the first bits, so many.
+#[tactic(auto, unfolding(crate::specs::SetNodes::first_bits))]
 pub fn first_bits(alloc: Global, count: u32) -> Result<Set, AllocError>
-    ensures { IfOk result (λ set. set ≡ set_of (range_with_len 0 count)) }
+    ensures { IfOk result (λ set. set ≡ first_bits count) }
 {
     let mut bits = Vec::new(alloc);
     for bit in 0..count {

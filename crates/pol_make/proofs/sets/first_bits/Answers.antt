@@ -1,6 +1,6 @@
 use Rattle.std.proofs.Common.{zero-add}
 use Rattle.pol_bitmap.proofs.BitLists.{rises_increasing}
-use Rattle.pol_make.proofs.SetBits.{range-more, range-rises}
+use Rattle.pol_make.proofs.RangeLists.{range-more, range-rises}
 use Rattle.pol_make.proofs.sets.first_bits.Goals as goal
 
 pub loop-bit-preserved : goal.loop-bit-preserved

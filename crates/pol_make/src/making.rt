@@ -113,6 +113,6 @@ fn make_symbols(alloc: Global, n: u32) -> Result<SymbolLists, AllocError>
         users: make_users(alloc)?,
         booleans: make_booleans(alloc)?,
         levels: make_levels(alloc)?,
-        categories: make_categories(alloc)?,
+        categories: make_categories(alloc, 1024)?,
     })
 }

@@ -1,0 +1,130 @@
+-- The records of symbol tables are read where no condition refuses them.
+use Rattle.std.proofs.Common.{◌≡◌, ℕ, ◌+◌, ◌^◌, ◌<◌, ◌≤◌, Bool, true, false, cond, Option, None, Some, List, [], ◌∷◌, ◌++◌, length, refl, append_assoc, arith}
+use Rattle.std.specs.Prelude.{◌&&◌, nat_le}
+use Rattle.std.specs.List.{list_all}
+use Rattle.std.proofs.lemmas.Bool.{le-leb}
+use Rattle.std.proofs.lemmas.List.{append-nil}
+use Rattle.pol_cursor.specs.declared.Cause.{Cause}
+use Rattle.pol_cursor.specs.Outcome.{field}
+use Rattle.pol_cursor.specs.Spelling.{bytes_of}
+use Rattle.pol_bitmap.specs.Nodes.{IsRisingFrom}
+use Rattle.pol_symtab.specs.Claims.{Claims, has_name, has_value}
+use Rattle.pol_symtab.specs.SymbolFields.{symbol_length_at, symbol_name_at, name_test, new_value_test}
+use Rattle.pol_datums.specs.SymbolValues.{value_at, new_value_at, bounds_at}
+use Rattle.pol_datums.specs.Flags.{flag_at, is_primary_flag}
+use Rattle.pol_datums.specs.declared.RoleRec.{RoleRec}
+use Rattle.pol_datums.specs.declared.TypeRec.{TypeRec}
+use Rattle.pol_datums.specs.declared.BooleanRec.{BooleanRec}
+use Rattle.pol_datums.specs.declared.SensitivityRec.{SensitivityRec}
+use Rattle.pol_datums.specs.declared.CategoryRec.{CategoryRec}
+use Rattle.pol_datums.specs.RoleRecord.{role_at, spell_role, RoleFits}
+use Rattle.pol_datums.specs.TypeRecord.{type_at, spell_type, TypeFits, is_primary_type}
+use Rattle.pol_datums.specs.BooleanRecord.{boolean_at, spell_boolean, BooleanFits}
+use Rattle.pol_datums.specs.SensitivityRecord.{sensitivity_at, sens_at, spell_sensitivity, SensitivityFits}
+use Rattle.pol_datums.specs.CategoryRecord.{category_at, spell_category, CategoryFits}
+use Rattle.pol_make.proofs.Granted.{GrantsOf, grants-done, grants-then, grants-as, grants-number, grants-number_if, grants-string_if}
+use Rattle.pol_make.proofs.GrantedBitmaps.{grants-set}
+use Rattle.pol_make.proofs.NumberedNames.{IsName}
+
+-- a record of that name and value may stand behind those that have taken the claims
+pub record MayStand (claims : Claims) (nprim : ℕ) (name : List ℕ) (value : ℕ) : Type 0 where
+  pub is_name : IsName name
+  pub name_is_new : has_name claims name ≡ false
+  pub least : 1 ≤ value
+  pub most : value ≤ nprim
+  pub value_is_new : has_value claims value ≡ false
+
+-- ---- the parts that symbols have
+
+pub grants-length : (row part n : ℕ) → 1 ≤ n → n < 2 ^ 32 → GrantsOf (symbol_length_at row part) n (bytes_of 4 n)
+unfolding symbol_length_at
+grants-length row part n some fits = grants-number_if (field row part) 4 n _ fits (rw (le-leb 1 n some) refl)
+
+pub grants-name : (row part : ℕ) (claims : Claims) (name : List ℕ) → IsName name → has_name claims name ≡ false → GrantsOf (symbol_name_at row part claims (length name)) name name
+unfolding symbol_name_at
+grants-name row part claims name is new = grants-string_if (field row part) name (name_test claims) (rw (is.bytes, new) refl)
+
+pub new_value-stands : (claims : Claims) (nprim value : ℕ) → 1 ≤ value → value ≤ nprim → has_value claims value ≡ false → new_value_test nprim claims value ≡ None
+new_value-stands claims nprim value least most new = rw (le-leb 1 value least, le-leb value nprim most, new) refl
+
+pub grants-new_value : (row part nprim : ℕ) (claims : Claims) (value : ℕ) → value < 2 ^ 32 → 1 ≤ value → value ≤ nprim → has_value claims value ≡ false → GrantsOf (new_value_at row part nprim claims) value (bytes_of 4 value)
+unfolding new_value_at
+grants-new_value row part nprim claims value fits least most new = grants-number_if (field row part) 4 value _ fits (new_value-stands claims nprim value least most new)
+
+pub grants-value : (row part nprim value : ℕ) → value < 2 ^ 32 → 1 ≤ value → value ≤ nprim → GrantsOf (value_at row part nprim) value (bytes_of 4 value)
+unfolding value_at
+grants-value row part nprim value fits least most = grants-number_if (field row part) 4 value _ fits (rw (le-leb 1 value least, le-leb value nprim most) refl)
+
+pub grants-bounds : (row part bounds : ℕ) → bounds < 2 ^ 32 → GrantsOf (bounds_at row part) bounds (bytes_of 4 bounds)
+unfolding bounds_at
+grants-bounds row part bounds fits = grants-number (field row part) 4 bounds fits
+
+grants-flag : (row part flag : ℕ) → flag ≤ 1 → GrantsOf (flag_at row part) flag (bytes_of 4 flag)
+unfolding flag_at
+grants-flag row part flag fits = grants-number_if (field row part) 4 flag _ (omega arith) (rw (le-leb flag 1 fits) refl)
+
+-- where the value is new, it is new for a primary record
+new-primary : (primary taken : Bool) (cause : Cause) → taken ≡ false → cond (primary && taken) (Some cause) None ≡ None
+new-primary true taken cause new = rw new refl
+new-primary false taken cause new = refl
+
+-- ---- the records
+
+pub role-granted : (claims : Claims) (nprim : ℕ) (role : RoleRec) → RoleFits role → MayStand claims nprim role.name role.value → IsRisingFrom 0 role.dominates → IsRisingFrom 0 role.types → GrantsOf (role_at claims nprim) role (spell_role role)
+unfolding role_at
+role-granted claims nprim role fits may dominates types =
+    grants-as
+    (grants-then _ (grants-length 8 1 (length role.name) may.is_name.some fits.len)
+    (grants-then _ (grants-new_value 8 2 nprim claims role.value fits.value may.least may.most may.value_is_new)
+    (grants-then _ (grants-bounds 8 3 role.bounds fits.bounds)
+    (grants-then _ (grants-name 8 4 claims role.name may.is_name may.name_is_new)
+    (grants-then _ (grants-set role.dominates fits.dominates dominates)
+    (grants-then _ (grants-set role.types fits.types types)
+    (grants-done role refl)))))))
+    (simp (append_assoc, append-nil))
+
+pub type-granted : (claims : Claims) (nprim : ℕ) (t : TypeRec) → TypeFits t → MayStand claims nprim t.name t.value → GrantsOf (type_at claims nprim) t (spell_type t)
+unfolding type_at
+type-granted claims nprim t fits may =
+    grants-as
+    (grants-then _ (grants-length 9 1 (length t.name) may.is_name.some fits.len)
+    (grants-then _ (grants-value 9 2 nprim t.value fits.value may.least may.most)
+    (grants-then _ (grants-number_if (field 9 3) 4 t.properties _ fits.properties (new-primary (is_primary_type t.properties) (has_value claims t.value) _ may.value_is_new))
+    (grants-then _ (grants-bounds 9 4 t.bounds fits.bounds)
+    (grants-then _ (grants-name 9 5 claims t.name may.is_name may.name_is_new)
+    (grants-done t refl))))))
+    (simp (append_assoc, append-nil))
+
+pub boolean-granted : (claims : Claims) (nprim : ℕ) (boolean : BooleanRec) → BooleanFits boolean → MayStand claims nprim boolean.name boolean.value → boolean.state ≤ 1 → GrantsOf (boolean_at claims nprim) boolean (spell_boolean boolean)
+unfolding boolean_at
+boolean-granted claims nprim boolean fits may state =
+    grants-as
+    (grants-then _ (grants-new_value 11 1 nprim claims boolean.value fits.value may.least may.most may.value_is_new)
+    (grants-then _ (grants-flag 11 2 boolean.state state)
+    (grants-then _ (grants-length 11 3 (length boolean.name) may.is_name.some fits.len)
+    (grants-then _ (grants-name 11 4 claims boolean.name may.is_name may.name_is_new)
+    (grants-done boolean refl)))))
+    (simp (append_assoc, append-nil))
+
+pub level-granted : (claims : Claims) (nprim : ℕ) (level : SensitivityRec) → SensitivityFits level → MayStand claims nprim level.name level.sens → level.isalias ≤ 1 → IsRisingFrom 0 level.categories → GrantsOf (sensitivity_at claims nprim) level (spell_sensitivity level)
+unfolding sensitivity_at sens_at
+level-granted claims nprim level fits may isalias categories =
+    grants-as
+    (grants-then _ (grants-length 12 1 (length level.name) may.is_name.some fits.len)
+    (grants-then _ (grants-flag 12 2 level.isalias isalias)
+    (grants-then _ (grants-name 12 3 claims level.name may.is_name may.name_is_new)
+    (grants-then _ (grants-number_if (field 12 4) 4 level.sens _ fits.sens (rw (le-leb 1 level.sens may.least, le-leb level.sens nprim may.most) (new-primary (is_primary_flag level.isalias) (has_value claims level.sens) _ may.value_is_new)))
+    (grants-then _ (grants-set level.categories fits.categories categories)
+    (grants-done level refl))))))
+    (simp (append_assoc, append-nil))
+
+pub category-granted : (claims : Claims) (nprim : ℕ) (category : CategoryRec) → CategoryFits category → MayStand claims nprim category.name category.value → category.isalias ≤ 1 → GrantsOf (category_at claims nprim) category (spell_category category)
+unfolding category_at
+category-granted claims nprim category fits may isalias =
+    grants-as
+    (grants-then _ (grants-length 13 1 (length category.name) may.is_name.some fits.len)
+    (grants-then _ (grants-value 13 2 nprim category.value fits.value may.least may.most)
+    (grants-then _ (grants-number_if (field 13 3) 4 category.isalias _ fits.isalias (rw (le-leb category.isalias 1 isalias) (new-primary (is_primary_flag category.isalias) (has_value claims category.value) _ may.value_is_new)))
+    (grants-then _ (grants-name 13 4 claims category.name may.is_name may.name_is_new)
+    (grants-done category refl)))))
+    (simp (append_assoc, append-nil))

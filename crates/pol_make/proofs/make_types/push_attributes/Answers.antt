@@ -1,0 +1,8 @@
+use Rattle.std.proofs.Common.{◌+◌, arith}
+use Rattle.pol_make.specs.MadeSymbols.{made_attribute}
+use Rattle.pol_make.proofs.RangeLists.{pushed}
+use Rattle.pol_make.proofs.make_types.push_attributes.Goals as goal
+
+pub loop-i-preserved : goal.loop-i-preserved
+loop-i-preserved c =
+    rw (c.in_ok-push.ensures.items, c.in_ok-make_attribute.ensures) (pushed (made_attribute c.args.n) c.args.types.now.items c.loop-i.types.items 1 c.loop-i.i (c.loop-i.i + 1) (omega arith) c.loop-i.invariant)
