@@ -1,15 +1,15 @@
 -- The records of symbol tables are read where no condition refuses them.
-use Rattle.std.proofs.Common.{◌≡◌, ℕ, ◌+◌, ◌^◌, ◌<◌, ◌≤◌, Bool, true, false, cond, Option, None, Some, List, [], ◌∷◌, ◌++◌, length, refl, append_assoc, arith}
-use Rattle.std.specs.Prelude.{◌&&◌, nat_le}
+use Rattle.std.proofs.Common.{◌≡◌, ℕ, ◌+◌, ◌^◌, ◌<◌, ◌≤◌, Bool, true, false, cond, not, Option, None, Some, List, [], ◌∷◌, ◌++◌, length, refl, append_assoc, arith}
+use Rattle.std.specs.Prelude.{◌&&◌, nat_le, nat_lt}
 use Rattle.std.specs.List.{list_all}
-use Rattle.std.proofs.lemmas.Bool.{le-leb}
+use Rattle.std.proofs.lemmas.Bool.{and_parts, le-leb, leb-true, ltb-true}
 use Rattle.std.proofs.lemmas.List.{append-nil}
 use Rattle.pol_cursor.specs.declared.Cause.{Cause}
 use Rattle.pol_cursor.specs.Outcome.{field}
 use Rattle.pol_cursor.specs.Spelling.{bytes_of}
-use Rattle.pol_bitmap.specs.Nodes.{IsRisingFrom}
+use Rattle.pol_bitmap.specs.Bitmap.{bitmap_at, spell_bitmap}
 use Rattle.pol_symtab.specs.Claims.{Claims, has_name, has_value}
-use Rattle.pol_symtab.specs.SymbolFields.{symbol_length_at, symbol_name_at, name_test, new_value_test}
+use Rattle.pol_symtab.specs.SymbolFields.{symbol_length_at, symbol_name_at, name_test, new_value_test, is_name_byte}
 use Rattle.pol_datums.specs.SymbolValues.{value_at, new_value_at, bounds_at}
 use Rattle.pol_datums.specs.Flags.{flag_at, is_primary_flag}
 use Rattle.pol_datums.specs.declared.RoleRec.{RoleRec}
@@ -23,7 +23,6 @@ use Rattle.pol_datums.specs.BooleanRecord.{boolean_at, spell_boolean, BooleanFit
 use Rattle.pol_datums.specs.SensitivityRecord.{sensitivity_at, sens_at, spell_sensitivity, SensitivityFits}
 use Rattle.pol_datums.specs.CategoryRecord.{category_at, spell_category, CategoryFits}
 use Rattle.pol_make.proofs.Granted.{GrantsOf, grants-done, grants-then, grants-as, grants-number, grants-number_if, grants-string_if}
-use Rattle.pol_make.proofs.GrantedBitmaps.{grants-set}
 use Rattle.pol_make.proofs.NumberedNames.{IsName}
 
 -- a record of that name and value may stand behind those that have taken the claims
@@ -33,6 +32,39 @@ pub record MayStand (claims : Claims) (nprim : ℕ) (name : List ℕ) (value : �
   pub least : 1 ≤ value
   pub most : value ≤ nprim
   pub value_is_new : has_value claims value ≡ false
+
+-- ---- names and values that are written out
+
+-- the same as a test, which computes for a name that is written out
+abbrev pub is_name : List ℕ → Bool
+is_name name = nat_le 1 (length name) && (nat_lt (length name) (2 ^ 32) && list_all is_name_byte name)
+
+abbrev pub may_stand : Claims → ℕ → List ℕ → ℕ → Bool
+may_stand claims nprim name value = is_name name && (not (has_name claims name) && (nat_le 1 value && (nat_le value nprim && not (has_value claims value))))
+
+not-true : (b : Bool) → not b ≡ true → b ≡ false
+not-true true e = absurd (cc)
+not-true false e = refl
+
+name-so : (name : List ℕ) → is_name name ≡ true → IsName name
+name-so name e =
+    let p = and_parts (nat_le 1 (length name)) (nat_lt (length name) (2 ^ 32) && list_all is_name_byte name) e in
+    let q = and_parts (nat_lt (length name) (2 ^ 32)) (list_all is_name_byte name) p.1 in
+    record { some = leb-true 1 (length name) p.0; short = ltb-true (length name) (2 ^ 32) q.0; bytes = q.1 }
+
+pub stands-so : (claims : Claims) (nprim : ℕ) (name : List ℕ) (value : ℕ) → may_stand claims nprim name value ≡ true → MayStand claims nprim name value
+stands-so claims nprim name value e =
+    let p = and_parts (is_name name) (not (has_name claims name) && (nat_le 1 value && (nat_le value nprim && not (has_value claims value)))) e in
+    let q = and_parts (not (has_name claims name)) (nat_le 1 value && (nat_le value nprim && not (has_value claims value))) p.1 in
+    let r = and_parts (nat_le 1 value) (nat_le value nprim && not (has_value claims value)) q.1 in
+    let s = and_parts (nat_le value nprim) (not (has_value claims value)) r.1 in
+    record {
+      is_name = name-so name p.0;
+      name_is_new = not-true (has_name claims name) q.0;
+      least = leb-true 1 value r.0;
+      most = leb-true value nprim s.0;
+      value_is_new = not-true (has_value claims value) s.1;
+    }
 
 -- ---- the parts that symbols have
 
@@ -70,7 +102,8 @@ new-primary false taken cause new = refl
 
 -- ---- the records
 
-pub role-granted : (claims : Claims) (nprim : ℕ) (role : RoleRec) → RoleFits role → MayStand claims nprim role.name role.value → IsRisingFrom 0 role.dominates → IsRisingFrom 0 role.types → GrantsOf (role_at claims nprim) role (spell_role role)
+pub role-granted : (claims : Claims) (nprim : ℕ) (role : RoleRec) → RoleFits role → MayStand claims nprim role.name role.value → GrantsOf (bitmap_at None) role.dominates (spell_bitmap role.dominates) → GrantsOf (bitmap_at None) role.types (spell_bitmap role.types)
+    → GrantsOf (role_at claims nprim) role (spell_role role)
 unfolding role_at
 role-granted claims nprim role fits may dominates types =
     grants-as
@@ -78,8 +111,8 @@ role-granted claims nprim role fits may dominates types =
     (grants-then _ (grants-new_value 8 2 nprim claims role.value fits.value may.least may.most may.value_is_new)
     (grants-then _ (grants-bounds 8 3 role.bounds fits.bounds)
     (grants-then _ (grants-name 8 4 claims role.name may.is_name may.name_is_new)
-    (grants-then _ (grants-set role.dominates fits.dominates dominates)
-    (grants-then _ (grants-set role.types fits.types types)
+    (grants-then _ dominates
+    (grants-then _ types
     (grants-done role refl)))))))
     (simp (append_assoc, append-nil))
 
@@ -106,7 +139,7 @@ boolean-granted claims nprim boolean fits may state =
     (grants-done boolean refl)))))
     (simp (append_assoc, append-nil))
 
-pub level-granted : (claims : Claims) (nprim : ℕ) (level : SensitivityRec) → SensitivityFits level → MayStand claims nprim level.name level.sens → level.isalias ≤ 1 → IsRisingFrom 0 level.categories → GrantsOf (sensitivity_at claims nprim) level (spell_sensitivity level)
+pub level-granted : (claims : Claims) (nprim : ℕ) (level : SensitivityRec) → SensitivityFits level → MayStand claims nprim level.name level.sens → level.isalias ≤ 1 → GrantsOf (bitmap_at None) level.categories (spell_bitmap level.categories) → GrantsOf (sensitivity_at claims nprim) level (spell_sensitivity level)
 unfolding sensitivity_at sens_at
 level-granted claims nprim level fits may isalias categories =
     grants-as
@@ -114,7 +147,7 @@ level-granted claims nprim level fits may isalias categories =
     (grants-then _ (grants-flag 12 2 level.isalias isalias)
     (grants-then _ (grants-name 12 3 claims level.name may.is_name may.name_is_new)
     (grants-then _ (grants-number_if (field 12 4) 4 level.sens _ fits.sens (rw (le-leb 1 level.sens may.least, le-leb level.sens nprim may.most) (new-primary (is_primary_flag level.isalias) (has_value claims level.sens) _ may.value_is_new)))
-    (grants-then _ (grants-set level.categories fits.categories categories)
+    (grants-then _ categories
     (grants-done level refl))))))
     (simp (append_assoc, append-nil))
 

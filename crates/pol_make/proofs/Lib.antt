@@ -2,6 +2,14 @@ pub mod Granted
 pub mod GrantedBitmaps
 pub mod GrantedTables
 pub mod SetBits
+pub mod ListFacts
+pub mod RuleNumbers
+pub mod GrantedRules
+pub mod Lengths
+pub mod GrantedSets
 pub mod RangeLists
 pub mod NumberedNames
 pub mod GrantedSymbols
+pub mod FreshRuns
+pub mod GrantedTypes
+pub mod GrantedFew

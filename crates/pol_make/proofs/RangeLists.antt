@@ -1,6 +1,6 @@
 -- Numbers one after the other, and lists that are made of them.
-use Rattle.std.proofs.Common.{◌≡◌, ℕ, zero, suc, ◌+◌, ◌<◌, ◌≤◌, List, [], ◌∷◌, ◌++◌, map, refl, ap, sym, ◌∙◌, append_assoc, add-one, add-zero, arith}
-use Rattle.std.specs.List.{AllByRecursion, range_with_len, flat_map}
+use Rattle.std.proofs.Common.{◌≡◌, ℕ, zero, suc, ◌+◌, List, [], ◌∷◌, ◌++◌, map, refl, ap, sym, ◌∙◌, append_assoc, add-one, add-zero, arith}
+use Rattle.std.specs.List.{range_with_len, flat_map}
 use Rattle.std.proofs.lemmas.List.{flat_map_more}
 use Rattle.std.proofs.lemmas.List.FromFn.{map-range_with_len_more}
 use Rattle.pol_bitmap.proofs.BitLists.{RisesFrom}
@@ -8,10 +8,6 @@ use Rattle.pol_bitmap.proofs.BitLists.{RisesFrom}
 pub range-rises : (a n : ℕ) → RisesFrom a (range_with_len a n)
 range-rises a zero = tt
 range-rises a (suc n) = (omega arith, range-rises (a + 1) n)
-
-pub range-fits : (end a n : ℕ) → a + n ≤ end → AllByRecursion (λ b. b < end) (range_with_len a n)
-range-fits end a zero le = tt
-range-fits end a (suc n) le = (omega arith, range-fits end (a + 1) n (omega arith))
 
 -- ---- one more
 
