@@ -5,7 +5,6 @@ use Rattle.std.specs.List.{flat_map, AllByRecursion, range_with_len}
 use Rattle.std.proofs.lemmas.Bool.{and_parts, ltb-true, le-leb}
 use Rattle.std.proofs.lemmas.List.{append-nil}
 use Rattle.pol_cursor.specs.Outcome.{Reader, field}
-use Rattle.pol_bitmap.specs.declared.Node.{Node}
 use Rattle.pol_bitmap.specs.Bitmap.{bitmap_at, spell_bitmap, BitmapFits}
 use Rattle.pol_symtab.specs.declared.TableContext.{TableContext}
 use Rattle.pol_symtab.specs.Claims.{Claims}
@@ -25,7 +24,7 @@ use Rattle.pol_datums.specs.BooleanRecord.{boolean_at, spell_boolean, BooleanFit
 use Rattle.pol_datums.specs.SensitivityRecord.{sensitivity_at, spell_sensitivity, SensitivityFits}
 use Rattle.pol_datums.specs.Flags.{is_primary_flag}
 use Rattle.pol_make.specs.SetNodes.{set_of, first_bits}
-use Rattle.pol_make.specs.MadeSymbols.{permission, file_permissions, made_commons, made_roles, all_categories, made_booleans, made_levels}
+use Rattle.pol_make.specs.MadeSymbols.{file_permissions, made_commons, made_roles, made_booleans, made_levels}
 use Rattle.pol_make.proofs.Granted.{GrantsOf, EachUnder, grants-done, grants-then, grants-as, grants-number, grants-number_if, grants-list_of}
 use Rattle.pol_make.proofs.GrantedTables.{GrantsBare, grants-table}
 use Rattle.pol_make.proofs.GrantedSets.{AreBits, set-fits, set-granted}

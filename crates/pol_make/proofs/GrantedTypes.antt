@@ -1,14 +1,13 @@
 -- The types and the categories of a policy that is made are read.
-use Rattle.std.proofs.Common.{◌≡◌, ℕ, ◌+◌, ◌/◌, ◌^◌, ◌<◌, ◌≤◌, true, List, [], ◌∷◌, ◌++◌, length, refl, arith}
+use Rattle.std.proofs.Common.{◌≡◌, ℕ, ◌+◌, ◌^◌, ◌<◌, ◌≤◌, length, refl, arith}
 use Rattle.std.specs.Prelude.{map}
-use Rattle.std.specs.List.{range_with_len, AllByRecursion}
+use Rattle.std.specs.List.{range_with_len}
 use Rattle.std.proofs.lemmas.Bool.{ne_eqb}
 use Rattle.std.proofs.lemmas.List.{length-append, length-map}
 use Rattle.std.proofs.lemmas.List.FromFn.{length-range_with_len}
 use Rattle.pol_symtab.specs.declared.TableContext.{TableContext}
-use Rattle.pol_symtab.specs.Claims.{Claims}
 use Rattle.pol_symtab.specs.Freshness.{claims_after}
-use Rattle.pol_symtab.specs.SymbolTables.{BareTable, table_at, table_start, spell_table, TableFits}
+use Rattle.pol_symtab.specs.SymbolTables.{table_at, table_start, spell_table, TableFits}
 use Rattle.pol_datums.specs.declared.TypeRec.{TypeRec}
 use Rattle.pol_datums.specs.declared.CategoryRec.{CategoryRec}
 use Rattle.pol_datums.specs.TypeRecord.{type_at, spell_type, TypeFits, is_primary_type}

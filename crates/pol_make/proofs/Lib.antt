@@ -13,3 +13,5 @@ pub mod GrantedSymbols
 pub mod FreshRuns
 pub mod GrantedTypes
 pub mod GrantedFew
+pub mod GrantedClasses
+pub mod GrantedUsers
