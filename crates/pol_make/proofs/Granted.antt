@@ -187,13 +187,10 @@ grants-through {X} {Y} r plain view Q text same h = record {
 -- ---- the end
 
 -- no byte is left
-pub grants-end : (d : Field) → GrantsLast (end_at d) (λ ended. Unit {0}) []
+pub grants-end : {A : Type 0} {Q : A → Type 0} (d : Field) (x : A) → Q x → GrantsLast (end_at d >>= λ ended. done x) Q []
 unfolding end_at
-grants-end d = record {
+grants-end d x h = record {
   gives = λ before.
       let ended : ltb (length before) (length (before ++ [])) ≡ false = le-ltb _ _ (omega (arith, length-append before [])) in
-      rw ended (tt, omega arith);
+      rw ended (h, omega arith);
 }
-
-pub grants-last-done : {A : Type 0} {Q : A → Type 0} (x : A) → Q x → GrantsLast (done x) Q []
-grants-last-done x h = record { gives = λ before. (h, omega arith) }

@@ -15,3 +15,6 @@ pub mod GrantedTypes
 pub mod GrantedFew
 pub mod GrantedClasses
 pub mod GrantedUsers
+pub mod GrantedSids
+pub mod GrantedRows
+pub mod GrantedParts

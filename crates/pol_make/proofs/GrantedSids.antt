@@ -1,0 +1,63 @@
+-- The initial SID of a policy that is made is read, and so are its other tables, which are empty.
+use Rattle.std.proofs.Common.{◌≡◌, ℕ, ◌^◌, ◌<◌, List, [], ◌∷◌, refl, append_assoc, arith}
+use Rattle.std.proofs.lemmas.List.{append-nil}
+use Rattle.pol_cursor.specs.Outcome.{Reader, field}
+use Rattle.pol_cursor.specs.Parts.{spell_counted}
+use Rattle.pol_mls.specs.RangeRecord.{range_at, spell_range}
+use Rattle.pol_context.specs.declared.ContextRec.{ContextRec}
+use Rattle.pol_context.specs.ContextRecord.{context_at, spell_context}
+use Rattle.pol_context.specs.EntryLists.{table_at}
+use Rattle.pol_contexts.specs.declared.SidRec.{SidRec}
+use Rattle.pol_contexts.specs.SidRecord.{sid_at, spell_sid}
+use Rattle.pol_make.specs.MadeSymbols.{bare_range}
+use Rattle.pol_make.specs.MadeRules.{made_sids}
+use Rattle.pol_make.proofs.Granted.{GrantsOf, grants-done, grants-then, grants-as, grants-number, grants-number_if, grants-none}
+use Rattle.pol_make.proofs.GrantedTables.{GrantsValues, grants-entries, grants-no_entries}
+use Rattle.pol_make.proofs.GrantedFew.{nothing-granted}
+
+-- the range of one level without categories
+pub bare_range-granted : GrantsOf range_at bare_range (spell_range bare_range)
+unfolding range_at
+bare_range-granted =
+    grants-as
+    (grants-then _ (grants-number_if (field 15 1) 4 1 _ (omega arith) refl)
+    (grants-then _ (grants-number (field 15 2) 4 1 (omega arith))
+    (grants-then _ (grants-none _)
+    (grants-then _ nothing-granted
+    (grants-then _ (grants-none _)
+    (grants-done bare_range refl))))))
+    (simp (append_assoc, append-nil))
+
+context-granted : (user role type_value : ℕ) → user < 2 ^ 32 → role < 2 ^ 32 → type_value < 2 ^ 32 → let context : ContextRec = record { user = user; role = role; type_value = type_value; range = bare_range } in GrantsOf context_at context (spell_context context)
+unfolding context_at
+context-granted user role type_value user-fits role-fits type-fits =
+    grants-as
+    (grants-then _ (grants-number (field 24 1) 4 user user-fits)
+    (grants-then _ (grants-number (field 24 2) 4 role role-fits)
+    (grants-then _ (grants-number (field 24 3) 4 type_value type-fits)
+    (grants-then _ bare_range-granted
+    (grants-done (record { user = user; role = role; type_value = type_value; range = bare_range }) refl)))))
+    (simp (append_assoc, append-nil))
+
+-- its only one
+abbrev pub kernel_sid : SidRec
+kernel_sid = record { sid = 1; context = record { user = 1; role = 2; type_value = 1; range = bare_range } }
+
+sid-granted : (entry : SidRec) → entry ≡ kernel_sid → GrantsOf sid_at entry (spell_sid entry)
+unfolding sid_at
+sid-granted entry is =
+    rw is
+    (grants-as
+    (grants-then _ (grants-number (field 25 2) 4 1 (omega arith))
+    (grants-then _ (context-granted 1 2 1 (omega arith) (omega arith) (omega arith))
+    (grants-done kernel_sid refl)))
+    (simp (append_assoc, append-nil)))
+
+pub sids-granted : GrantsValues (table_at 25 sid_at) made_sids (spell_counted spell_sid made_sids)
+unfolding table_at made_sids
+sids-granted = grants-entries (field 25 1) sid_at spell_sid (λ entry. entry ≡ kernel_sid) sid-granted (kernel_sid ∷ []) (omega arith) (refl, tt)
+
+-- an empty table
+pub grants-empty : {A : Type 0} (row : ℕ) (entry_at : Reader A) (spell : A → List ℕ) → GrantsValues (table_at row entry_at) [] (spell_counted spell [])
+unfolding table_at
+grants-empty row entry_at spell = grants-no_entries (field row 1) entry_at spell
