@@ -18,3 +18,5 @@ pub mod GrantedUsers
 pub mod GrantedSids
 pub mod GrantedRows
 pub mod GrantedParts
+pub mod NamedValues
+pub mod MadeReferences
