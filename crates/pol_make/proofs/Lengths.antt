@@ -1,5 +1,5 @@
 -- How many bytes a spelling takes at most: those of its parts.
-use Rattle.std.proofs.Common.{ℕ, ◌+◌, ◌*◌, ◌≤◌, List, [], ◌++◌, length, arith}
+use Rattle.std.proofs.Common.{◌≡◌, ℕ, ◌+◌, ◌*◌, ◌≤◌, List, [], ◌++◌, length, arith}
 use Rattle.std.specs.List.{flat_map, AllByRecursion}
 use Rattle.std.proofs.lemmas.List.{length-append}
 use Rattle.pol_cursor.specs.Parts.{spell_counted}
@@ -13,6 +13,10 @@ pub record TakesMost (most : ℕ) (text : List ℕ) : Type 0 where
 
 pub takes-nothing : TakesMost 0 []
 takes-nothing = record { few = omega arith }
+
+-- a text of that length
+pub takes-text : (k : ℕ) (text : List ℕ) → length text ≡ k → TakesMost k text
+takes-text k text e = record { few = omega (arith, e) }
 
 pub takes-number : (w n : ℕ) → TakesMost w (bytes_of w n)
 takes-number w n = record { few = omega (arith, length-bytes_of w n) }

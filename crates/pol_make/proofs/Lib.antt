@@ -20,3 +20,5 @@ pub mod GrantedRows
 pub mod GrantedParts
 pub mod NamedValues
 pub mod MadeReferences
+pub mod MadeShape
+pub mod MadeLength
