@@ -22,3 +22,4 @@ pub mod NamedValues
 pub mod MadeReferences
 pub mod MadeShape
 pub mod MadeLength
+pub mod GrantedSymbolTables
