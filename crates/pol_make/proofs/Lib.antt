@@ -23,3 +23,5 @@ pub mod MadeReferences
 pub mod MadeShape
 pub mod MadeLength
 pub mod GrantedSymbolTables
+pub mod FittingPolicy
+pub mod SoundPolicy
