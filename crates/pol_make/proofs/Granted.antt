@@ -77,14 +77,6 @@ grants-as {A} {r} {Q} h e = subst (λ (u : List ℕ). Grants r Q u) e h
 pub grants-last-as : {A : Type 0} {r : Reader A} {Q : A → Type 0} {s t : List ℕ} → GrantsLast r Q s → s ≡ t → GrantsLast r Q t
 grants-last-as {A} {r} {Q} h e = subst (λ (u : List ℕ). GrantsLast r Q u) e h
 
-given-so : {A : Type 0} (Q R : A → Type 0) (n : ℕ) (o : Outcome A) → ((x : A) → Q x → R x) → IsGiven Q n o → IsGiven R n o
-given-so Q R n (Got x next) so h = (so x h.0, h.1)
-given-so Q R n (Bad f) so h = absurd h
-
--- a weaker fact
-pub grants-so : {A : Type 0} {r : Reader A} {Q R : A → Type 0} {text : List ℕ} → Grants r Q text → ((x : A) → Q x → R x) → Grants r R text
-grants-so {A} {r} {Q} {R} {text} h so = record { gives = λ before after. given-so Q R (length before + length text) (r (before ++ (text ++ after)) (length before)) so (h.gives before after) }
-
 -- ---- conditions
 
 given-judged : {A : Type 0} (d : Field) (test : A → Option Cause) (Q : A → Type 0) (place n : ℕ) (o : Outcome A) → ((x : A) → Q x → test x ≡ None) → IsGiven Q n o → IsGiven Q n (and_then o (λ x next. judged (test x) d x place next))

@@ -4,15 +4,16 @@ use Rattle.std.specs.List.{flat_map, AllByRecursion}
 use Rattle.std.proofs.lemmas.List.{append-nil}
 use Rattle.std.proofs.lemmas.Bool.{le-leb}
 use Rattle.pol_cursor.specs.declared.Field.{Field}
-use Rattle.pol_cursor.specs.Outcome.{Outcome, Reader, Got, Bad, and_then, field}
+use Rattle.pol_cursor.specs.Outcome.{Reader, field}
 use Rattle.pol_cursor.specs.Parts.{number, list_of, records_at, counted, spell_counted}
-use Rattle.pol_cursor.specs.References.{Placed, placed, values_of, without_places}
+use Rattle.pol_cursor.specs.References.{Placed, placed, values_of}
 use Rattle.pol_cursor.specs.Contexts.{records_after}
 use Rattle.pol_cursor.specs.Spelling.{bytes_of}
 use Rattle.pol_cursor.proofs.Lists.{records_unplaced}
 use Rattle.pol_cursor.proofs.ContextLists.{records_after_unplaced}
 use Rattle.pol_symtab.specs.SymbolTables.{Table, BareTable, bare, nprim_test, table_head_at, table_at, bare_table_at, spell_table}
 use Rattle.pol_symtab.proofs.TableLaws.{table_unplaced}
+use Rattle.pol_laws.proofs.SpelledLists.{counted_unplaced}
 use Rattle.pol_make.proofs.Granted.{Grants, GrantsOf, EachUnder, grants-done, grants-then, grants-as, grants-number, grants-number_if, grants-list_of, grants-records, grants-counted, grants-through}
 
 -- the values that are read, without their places, are these
@@ -33,17 +34,12 @@ grants-rows record_at after spell may each xs context h =
     (λ bytes place. records_after_unplaced record_at after (length xs) context bytes place)
     (grants-list_of (λ left context. record_at context) after spell may each xs context h)
 
-counted-unplaced : {A : Type 0} (bytes : List ℕ) (placed_at : ℕ → Reader (List (Placed A))) (plain_at : ℕ → Reader (List A)) → ((n next : ℕ) → without_places (placed_at n bytes next) ≡ plain_at n bytes next)
-    → (o : Outcome ℕ) → without_places (and_then o (λ n next. placed_at n bytes next)) ≡ and_then o (λ n next. plain_at n bytes next)
-counted-unplaced bytes placed_at plain_at each (Got n next) = each n next
-counted-unplaced bytes placed_at plain_at each (Bad f) = refl
-
 -- records that are read alone, behind their count
 pub grants-entries : {A : Type 0} (d : Field) (record_at : Reader A) (spell : A → List ℕ) (may : A → Type 0) → ((x : A) → may x → GrantsOf record_at x (spell x)) → (xs : List A) → length xs < 2 ^ 32 → AllByRecursion may xs
     → GrantsValues (counted d (records_at (placed record_at))) xs (spell_counted spell xs)
 grants-entries d record_at spell may each xs few all =
     grants-through (counted d (records_at (placed record_at))) (counted d (records_at record_at)) (λ records. values_of records) (λ ys. ys ≡ xs) (spell_counted spell xs)
-    (λ bytes place. counted-unplaced bytes (records_at (placed record_at)) (records_at record_at) (λ n next. records_unplaced record_at n bytes next) (number d 4 bytes place))
+    (λ bytes place. counted_unplaced bytes (records_at (placed record_at)) (records_at record_at) (λ n next. records_unplaced record_at n bytes next) (number d 4 bytes place))
     (grants-counted d (records_at record_at) spell xs few (grants-records record_at spell may each xs all))
 
 -- no record
