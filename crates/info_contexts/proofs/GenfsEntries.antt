@@ -26,16 +26,16 @@ asked_more name systems i system e =
 -- All paths of a file system have its name, so they are asked for together.
 all_kept : (asks : List ℕ → Bool) (fstype : List ℕ) (paths : List GenfsPathRec) → asks fstype ≡ true
     → filter (λ (entry : Entry). asks entry.fstype) (map (λ path. record { fstype = fstype; path = path }) paths) ≡ map (λ path. record { fstype = fstype; path = path }) paths
-all_kept asks fstype [] yes = refl
-all_kept asks fstype (path ∷ paths) yes = rw (yes, all_kept asks fstype paths yes) refl
+all_kept asks fstype [] e = refl
+all_kept asks fstype (path ∷ paths) e = rw (e, all_kept asks fstype paths e) refl
 
 none_kept : (asks : List ℕ → Bool) (fstype : List ℕ) (paths : List GenfsPathRec) → asks fstype ≡ false
     → filter (λ (entry : Entry). asks entry.fstype) (map (λ path. record { fstype = fstype; path = path }) paths) ≡ []
-none_kept asks fstype [] no = refl
-none_kept asks fstype (path ∷ paths) no = rw (no, none_kept asks fstype paths no) refl
+none_kept asks fstype [] e = refl
+none_kept asks fstype (path ∷ paths) e = rw (e, none_kept asks fstype paths e) refl
 
 pub all_asked : (name : Option (List ℕ)) (system : GenfsRec) → is_asked name system.fstype ≡ true → of_name (λ entry. entry.fstype) name (entries_of system) ≡ entries_of system
-all_asked name system yes = all_kept (is_asked name) system.fstype system.paths yes
+all_asked name system e = all_kept (is_asked name) system.fstype system.paths e
 
 pub none_asked : (name : Option (List ℕ)) (system : GenfsRec) → is_asked name system.fstype ≡ false → of_name (λ entry. entry.fstype) name (entries_of system) ≡ []
-none_asked name system no = none_kept (is_asked name) system.fstype system.paths no
+none_asked name system e = none_kept (is_asked name) system.fstype system.paths e

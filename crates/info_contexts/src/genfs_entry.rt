@@ -70,7 +70,6 @@ pub fn genfs_entries<'a>(
 }
 
 // Appends the paths of a file system, if it is asked for.
-#[tactic(auto, using(crate::proofs::GenfsEntries::all_asked, crate::proofs::GenfsEntries::none_asked))]
 fn push_asked<'a>(
     entries: &mut Vec<GenfsEntry<'a>>,
     system: &GenfsView<'a>,
