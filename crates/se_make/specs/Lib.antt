@@ -1,2 +1,0 @@
-pub mod Singles
-pub mod MakeAnswer
