@@ -1,3 +1,4 @@
+pub mod Lines
 pub mod Turns
 pub mod Answered
 pub mod Settled

@@ -1,4 +1,5 @@
 pub mod Reading
+pub mod Listing
 pub mod InfoAnswer
 pub mod Answer
 pub mod Answers

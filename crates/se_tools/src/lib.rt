@@ -4,6 +4,7 @@
 
 mod answer;
 mod info;
+mod listing;
 mod reading;
 mod unknown;
 
