@@ -5,6 +5,5 @@ pub mod SearchRequest
 pub mod WalkWords
 pub mod DomRequest
 pub mod FlowRequest
-pub mod MakeRequest
 pub mod Request
 pub mod ProcessWords
