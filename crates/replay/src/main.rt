@@ -1,8 +1,7 @@
-//! Runs the cases of tables through the tools, over files and sinks in memory, and says which of them differ. Each policy of a case is
-//! also written back from its tree, and has to be itself.
+//! Runs the cases of tables through the tools, over files and sinks in memory, and says which of them differ.
 //!
-//! The words of the command line name the tables; those behind `--policies` name policies, which are cases too: they are written back.
-//! Each case that differs is printed, with what differs in it, and at last the number of those that do.
+//! The words of the command line name the tables. Each case that differs is printed, with what differs in it, and at last
+//! the number of those that do.
 #![tactic(auto)]
 
 mod answer;
@@ -11,7 +10,6 @@ mod cause;
 mod edit;
 mod failing;
 mod play;
-mod rewrite;
 mod sweep;
 mod table;
 mod text;
@@ -64,22 +62,7 @@ fn lines_of(rt: &(impl Files + AllocGlobal), case: &Case) -> Result<Vec<String>>
         policy: policy.as_deref(),
         map: map.as_deref(),
     };
-    let mut lines = sweep::case_differences(rt.alloc(), case, contents)?;
-    if let Some(line) = rewrite_line(rt, contents.policy)? {
-        lines.push(line)?;
-    }
-    Ok(lines)
-}
-
-// What differs where the policy of a case is written back.
-fn rewrite_line(rt: &impl AllocGlobal, policy: Option<&[u8]>) -> Result<Option<String>> {
-    let Some(bytes) = policy else {
-        return Ok(None);
-    };
-    match rewrite::rewrite_difference(rt.alloc(), bytes)? {
-        Some(difference) => Ok(Some(String::from_str(rt.alloc(), difference)?)),
-        None => Ok(None),
-    }
+    Ok(sweep::case_differences(rt.alloc(), case, contents)?)
 }
 
 // Runs a case, prints what differs, and answers whether anything does.
@@ -102,30 +85,13 @@ fn replay(rt: &(impl Files + Print + AllocGlobal), table: &str, counts: Counts) 
     Ok(counts)
 }
 
-// Writes a policy back, prints what differs, and answers whether anything does.
-fn rewrite_differs(rt: &(impl Files + Print + AllocGlobal), name: &str) -> Result<bool> {
-    let bytes = fs::read(rt, name).context(format_args!("reading {name}"))?;
-    let difference = rewrite::rewrite_difference(rt.alloc(), bytes.as_slice())?;
-    if let Some(difference) = difference {
-        println!(rt; "{name}: {difference}")?;
-    }
-    Ok(difference.is_some())
-}
-
 fn main(rt: HostRuntime) -> Result<()> {
     let mut counts = Counts {
         cases: 0,
         differing: 0,
     };
-    let mut are_policies = false;
-    for word in env::args(&rt)?.skip(1) {
-        if word.as_str() == "--policies" {
-            are_policies = true;
-        } else if are_policies {
-            counts = counts.and(rewrite_differs(&rt, word.as_str())?);
-        } else {
-            counts = replay(&rt, word.as_str(), counts)?;
-        }
+    for table in env::args(&rt)?.skip(1) {
+        counts = replay(&rt, table.as_str(), counts)?;
     }
     println!(rt; "{} of {} cases differ", counts.differing, counts.cases)?;
     Ok(())
