@@ -16,4 +16,5 @@ pub use given::{first_positional, given_number, given_value, is_given, last_valu
 pub use groups::{Group, Named};
 pub use misfits::first_misfit;
 pub use rows::{OptionRow, Takes, ValueKind, naming, switch, valued};
+pub use values::number_within;
 pub use words::{Word, Words};

@@ -5,7 +5,7 @@ ghost use Rattle.std.specs.List.{list_all};
 ghost use Rattle.std.specs.Str.Parse.{digits_value};
 ghost use Rattle.se_options.specs.Values.{is_comma_list, is_number, number_within};
 
-// The number that the text is, if it has 1 to 18 decimal digits and is one from the least to the most.
+/// The number that the text is, if it has 1 to 18 decimal digits and is one from the least to the most.
 #[tactic(auto, unfolding(crate::specs::Values::number_within))]
 pub fn number_within(least: u64, most: u64, text: &str) -> Option<u64>
     ensures number { result ≡ number_within least most text.now }

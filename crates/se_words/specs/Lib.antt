@@ -5,5 +5,6 @@ pub mod SearchRequest
 pub mod WalkWords
 pub mod DomRequest
 pub mod FlowRequest
+pub mod MakeRequest
 pub mod Request
 pub mod ProcessWords

@@ -1,5 +1,5 @@
 -- What the words of a command line ask for.
-use Rattle.std.specs.Prelude.{ℕ, List, [], ◌∷◌, codes, length, Option, Result, Ok, Err, if◌then◌else◌}
+use Rattle.std.specs.Prelude.{ℕ, List, [], ◌∷◌, codes, length, Option, Some, None, Result, Ok, Err, if◌then◌else◌}
 use Rattle.se_options.specs.Word.{is_word}
 use Rattle.se_options.specs.Options.{Named}
 use Rattle.se_words.specs.Asked.{Says, asked_by}
@@ -7,23 +7,26 @@ use Rattle.se_words.specs.InfoRequest.{InfoAsks, info_options, info_in, info_vie
 use Rattle.se_words.specs.SearchRequest.{SearchAsks, search_options, search_in, search_view}
 use Rattle.se_words.specs.DomRequest.{DomAsks, dom_options, dom_in, dom_view}
 use Rattle.se_words.specs.FlowRequest.{FlowAsks, flow_options, flow_in, flow_view}
+use Rattle.se_words.specs.MakeRequest.{MakeAsks, make_asked, make_view}
 use Rattle.se_words.specs.declared.request.Request.{Request}
-use Rattle.se_words.specs.declared.request.Request.TheVariants.{Info as InfoCode, Search as SearchCode, Dom as DomCode, Flow as FlowCode}
+use Rattle.se_words.specs.declared.request.Request.TheVariants.{Info as InfoCode, Search as SearchCode, Dom as DomCode, Flow as FlowCode, Make as MakeCode}
 use Rattle.se_words.specs.declared.words_error.WordsError.{WordsError}
 
--- what is asked, and of which tool: seinfo, sesearch, sedta or seinfoflow
+-- what is asked, and of which tool: seinfo, sesearch, sedta, seinfoflow or make
 pub data Asks : Type 0 where
   Info : InfoAsks → Asks
   Search : SearchAsks → Asks
   Dom : DomAsks → Asks
   Flow : FlowAsks → Asks
+  Make : MakeAsks → Asks
 
--- the name of the policy that is asked about
-abbrev pub policy_of : Asks → Named
-policy_of (Info asks) = asks.policy
-policy_of (Search asks) = asks.policy
-policy_of (Dom asks) = asks.policy
-policy_of (Flow asks) = asks.policy
+-- the name of the policy that is asked about, but of make, which is asked about none
+abbrev pub policy_of : Asks → Option Named
+policy_of (Info asks) = Some asks.policy
+policy_of (Search asks) = Some asks.policy
+policy_of (Dom asks) = Some asks.policy
+policy_of (Flow asks) = Some asks.policy
+policy_of (Make asks) = None
 
 -- what is asked of one of them
 abbrev pub of_tool : {A : Type 0} → (A → Asks) → Result A ℕ → Result Asks ℕ
@@ -31,7 +34,8 @@ of_tool tool (Ok asks) = Ok (tool asks)
 of_tool tool (Err n) = Err n
 
 -- What the words ask, or the number of the first that does not fit. The first word is the tool's name. The policy of seinfo and of
--- sesearch is their one positional word; those of sedta and seinfoflow, of which any number may come, are excluded types.
+-- sesearch is their one positional word; those of sedta and seinfoflow, of which any number may come, are excluded types. That
+-- of make is the number of types.
 abbrev pub request_of : List (Option (List ℕ)) → Result Asks ℕ
 request_of [] = Err 1
 request_of (tool ∷ words) =
@@ -39,7 +43,8 @@ request_of (tool ∷ words) =
     else (if is_word (codes "sesearch") tool then of_tool (λ asks. Search asks) (asked_by search_options 1 search_in words)
     else (if is_word (codes "sedta") tool then of_tool (λ asks. Dom asks) (asked_by dom_options (length words) dom_in words)
     else (if is_word (codes "seinfoflow") tool then of_tool (λ asks. Flow asks) (asked_by flow_options (length words) flow_in words)
-    else Err 1)))
+    else (if is_word (codes "make") tool then of_tool (λ asks. Make asks) (make_asked words)
+    else Err 1))))
 
 -- what a request of the code says
 abbrev pub request_view : Request → Asks
@@ -47,6 +52,7 @@ request_view (InfoCode asks) = Info (info_view asks)
 request_view (SearchCode asks) = Search (search_view asks)
 request_view (DomCode asks) = Dom (dom_view asks)
 request_view (FlowCode asks) = Flow (flow_view asks)
+request_view (MakeCode asks) = Make (make_view asks)
 
 -- A result of the code says what the words ask, unless it is out of memory.
 abbrev pub Understands : Result Request WordsError → Result Asks ℕ → Type 0

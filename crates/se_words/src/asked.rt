@@ -1,6 +1,6 @@
 // What all tools do with the words after their names.
 ghost use Rattle.std.specs.Prelude.{◌≡◌, ◌+◌, length, map};
-ghost use Rattle.se_options.specs.Options.{groups_of, row_view};
+ghost use Rattle.se_options.specs.Options.{group_view, groups_of, row_view};
 ghost use Rattle.se_options.specs.Word.{text_of};
 ghost use Rattle.se_words.specs.Asked.{Fitting};
 
@@ -17,7 +17,13 @@ pub fn fitting_groups<'w>(
 ) -> Result<Vec<Group<'w>>, WordsError>
     ensures { Fitting result (groups_of (map row_view rows.now) free (map text_of words.now)) }
 {
-    let groups = groups_of(alloc, rows, free, words)?;
+    fitting(groups_of(alloc, rows, free, words)?)
+}
+
+// The groups, if all words fit.
+pub fn fitting<'w>(groups: Vec<Group<'w>>) -> Result<Vec<Group<'w>>, WordsError>
+    ensures { Fitting result (map group_view groups.entry.items) }
+{
     match first_misfit(&groups) {
         Some(number) => Err(WordsError::Usage(number)),
         None => Ok(groups),

@@ -4,8 +4,9 @@ ghost use Rattle.se_words.specs.Request.{Understands, request_of};
 use crate::dom_words::dom_request;
 use crate::flow_words::flow_request;
 use crate::info_words::info_request;
+use crate::make_words::make_request;
 use crate::search_words::search_request;
-use crate::{DomRequest, FlowRequest, InfoRequest, SearchRequest, WordsError};
+use crate::{DomRequest, FlowRequest, InfoRequest, MakeRequest, SearchRequest, WordsError};
 use se_options::Words;
 use std::alloc::Global;
 
@@ -20,21 +21,24 @@ pub enum Request<'w> {
     Dom(DomRequest<'w>),
     /// `seinfoflow`
     Flow(FlowRequest<'w>),
+    /// `make`
+    Make(MakeRequest),
 }
 
 impl<'w> Request<'w> {
-    ghost use Rattle.std.specs.Prelude.{◌≡◌};
+    ghost use Rattle.std.specs.Prelude.{◌≡◌, option_map};
     ghost use Rattle.se_words.specs.Request.{policy_of, request_view};
 
-    /// The policy's name.
-    pub fn policy(&self) -> &'w str
-        ensures { result.now ≡ (policy_of (request_view self.now)).text }
+    /// The name of the policy that is asked about. `make` is asked about none.
+    pub fn policy(&self) -> Option<&'w str>
+        ensures { option_map (λ name. name.now) result ≡ option_map (λ name. name.text) (policy_of (request_view self.now)) }
     {
         match self {
-            Request::Info(asks) => asks.policy.text,
-            Request::Search(asks) => asks.policy.text,
-            Request::Dom(asks) => asks.policy.text,
-            Request::Flow(asks) => asks.policy.text,
+            Request::Info(asks) => Some(asks.policy.text),
+            Request::Search(asks) => Some(asks.policy.text),
+            Request::Dom(asks) => Some(asks.policy.text),
+            Request::Flow(asks) => Some(asks.policy.text),
+            Request::Make(_) => None,
         }
     }
 }
@@ -50,6 +54,7 @@ pub fn request_of(alloc: Global, words: &Words) -> Result<Request<'_>, WordsErro
         }
         [tool, rest @ ..] if tool.is("sedta") => Ok(Request::Dom(dom_request(alloc, rest)?)),
         [tool, rest @ ..] if tool.is("seinfoflow") => Ok(Request::Flow(flow_request(alloc, rest)?)),
+        [tool, rest @ ..] if tool.is("make") => Ok(Request::Make(make_request(alloc, rest)?)),
         _ => Err(WordsError::Usage(1)),
     }
 }
