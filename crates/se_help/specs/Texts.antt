@@ -2,7 +2,7 @@
 use Rattle.std.specs.Prelude.{ℕ, List, [], ◌∷◌, ◌++◌, codes, flat_map}
 use Prim.Native.String.{String}
 use Rattle.se_help.specs.declared.topic.Topic.{Topic}
-use Rattle.se_help.specs.declared.topic.Topic.TheVariants.{All, Info, Search, Dom, Flow, Version}
+use Rattle.se_help.specs.declared.topic.Topic.TheVariants.{All, Info, Search, Dom, Flow, Make, Version}
 
 -- lines as they are written, each with a line feed
 abbrev pub lines_text : List String → List ℕ
@@ -22,6 +22,7 @@ general_usage = lines_text
     ∷ "  sesearch       searches the rules of a policy"
     ∷ "  sedta          finds domain transitions"
     ∷ "  seinfoflow     finds information flows, by a permission map"
+    ∷ "  make           makes a policy of so many types, for tests"
     ∷ ""
     ∷ "Options, each of them alone or behind a tool:"
     ∷ "  -h, --help     how the program or the tool is used"
@@ -251,6 +252,30 @@ flow_usage = lines_text
     ∷ "  setools seinfoflow -p policy.33 -m perm_map -s httpd_t -t shadow_t -S"
     ∷ [])
 
+-- the usage of make
+unfoldable pub make_usage : List ℕ
+make_usage = lines_text
+    ("Usage: setools make N [--bytes]"
+    ∷ ""
+    ∷ "Makes a policy for measurements and tests, with N types in a ring, each with a"
+    ∷ "domain transition to the next, and counts what it declares."
+    ∷ ""
+    ∷ "  N                      how many types: a multiple of 20 from 200 to 5000"
+    ∷ ""
+    ∷ "Output:"
+    ∷ "      --bytes            the policy itself, in place of the counts"
+    ∷ ""
+    ∷ "Exit codes:"
+    ∷ "  0  the counts, or the policy, were written"
+    ∷ "  2  the words do not fit"
+    ∷ "  3  the output could not be written"
+    ∷ "  5  out of memory"
+    ∷ ""
+    ∷ "Examples:"
+    ∷ "  setools make 200"
+    ∷ "  setools make 5000 --bytes >made.policy"
+    ∷ [])
+
 -- the versions of the program and of the policies that it reads
 unfoldable pub versions : List ℕ
 versions = lines_text
@@ -265,4 +290,5 @@ topic_text Info = info_usage
 topic_text Search = search_usage
 topic_text Dom = dom_usage
 topic_text Flow = flow_usage
+topic_text Make = make_usage
 topic_text Version = versions

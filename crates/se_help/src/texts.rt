@@ -1,6 +1,6 @@
 // The texts of the topics, as they are written.
 ghost use Rattle.std.specs.Prelude.{◌≡◌};
-ghost use Rattle.se_help.specs.Texts.{dom_usage, flow_usage, general_usage, info_usage, search_usage, topic_text, versions};
+ghost use Rattle.se_help.specs.Texts.{dom_usage, flow_usage, general_usage, info_usage, make_usage, search_usage, topic_text, versions};
 
 use crate::Topic;
 
@@ -14,6 +14,7 @@ pub fn text_of(topic: Topic) -> &'static [u8]
         Topic::Search => search_usage(),
         Topic::Dom => dom_usage(),
         Topic::Flow => flow_usage(),
+        Topic::Make => make_usage(),
         Topic::Version => versions(),
     }
 }
@@ -35,6 +36,7 @@ Tools:
   sesearch       searches the rules of a policy
   sedta          finds domain transitions
   seinfoflow     finds information flows, by a permission map
+  make           makes a policy of so many types, for tests
 
 Options, each of them alone or behind a tool:
   -h, --help     how the program or the tool is used
@@ -278,6 +280,34 @@ Exit codes:
 Examples:
   setools seinfoflow -p policy.33 -m perm_map -s shadow_t -w 10
   setools seinfoflow -p policy.33 -m perm_map -s httpd_t -t shadow_t -S
+"
+}
+
+// How make is used.
+#[tactic(auto, unfolding(crate::specs::Texts::make_usage))]
+fn make_usage() -> &'static [u8]
+    ensures { result.now ≡ make_usage }
+{
+    b"\
+Usage: setools make N [--bytes]
+
+Makes a policy for measurements and tests, with N types in a ring, each with a
+domain transition to the next, and counts what it declares.
+
+  N                      how many types: a multiple of 20 from 200 to 5000
+
+Output:
+      --bytes            the policy itself, in place of the counts
+
+Exit codes:
+  0  the counts, or the policy, were written
+  2  the words do not fit
+  3  the output could not be written
+  5  out of memory
+
+Examples:
+  setools make 200
+  setools make 5000 --bytes >made.policy
 "
 }
 

@@ -13,6 +13,8 @@ pub enum Topic {
     Dom,
     /// How `seinfoflow` is used.
     Flow,
+    /// How `make` is used.
+    Make,
     /// The version of the program, and those of the policies that it reads.
     Version,
 }

@@ -16,6 +16,7 @@ pub fn topic_of(words: &Words) -> Option<Topic>
         [tool, word] if tool.is("sesearch") => asked_by(word, Topic::Search),
         [tool, word] if tool.is("sedta") => asked_by(word, Topic::Dom),
         [tool, word] if tool.is("seinfoflow") => asked_by(word, Topic::Flow),
+        [tool, word] if tool.is("make") => asked_by(word, Topic::Make),
         _ => None,
     }
 }
