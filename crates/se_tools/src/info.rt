@@ -3,16 +3,16 @@ ghost use Rattle.std.specs.Prelude.{◌≡◌, [], flat_map, map};
 ghost use Rattle.info_summary.specs.Summary.{summary_lines};
 ghost use Rattle.se_words.specs.InfoRequest.{info_view, wanted_view};
 ghost use Rattle.se_tools.specs.InfoAnswer.{info_answer, info_text, wanted_text};
-ghost use Rattle.se_tools.specs.Listing.{listing_text, line_text};
+ghost use Rattle.se_listing.specs.Listing.{listing_text, line_text};
 ghost use Rattle.se_status.specs.Meeting.{Concludes, IsPlain};
 ghost use Rattle.se_items.specs.Writing.{Sends};
 
-use crate::listing::write_listing;
 use crate::unknown::first_unknown;
 use info_query::lines_of;
 use info_summary::summary;
 use pol_read::Policy;
 use se_items::WriteEnd;
+use se_listing::write_listing;
 use se_outside::Sink;
 use se_status::{Status, status_written};
 use se_words::{InfoRequest, Wanted};

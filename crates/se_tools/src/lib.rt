@@ -4,7 +4,6 @@
 
 mod answer;
 mod info;
-mod listing;
 mod reading;
 mod unknown;
 

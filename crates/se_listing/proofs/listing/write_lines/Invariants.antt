@@ -1,5 +1,5 @@
-use Rattle.se_tools.proofs.Lines.{Lines}
-use Rattle.se_tools.proofs.listing.write_lines.Given as goal
+use Rattle.se_listing.proofs.Lines.{Lines}
+use Rattle.se_listing.proofs.listing.write_lines.Given as goal
 
 abbrev pub invariant-lines : goal.invariant-lines
 invariant-lines g l =

@@ -1,6 +1,6 @@
 use Rattle.std.proofs.lemmas.Result.{err_from_is_err_and}
-use Rattle.se_tools.proofs.Lines.{listing-is, listing-cut, listing-last-cut, listing-whole}
-use Rattle.se_tools.proofs.listing.write_listing.Goals as goal
+use Rattle.se_listing.proofs.Lines.{listing-is, listing-cut, listing-last-cut, listing-whole}
+use Rattle.se_listing.proofs.listing.write_listing.Goals as goal
 
 pub returns-in_err-write_lines : goal.returns-in_err-write_lines
 returns-in_err-write_lines g c =

@@ -1,6 +1,6 @@
 // Listings, which are written as they are made.
 ghost use Rattle.std.specs.Prelude.{◌≡◌, ◌<◌, ◌++◌, OnOk, flat_map, length};
-ghost use Rattle.se_tools.specs.Listing.{PushesNext, front_text, heading_text, indent_of, line_text, listing_text};
+ghost use Rattle.se_listing.specs.Listing.{PushesNext, front_text, heading_text, indent_of, line_text, listing_text};
 ghost use Rattle.se_items.specs.Writing.{Emits, Sends};
 
 use info_lines::Lines;

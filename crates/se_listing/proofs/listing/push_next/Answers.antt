@@ -1,5 +1,5 @@
-use Rattle.se_tools.proofs.Lines.{pushes-next}
-use Rattle.se_tools.proofs.listing.push_next.Goals as goal
+use Rattle.se_listing.proofs.Lines.{pushes-next}
+use Rattle.se_listing.proofs.listing.push_next.Goals as goal
 
 pub returns : goal.returns
 returns g c =

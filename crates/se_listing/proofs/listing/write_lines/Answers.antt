@@ -1,7 +1,7 @@
 use Rattle.std.proofs.Common.{arith}
 use Rattle.std.proofs.lemmas.Result.{err_from_is_err_and}
-use Rattle.se_tools.proofs.Lines.{lines-next, lines-stop, lines-cut}
-use Rattle.se_tools.proofs.listing.write_lines.Goals as goal
+use Rattle.se_listing.proofs.Lines.{lines-next, lines-stop, lines-cut}
+use Rattle.se_listing.proofs.listing.write_lines.Goals as goal
 
 pub returns-in_err-push_next : goal.returns-in_err-push_next
 returns-in_err-push_next g c =

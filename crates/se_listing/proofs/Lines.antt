@@ -3,7 +3,7 @@ use Rattle.std.proofs.Common.{◌≡◌, Bool, ◌≤◌, ◌<◌, ◌+◌, ◌+
 use Rattle.std.specs.List.{flat_map}
 use Rattle.std.proofs.lemmas.List.{take_more, take-append-drop}
 use Rattle.info_lines.specs.Lines.{PushesLine}
-use Rattle.se_tools.specs.Listing.{PushesNext, line_text, front_text, indent_of, listing_text}
+use Rattle.se_listing.specs.Listing.{PushesNext, line_text, front_text, indent_of, listing_text}
 use Rattle.se_items.specs.Writing.{Moves, Emits, Sends, Wrote}
 use Rattle.se_items.specs.declared.WriteEnd.{WriteEnd}
 use Rattle.se_items.specs.declared.WriteEnd.TheVariants.{Fault, Memory}
