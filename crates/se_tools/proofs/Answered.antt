@@ -9,15 +9,18 @@ use Rattle.rule_query.specs.Resolving.{AskedFor}
 use Rattle.se_outside.specs.Outside.{IsAsked, NoneAsked, Rose, SlotState, World, told}
 use Rattle.se_outside.specs.declared.Slot.{Slot}
 use Rattle.se_outside.specs.declared.Slot.TheVariants.{Policy, Map}
-use Rattle.se_words.specs.Request.{Asks, policy_of}
+use Rattle.se_words.specs.Request.{Asks, Info, Search, Dom, Flow, Make, request_view}
+use Rattle.se_words.specs.declared.MakeRequest.{MakeRequest}
+use Rattle.se_words.specs.declared.Request.{Request}
+use Rattle.se_words.specs.declared.Request.TheVariants as codes
 use Rattle.se_items.specs.Writing.{GainsPart}
 use Rattle.se_items.proofs.Gains.{gains-none}
 use Rattle.se_search.specs.SearchPatterns.{TriedUntil, TriesPatterns}
 use Rattle.se_status.specs.declared.Status.{Status}
 use Rattle.se_status.specs.declared.Status.TheVariants.{Done, Usage, ReadFault, TooLarge, BadPolicy, BadMap, UnknownName, BadNumber, BadPattern, WriteFault, Memory}
 use Rattle.se_status.specs.Meeting.{Answer, refusal}
-use Rattle.se_tools.specs.Answer.{asked_name, asked_patterns, by_file, file_limit, name_in, patterns_in, policy_answer}
-use Rattle.se_tools.specs.Answers.{Answers, AsksMap, AsksOnly, HoldsPolicy, IsAbout, IsAskedUnder, IsSettled, Settles}
+use Rattle.se_tools.specs.Answer.{Contents, answer_of, asked_name, asked_patterns, by_file, file_limit, name_in, patterns_in, policy_answer}
+use Rattle.se_tools.specs.Answers.{Answers, AsksMap, AsksOnly, HoldsPolicy, IsAbout, IsAskedUnder, IsSettled, Settles, Tells}
 use Rattle.se_tools.specs.Reading.{ReadsWhole}
 use Rattle.se_tools.specs.declared.reading.ReadEnd.{ReadEnd}
 use Rattle.se_tools.specs.declared.reading.ReadEnd.TheVariants as ends
@@ -114,23 +117,43 @@ not-policy asks (BadPattern word kind) h e = cc
 not-policy asks WriteFault h e = cc
 not-policy asks Memory h e = cc
 
--- The policy was read, and nothing else was asked for.
-Reads : Asks → World → (Slot → SlotState) → (Slot → SlotState) → Result (Vec ℕ Global) ReadEnd → Type 0
-Reads asks world old new result = ReadsWhole world old new Policy (policy_of asks).text (file_limit Policy) result
+-- The policy of a name was read, and nothing else was asked for.
+Reads : List ℕ → World → (Slot → SlotState) → (Slot → SlotState) → Result (Vec ℕ Global) ReadEnd → Type 0
+Reads name world old new result = ReadsWhole world old new Policy name (file_limit Policy) result
+
+-- the answer to a request about a policy of some name
+by_policy : (asks : Asks) (name : List ℕ) (contents : Contents) → name_in asks Policy ≡ Some name → answer_of (Ok asks) contents ≡ by_file Policy (contents Policy) (λ bytes. policy_answer asks (accept bytes) contents)
+by_policy (Info asks) name contents named = refl
+by_policy (Search asks) name contents named = refl
+by_policy (Dom asks) name contents named = refl
+by_policy (Flow asks) name contents named = refl
+by_policy (Make asks) name contents named = absurd (cc named)
+
+-- A request that is none for make names a policy.
+pub names-policy : (request : Request) → ((asks : MakeRequest) → request ≡ codes.Make asks → ⊥) → name_in (request_view request) Policy ≡ None → ⊥
+names-policy (codes.Info asks) other none = cc none
+names-policy (codes.Search asks) other none = cc none
+names-policy (codes.Dom asks) other none = cc none
+names-policy (codes.Flow asks) other none = cc none
+names-policy (codes.Make asks) other none = other asks refl
+
+-- what its file holds is told
+told-policy : (asks : Asks) (name : List ℕ) (world : World) (contents : Contents) → name_in asks Policy ≡ Some name → Tells world (Ok asks) contents → told world Policy name ≡ Some (contents Policy)
+told-policy asks name world contents named tells = let h = tells Policy in rw named at h
 
 -- ---- what a policy that was not read leaves
 
-asked-unread : (asks : Asks) (world : World) (status : Status) (old new : Slot → SlotState) (result : Result (Vec ℕ Global) ReadEnd) → Reads asks world old new result
+asked-unread : (asks : Asks) (name : List ℕ) (world : World) (status : Status) (old new : Slot → SlotState) (result : Result (Vec ℕ Global) ReadEnd) → name_in asks Policy ≡ Some name → Reads name world old new result
     → MatchOption (name_in asks Map) (new Map ≡ old Map) (λ name. IsAskedUnder world Map name status (old Map) (new Map)) → AsksOnly world (Ok asks) status old new
 unfolding Reads
-asked-unread asks world status old new result reads at Policy = asked-policy world (policy_of asks).text status (old Policy) (new Policy) reads.asked reads.named
-asked-unread asks world status old new result reads at Map = at
+asked-unread asks name world status old new result named reads at Policy = rw named (asked-policy world name status (old Policy) (new Policy) reads.asked reads.named)
+asked-unread asks name world status old new result named reads at Map = at
 
-turns-unread : (asks : Asks) (world : World) (old new : Slot → SlotState) (result : Result (Vec ℕ Global) ReadEnd) → Reads asks world old new result
+turns-unread : (name : List ℕ) (world : World) (old new : Slot → SlotState) (result : Result (Vec ℕ Global) ReadEnd) → Reads name world old new result
     → (slot : Slot) → (new slot).turns ≤ (old slot).turns + file_limit slot + 2
 unfolding Reads
-turns-unread asks world old new result reads Policy = reads.turns
-turns-unread asks world old new result reads Map = rw (reads.others Map other-map) (omega arith)
+turns-unread name world old new result reads Policy = reads.turns
+turns-unread name world old new result reads Map = rw (reads.others Map other-map) (omega arith)
 
 -- a slot that was not asked, when memory ran out
 pub unasked-memory : (world : World) (name : Option (List ℕ)) (slot : Slot) (state : SlotState) → state.asked ≡ false → MatchOption name (state ≡ state) (λ name. IsAskedUnder world slot name Memory state state)
@@ -185,16 +208,16 @@ answers-nothing request world files asked past sink faults unasked = record {
 -- ---- the policy was not read
 
 -- A read failed.
-pub answers-fault : (asks : Asks) (world : World) (files_old files_new : Slot → SlotState) (asked : Option (List (List ℕ))) (past : ℕ) (sink : Option (List ℕ)) (faults : ℕ) → (files_old Map).asked ≡ false
-    → ReadsWhole world files_old files_new Policy (policy_of asks).text (file_limit Policy) (Err ends.Fault)
+pub answers-fault : (asks : Asks) (name : List ℕ) (world : World) (files_old files_new : Slot → SlotState) (asked : Option (List (List ℕ))) (past : ℕ) (sink : Option (List ℕ)) (faults : ℕ) → name_in asks Policy ≡ Some name → (files_old Map).asked ≡ false
+    → ReadsWhole world files_old files_new Policy name (file_limit Policy) (Err ends.Fault)
     → Answers (Ok asks) world files_old files_new asked asked past past sink sink faults faults (ReadFault Policy)
 unfolding Reads
-answers-fault asks world files_old files_new asked past sink faults unasked reads = record {
+answers-fault asks name world files_old files_new asked past sink faults named unasked reads = record {
   meets = λ contents tells. gains-none sink;
-  about = refl;
+  about = rw named refl;
   silent = gains-none sink;
-  asked = asked-unread asks world (ReadFault Policy) files_old files_new _ reads (untouched-map (name_in asks Map) (files_new Map ≡ files_old Map) (reads.others Map other-map));
-  turns = turns-unread asks world files_old files_new _ reads;
+  asked = asked-unread asks name world (ReadFault Policy) files_old files_new _ named reads (untouched-map (name_in asks Map) (files_new Map ≡ files_old Map) (reads.others Map other-map));
+  turns = turns-unread name world files_old files_new _ reads;
   read = fault-at files_old files_new (reads.fault refl);
   mapped = λ e. absurd (not-asked (files_old Map) (files_new Map) unasked (reads.others Map other-map) e);
   patterns = untried (patterns_in asks) asked past (ReadFault Policy) refl;
@@ -203,17 +226,20 @@ answers-fault asks world files_old files_new asked past sink faults unasked read
 }
 
 -- More was read than the limit.
-pub answers-large : (asks : Asks) (world : World) (files_old files_new : Slot → SlotState) (asked : Option (List (List ℕ))) (past : ℕ) (sink : Option (List ℕ)) (faults : ℕ) → (files_old Map).asked ≡ false
-    → ReadsWhole world files_old files_new Policy (policy_of asks).text (file_limit Policy) (Err ends.TooLarge)
+pub answers-large : (asks : Asks) (name : List ℕ) (world : World) (files_old files_new : Slot → SlotState) (asked : Option (List (List ℕ))) (past : ℕ) (sink : Option (List ℕ)) (faults : ℕ) → name_in asks Policy ≡ Some name → (files_old Map).asked ≡ false
+    → ReadsWhole world files_old files_new Policy name (file_limit Policy) (Err ends.TooLarge)
     → Answers (Ok asks) world files_old files_new asked asked past past sink sink faults faults (TooLarge Policy)
 unfolding Reads
-answers-large asks world files_old files_new asked past sink faults unasked reads = record {
+answers-large asks name world files_old files_new asked past sink faults named unasked reads = record {
   meets = λ contents tells.
-      rw (by_file-large world files_old files_new Policy (policy_of asks).text (contents Policy) (λ bytes. policy_answer asks (accept bytes) contents) reads (tells Policy)) (refl, gains-none sink);
-  about = refl;
+      rw (
+        by_policy asks name contents named,
+        by_file-large world files_old files_new Policy name (contents Policy) (λ bytes. policy_answer asks (accept bytes) contents) reads (told-policy asks name world contents named tells),
+      ) (refl, gains-none sink);
+  about = rw named refl;
   silent = gains-none sink;
-  asked = asked-unread asks world (TooLarge Policy) files_old files_new _ reads (untouched-map (name_in asks Map) (files_new Map ≡ files_old Map) (reads.others Map other-map));
-  turns = turns-unread asks world files_old files_new _ reads;
+  asked = asked-unread asks name world (TooLarge Policy) files_old files_new _ named reads (untouched-map (name_in asks Map) (files_new Map ≡ files_old Map) (reads.others Map other-map));
+  turns = turns-unread name world files_old files_new _ reads;
   read = λ slot e. absurd (cc e);
   mapped = λ e. absurd (not-asked (files_old Map) (files_new Map) unasked (reads.others Map other-map) e);
   patterns = untried (patterns_in asks) asked past (TooLarge Policy) refl;
@@ -222,16 +248,16 @@ answers-large asks world files_old files_new asked past sink faults unasked read
 }
 
 -- Memory ran out.
-pub answers-memory : (asks : Asks) (world : World) (files_old files_new : Slot → SlotState) (asked : Option (List (List ℕ))) (past : ℕ) (sink : Option (List ℕ)) (faults : ℕ) → (files_old Map).asked ≡ false
-    → ReadsWhole world files_old files_new Policy (policy_of asks).text (file_limit Policy) (Err ends.Memory)
+pub answers-memory : (asks : Asks) (name : List ℕ) (world : World) (files_old files_new : Slot → SlotState) (asked : Option (List (List ℕ))) (past : ℕ) (sink : Option (List ℕ)) (faults : ℕ) → name_in asks Policy ≡ Some name → (files_old Map).asked ≡ false
+    → ReadsWhole world files_old files_new Policy name (file_limit Policy) (Err ends.Memory)
     → Answers (Ok asks) world files_old files_new asked asked past past sink sink faults faults Memory
 unfolding Reads
-answers-memory asks world files_old files_new asked past sink faults unasked reads = record {
+answers-memory asks name world files_old files_new asked past sink faults named unasked reads = record {
   meets = λ contents tells. part-none sink _;
   about = tt;
   silent = tt;
-  asked = asked-unread asks world Memory files_old files_new _ reads (rw (reads.others Map other-map) (unasked-memory world (name_in asks Map) Map (files_old Map) unasked));
-  turns = turns-unread asks world files_old files_new _ reads;
+  asked = asked-unread asks name world Memory files_old files_new _ named reads (rw (reads.others Map other-map) (unasked-memory world (name_in asks Map) Map (files_old Map) unasked));
+  turns = turns-unread name world files_old files_new _ reads;
   read = λ slot e. absurd (cc e);
   mapped = λ e. absurd (not-asked (files_old Map) (files_new Map) unasked (reads.others Map other-map) e);
   patterns = untried (patterns_in asks) asked past Memory tt;
@@ -241,24 +267,24 @@ answers-memory asks world files_old files_new asked past sink faults unasked rea
 
 -- ---- the policy was read
 
-within-asked : (asks : Asks) (world : World) (files_old mid new : Slot → SlotState) (v : Vec ℕ Global) (status : Status) → Reads asks world files_old mid (Ok v) → AsksMap world (name_in asks Map) status mid new
+within-asked : (asks : Asks) (name : List ℕ) (world : World) (files_old mid new : Slot → SlotState) (v : Vec ℕ Global) (status : Status) → name_in asks Policy ≡ Some name → Reads name world files_old mid (Ok v) → AsksMap world (name_in asks Map) status mid new
     → AsksOnly world (Ok asks) status files_old new
 unfolding Reads
-within-asked asks world files_old mid new v status reads files Policy =
-    rw files.policy (asked-policy world (policy_of asks).text status (files_old Policy) (mid Policy) reads.asked reads.named)
-within-asked asks world files_old mid new v status reads files Map = rw (reads.others Map other-map) at files.asked
+within-asked asks name world files_old mid new v status named reads files Policy =
+    rw (named, files.policy) (asked-policy world name status (files_old Policy) (mid Policy) reads.asked reads.named)
+within-asked asks name world files_old mid new v status named reads files Map = rw (reads.others Map other-map) at files.asked
 
-within-turns : (asks : Asks) (world : World) (files_old mid new : Slot → SlotState) (v : Vec ℕ Global) (status : Status) → Reads asks world files_old mid (Ok v) → AsksMap world (name_in asks Map) status mid new
+within-turns : (asks : Asks) (name : List ℕ) (world : World) (files_old mid new : Slot → SlotState) (v : Vec ℕ Global) (status : Status) → Reads name world files_old mid (Ok v) → AsksMap world (name_in asks Map) status mid new
     → (slot : Slot) → (new slot).turns ≤ (files_old slot).turns + file_limit slot + 2
 unfolding Reads
-within-turns asks world files_old mid new v status reads files Policy = rw files.policy reads.turns
-within-turns asks world files_old mid new v status reads files Map = rw (reads.others Map other-map) at files.turns
+within-turns asks name world files_old mid new v status reads files Policy = rw files.policy reads.turns
+within-turns asks name world files_old mid new v status reads files Map = rw (reads.others Map other-map) at files.turns
 
-within-read : (asks : Asks) (world : World) (files_old mid new : Slot → SlotState) (v : Vec ℕ Global) (status : Status) → Reads asks world files_old mid (Ok v) → AsksMap world (name_in asks Map) status mid new → IsSettled asks status
+within-read : (asks : Asks) (name : List ℕ) (world : World) (files_old mid new : Slot → SlotState) (v : Vec ℕ Global) (status : Status) → Reads name world files_old mid (Ok v) → AsksMap world (name_in asks Map) status mid new → IsSettled asks status
     → (slot : Slot) → status ≡ ReadFault slot → Rose (files_old slot).faults (new slot).faults
 unfolding Reads
-within-read asks world files_old mid new v status reads files about Policy e = absurd (not-policy asks status about e)
-within-read asks world files_old mid new v status reads files about Map e = let rose = files.read e in rw (reads.others Map other-map) at rose
+within-read asks name world files_old mid new v status reads files about Policy e = absurd (not-policy asks status about e)
+within-read asks name world files_old mid new v status reads files about Map e = let rose = files.read e in rw (reads.others Map other-map) at rose
 
 -- what is told of the bytes that were read, which are accepted
 holds-policy : (held : Option (Option (List ℕ))) (items : List ℕ) → (held ≡ Some None → ⊥) → ((bytes : List ℕ) → held ≡ Some (Some bytes) → items ≡ bytes) → length items ≤ file_limit Policy → IsOk (accept items)
@@ -268,20 +294,23 @@ holds-policy (Some None) items there same few ok = there refl
 holds-policy (Some (Some bytes)) items there same few ok = rw (← same bytes refl) (few, ok)
 
 -- The answer about what was read.
-pub answers-within : (asks : Asks) (world : World) (files_old mid files_new : Slot → SlotState) (asked_old asked_new : Option (List (List ℕ))) (past refusals : ℕ) (old new : Option (List ℕ)) (before now : ℕ) (v : Vec ℕ Global) (status : Status)
-    → ReadsWhole world files_old mid Policy (policy_of asks).text (file_limit Policy) (Ok v)
+pub answers-within : (asks : Asks) (name : List ℕ) (world : World) (files_old mid files_new : Slot → SlotState) (asked_old asked_new : Option (List (List ℕ))) (past refusals : ℕ) (old new : Option (List ℕ)) (before now : ℕ) (v : Vec ℕ Global) (status : Status)
+    → name_in asks Policy ≡ Some name → ReadsWhole world files_old mid Policy name (file_limit Policy) (Ok v)
     → Settles asks (accept v.items) world mid files_new asked_old asked_new past refusals old new before now status
     → Answers (Ok asks) world files_old files_new asked_old asked_new past refusals old new before now status
 unfolding Reads
-answers-within asks world files_old mid files_new asked_old asked_new past refusals old new before now v status reads settles = record {
+answers-within asks name world files_old mid files_new asked_old asked_new past refusals old new before now v status named reads settles = record {
   meets = λ contents tells.
-      rw (by_file-read world files_old mid Policy (policy_of asks).text v (contents Policy) (λ bytes. policy_answer asks (accept bytes) contents) reads (tells Policy)) (settles.meets contents tells);
+      rw (
+        by_policy asks name contents named,
+        by_file-read world files_old mid Policy name v (contents Policy) (λ bytes. policy_answer asks (accept bytes) contents) reads (told-policy asks name world contents named tells),
+      ) (settles.meets contents tells);
   about = settled-about asks status settles.about;
   silent = settles.silent;
-  asked = within-asked asks world files_old mid files_new v status reads settles.files;
-  turns = within-turns asks world files_old mid files_new v status reads settles.files;
-  read = within-read asks world files_old mid files_new v status reads settles.files settles.about;
-  mapped = λ e. holds-policy (told world Policy (policy_of asks).text) v.items (λ none. absurd (let e = reads.absent none in cc)) reads.content reads.within (settles.mapped e);
+  asked = within-asked asks name world files_old mid files_new v status named reads settles.files;
+  turns = within-turns asks name world files_old mid files_new v status reads settles.files;
+  read = within-read asks name world files_old mid files_new v status reads settles.files settles.about;
+  mapped = λ e. rw named (holds-policy (told world Policy name) v.items (λ none. absurd (let e = reads.absent none in cc)) reads.content reads.within (settles.mapped e));
   patterns = settles.patterns;
   wrote = settles.wrote;
   later = settles.later;

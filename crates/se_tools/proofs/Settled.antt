@@ -3,24 +3,26 @@ use Rattle.std.proofs.Common.{◌≡◌, ℕ, List, [], true, false, Option, Non
 use Rattle.std.specs.Global.{Global}
 use Rattle.pol_cursor.specs.declared.Fault.{Fault}
 use Rattle.pol_file.specs.declared.Parts.{Parts}
-use Rattle.se_outside.specs.Outside.{IsAsked, SlotState, World, told}
+use Rattle.se_outside.specs.Outside.{IsAsked, NoneAsked, SlotState, World, told}
 use Rattle.se_outside.specs.declared.Slot.{Slot}
 use Rattle.se_outside.specs.declared.Slot.TheVariants.{Policy, Map}
 use Rattle.se_words.specs.InfoRequest.{InfoAsks}
 use Rattle.se_words.specs.SearchRequest.{SearchAsks}
 use Rattle.se_words.specs.DomRequest.{DomAsks}
 use Rattle.se_words.specs.FlowRequest.{FlowAsks}
-use Rattle.se_words.specs.Request.{Asks, Info, Search, Dom, Flow}
+use Rattle.se_words.specs.MakeRequest.{MakeAsks}
+use Rattle.se_words.specs.Request.{Asks, Info, Search, Dom, Flow, Make}
 use Rattle.se_items.proofs.Gains.{gains-none}
 use Rattle.se_search.specs.SearchAnswer.{search_answer}
 use Rattle.se_search.specs.SearchPatterns.{IsOfSearch, TriedUntil, TriesPatterns, pattern_words}
 use Rattle.se_dom.specs.DomAnswer.{dom_answer}
 use Rattle.se_flow.specs.FlowAnswer.{IsOfMap, flow_answer}
+use Rattle.se_make.specs.MakeAnswer.{make_answer}
 use Rattle.se_status.specs.declared.Status.{Status}
 use Rattle.se_status.specs.declared.Status.TheVariants.{Done, Usage, ReadFault, TooLarge, BadPolicy, BadMap, UnknownName, BadNumber, BadPattern, WriteFault, Memory}
-use Rattle.se_status.specs.Meeting.{Concludes, IsPlain}
+use Rattle.se_status.specs.Meeting.{Concludes, IsPlain, IsWritten}
 use Rattle.se_tools.specs.Answer.{file_limit, name_in, patterns_in}
-use Rattle.se_tools.specs.Answers.{AsksMap, IsAskedUnder, IsMapped, IsSettled, MapSettles, Settles}
+use Rattle.se_tools.specs.Answers.{Answers, AsksMap, AsksOnly, IsAbout, IsAskedUnder, IsMapped, IsSettled, MapSettles, Settles}
 use Rattle.se_tools.specs.InfoAnswer.{info_answer}
 use Rattle.se_tools.specs.Reading.{ReadsWhole}
 use Rattle.se_tools.specs.declared.reading.ReadEnd.TheVariants as ends
@@ -86,6 +88,68 @@ dom-settles asks policy world files asked past old new before now status conclud
   wrote = concludes.wrote;
   later = concludes.later;
 }
+
+-- ---- make, which asks for no file at all
+
+written-plain : (status : Status) → IsWritten status → IsPlain status
+written-plain Done h = tt
+written-plain (Usage word) h = absurd h
+written-plain (ReadFault slot) h = absurd h
+written-plain (TooLarge slot) h = absurd h
+written-plain (BadPolicy fault) h = absurd h
+written-plain (BadMap fault) h = absurd h
+written-plain (UnknownName word) h = absurd h
+written-plain (BadNumber word) h = absurd h
+written-plain (BadPattern word kind) h = absurd h
+written-plain WriteFault h = tt
+written-plain Memory h = tt
+
+written-about : (asks : MakeAsks) (status : Status) → IsWritten status → IsAbout (Ok (Make asks)) status
+written-about asks Done h = refl
+written-about asks (Usage word) h = absurd h
+written-about asks (ReadFault slot) h = absurd h
+written-about asks (TooLarge slot) h = absurd h
+written-about asks (BadPolicy fault) h = absurd h
+written-about asks (BadMap fault) h = absurd h
+written-about asks (UnknownName word) h = absurd h
+written-about asks (BadNumber word) h = absurd h
+written-about asks (BadPattern word kind) h = absurd h
+written-about asks WriteFault h = refl
+written-about asks Memory h = tt
+
+none-asked : (asks : MakeAsks) (world : World) (status : Status) (files : Slot → SlotState) → AsksOnly world (Ok (Make asks)) status files files
+none-asked asks world status files Policy = refl
+none-asked asks world status files Map = refl
+
+pub answers-made : (asks : MakeAsks) (world : World) (files : Slot → SlotState) (asked : Option (List (List ℕ))) (past : ℕ) (old new : Option (List ℕ)) (before now : ℕ) (status : Status) → NoneAsked files
+    → Concludes (make_answer asks) old new before now status → IsWritten status → Answers (Ok (Make asks)) world files files asked asked past past old new before now status
+answers-made asks world files asked past old new before now status unasked concludes written = record {
+  meets = λ contents tells. concludes.meets;
+  about = written-about asks status written;
+  silent = concludes.silent;
+  asked = none-asked asks world status files;
+  turns = λ slot. omega arith;
+  read = λ slot e. absurd (plain-no-fault status slot (written-plain status written) e);
+  mapped = λ e. absurd (cc (unasked Map, e));
+  patterns = untried [] asked past status (plain-until status past (written-plain status written));
+  wrote = concludes.wrote;
+  later = concludes.later;
+}
+
+pub make-settles : (asks : MakeAsks) (policy : Parts) (world : World) (files : Slot → SlotState) (asked : Option (List (List ℕ))) (past : ℕ) (old new : Option (List ℕ)) (before now : ℕ) (status : Status)
+    → Concludes (make_answer asks) old new before now status → IsWritten status → Settles (Make asks) (Ok policy) world files files asked asked past past old new before now status
+make-settles asks policy world files asked past old new before now status concludes written =
+    let plain = written-plain status written in
+    record {
+      meets = λ contents tells. concludes.meets;
+      about = plain-settled (Make asks) status plain;
+      silent = concludes.silent;
+      files = no-map world status files (plain-no-fault status Map plain);
+      mapped = λ e. refl;
+      patterns = untried [] asked past status (plain-until status past plain);
+      wrote = concludes.wrote;
+      later = concludes.later;
+    }
 
 -- ---- sesearch
 

@@ -1,16 +1,17 @@
 -- The answer of the program to the words about the contents of the files.
-use Rattle.std.specs.Prelude.{ℕ, List, [], length, Option, Some, None, Result, Ok, Err, nat_lt, if◌then◌else◌}
+use Rattle.std.specs.Prelude.{ℕ, List, [], length, Option, Some, None, option_map, Result, Ok, Err, nat_lt, if◌then◌else◌}
 use Rattle.pol_cursor.specs.declared.Fault.{Fault}
 use Rattle.pol_file.specs.Acceptance.{accept}
 use Rattle.pol_file.specs.declared.Parts.{Parts}
 use Rattle.rule_query.specs.Given.{Given}
 use Rattle.se_outside.specs.declared.Slot.{Slot}
 use Rattle.se_outside.specs.declared.Slot.TheVariants.{Policy, Map}
-use Rattle.se_words.specs.Request.{Asks, Info, Search, Dom, Flow, policy_of}
+use Rattle.se_words.specs.Request.{Asks, Info, Search, Dom, Flow, Make, policy_of}
 use Rattle.se_search.specs.SearchAnswer.{search_answer}
 use Rattle.se_search.specs.SearchPatterns.{pattern_words}
 use Rattle.se_dom.specs.DomAnswer.{dom_answer}
 use Rattle.se_flow.specs.FlowAnswer.{flow_answer}
+use Rattle.se_make.specs.MakeAnswer.{make_answer}
 use Rattle.se_status.specs.declared.Status.TheVariants.{Usage, ReadFault, TooLarge, BadPolicy}
 use Rattle.se_status.specs.Meeting.{Answer, refusal}
 use Rattle.se_tools.specs.InfoAnswer.{info_answer}
@@ -29,12 +30,13 @@ unfoldable pub by_file : Slot → Option (List ℕ) → (List ℕ → Answer) �
 by_file slot None answer = refusal (ReadFault slot)
 by_file slot (Some bytes) answer = if nat_lt (file_limit slot) (length bytes) then refusal (TooLarge slot) else answer bytes
 
--- the answer about a policy that was accepted, tool by tool; seinfoflow is asked about a permission map too
+-- The answer about a policy that was accepted, tool by tool. seinfoflow is asked about a permission map too, and make about no policy.
 abbrev pub answer_about : Asks → Parts → Contents → Answer
 answer_about (Info asks) policy contents = info_answer asks policy
 answer_about (Search asks) policy contents = search_answer asks policy
 answer_about (Dom asks) policy contents = dom_answer asks policy
 answer_about (Flow asks) policy contents = by_file Map (contents Map) (flow_answer asks policy)
+answer_about (Make asks) policy contents = make_answer asks
 
 -- the answer about a policy, if it was accepted
 abbrev pub policy_answer : Asks → Result Parts Fault → Contents → Answer
@@ -44,11 +46,12 @@ policy_answer asks (Err fault) contents = refusal (BadPolicy fault)
 -- the answer to what the words ask, about the contents of the files
 abbrev pub answer_of : Result Asks ℕ → Contents → Answer
 answer_of (Err word) contents = refusal (Usage word)
+answer_of (Ok (Make asks)) contents = make_answer asks
 answer_of (Ok asks) contents = by_file Policy (contents Policy) (λ bytes. policy_answer asks (accept bytes) contents)
 
 -- the name under which a request asks for the file of a slot, if it does
 abbrev pub name_in : Asks → Slot → Option (List ℕ)
-name_in asks Policy = Some (policy_of asks).text
+name_in asks Policy = option_map (λ name. name.text) (policy_of asks)
 name_in (Flow asks) Map = Some asks.map_file.text
 name_in asks Map = None
 

@@ -1,5 +1,5 @@
 // The call that all tools go through.
-ghost use Rattle.std.specs.Prelude.{◌≡◌, ◌≤◌, false, length, Ok};
+ghost use Rattle.std.specs.Prelude.{◌≡◌, ◌≤◌, false, length, Ok, Some};
 ghost use Rattle.se_outside.specs.Outside.{NoneAsked};
 ghost use Rattle.se_outside.specs.declared.Slot.TheVariants.{Policy as policy_slot, Map as map_slot};
 ghost use Rattle.pol_file.specs.Acceptance.{accept};
@@ -8,7 +8,7 @@ ghost use Rattle.se_items.specs.Writing.{Said};
 ghost use Rattle.se_status.specs.Message.{message_of};
 ghost use Rattle.se_words.specs.FlowRequest.{flow_view};
 ghost use Rattle.se_words.specs.Request.{request_of, request_view};
-ghost use Rattle.se_tools.specs.Answer.{file_limit};
+ghost use Rattle.se_tools.specs.Answer.{file_limit, name_in};
 ghost use Rattle.se_tools.specs.Answers.{Answers, MapSettles, Settles};
 ghost use Rattle.se_tools.specs.Runs.{Runs};
 
@@ -19,6 +19,7 @@ use pol_read::{Policy, read};
 use se_dom::answer_dom;
 use se_flow::answer_flow;
 use se_help::{topic_of, write_topic};
+use se_make::answer_make;
 use se_outside::{Files, Patterns, Sink, Slot};
 use se_search::answer_search;
 use se_status::{Status, report};
@@ -93,7 +94,32 @@ fn answer_request<F: Files, P: Patterns, S: Sink>(
         (P.asked patterns.old) (P.asked patterns.new) (P.refusals patterns.old) (P.refusals patterns.new)
         (S.written out.old) (S.written out.new) (S.faults out.old) (S.faults out.new) result }
 {
-    let bytes = match read_whole(alloc, files, Slot::Policy, request.policy(), POLICY_LIMIT) {
+    if let Request::Make(asks) = request {
+        return answer_make(alloc, asks, out);
+    }
+    match request.policy() {
+        Some(name) => answer_named(alloc, name, request, files, patterns, out),
+        None => unreachable!(),
+    }
+}
+
+// Answers a request about the policy of that name.
+fn answer_named<F: Files, P: Patterns, S: Sink>(
+    alloc: Global,
+    name: &str,
+    request: &Request<'_>,
+    files: &mut F,
+    patterns: &mut P,
+    out: &mut S,
+) -> Status
+    requires files { NoneAsked (F.state files.old) }
+    requires name { name_in (request_view request.now) policy_slot ≡ Some name.now }
+    ensures { Answers (Ok (request_view request.now))
+        (F.world files.old) (F.state files.old) (F.state files.new)
+        (P.asked patterns.old) (P.asked patterns.new) (P.refusals patterns.old) (P.refusals patterns.new)
+        (S.written out.old) (S.written out.new) (S.faults out.old) (S.faults out.new) result }
+{
+    let bytes = match read_whole(alloc, files, Slot::Policy, name, POLICY_LIMIT) {
         Ok(bytes) => bytes,
         Err(ReadEnd::Fault) => return Status::ReadFault(Slot::Policy),
         Err(ReadEnd::TooLarge) => return Status::TooLarge(Slot::Policy),
@@ -149,6 +175,7 @@ fn answer_policy<F: Files, P: Patterns, S: Sink>(
         Request::Search(asks) => answer_search(alloc, policy, asks, patterns, out),
         Request::Dom(asks) => answer_dom(alloc, policy, asks, out),
         Request::Flow(asks) => answer_mapped(alloc, policy, asks, files, out),
+        Request::Make(asks) => answer_make(alloc, asks, out),
     }
 }
 

@@ -1,8 +1,9 @@
 use Rattle.se_words.specs.DomRequest.{dom_view}
 use Rattle.se_words.specs.FlowRequest.{flow_view}
 use Rattle.se_words.specs.InfoRequest.{info_view}
+use Rattle.se_words.specs.MakeRequest.{make_view}
 use Rattle.se_words.specs.SearchRequest.{search_view}
-use Rattle.se_tools.proofs.Settled.{dom-settles, flow-settles, info-settles, search-settles}
+use Rattle.se_tools.proofs.Settled.{dom-settles, flow-settles, info-settles, make-settles, search-settles}
 use Rattle.se_tools.proofs.answer.answer_policy.Goals as goal
 
 pub returns-in-Info : goal.returns-in-Info
@@ -17,3 +18,6 @@ returns-in-Dom g c = rw c.in-Dom.is (dom-settles (dom_view c.in-Dom.asks) c.args
 
 pub returns-in-Flow : goal.returns-in-Flow
 returns-in-Flow g c = rw c.in-Flow.is (flow-settles (flow_view c.in-Flow.asks) c.args.policy.now _ _ _ _ _ _ _ _ _ _ c.answer_mapped.ensures)
+
+pub returns-in-Make : goal.returns-in-Make
+returns-in-Make g c = rw c.in-Make.is (make-settles (make_view c.in-Make.asks) c.args.policy.now _ _ _ _ _ _ _ _ _ c.answer_make.ensures.answers c.answer_make.ensures.written)

@@ -1,20 +1,6 @@
-use Rattle.se_outside.specs.declared.Slot.TheVariants.{Map}
-use Rattle.se_words.specs.Request.{request_view}
-use Rattle.se_tools.proofs.Answered.{answers-fault, answers-large, answers-memory, answers-within}
+use Rattle.se_words.specs.MakeRequest.{make_view}
+use Rattle.se_tools.proofs.Settled.{answers-made}
 use Rattle.se_tools.proofs.answer.answer_request.Goals as goal
 
-pub conclude-requires-clause-few : goal.conclude-requires-clause-few
-conclude-requires-clause-few g c = rw c.deref.ensures.value c.in-Ok.ensures.reads.within
-
-pub returns-in-Err-Fault : goal.returns-in-Err-Fault
-returns-in-Err-Fault g c = answers-fault (request_view c.args.request.now) _ _ _ _ _ _ _ (c.requires Map) (rw (c.policy.ensures, c.in-Err-Fault.field-0-is) at c.in-Err-Fault.ensures.reads)
-
-pub returns-in-Err-TooLarge : goal.returns-in-Err-TooLarge
-returns-in-Err-TooLarge g c = answers-large (request_view c.args.request.now) _ _ _ _ _ _ _ (c.requires Map) (rw (c.policy.ensures, c.in-Err-TooLarge.field-0-is) at c.in-Err-TooLarge.ensures.reads)
-
-pub returns-in-Err-Memory : goal.returns-in-Err-Memory
-returns-in-Err-Memory g c = answers-memory (request_view c.args.request.now) _ _ _ _ _ _ _ (c.requires Map) (rw (c.policy.ensures, c.in-Err-Memory.field-0-is) at c.in-Err-Memory.ensures.reads)
-
-pub returns : goal.returns
-returns g c =
-    answers-within (request_view c.args.request.now) _ _ _ _ _ _ _ _ _ _ _ _ c.in-Ok.bytes c.conclude.result (rw c.policy.ensures at c.in-Ok.ensures.reads) (rw (c.deref.ensures.value, c.in-Ok.ensures.world) at c.conclude.ensures)
+pub returns-in-Make : goal.returns-in-Make
+returns-in-Make g c = rw c.in-Make.is (answers-made (make_view c.in-Make.asks) _ _ _ _ _ _ _ _ _ c.requires c.answer_make.ensures.answers c.answer_make.ensures.written)
