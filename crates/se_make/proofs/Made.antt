@@ -41,4 +41,4 @@ made_few n bytes allowed is = sound_few (made n) bytes (made-sound n allowed) is
 pub made_accepted : (n : ℕ) (bytes : List ℕ) (fault : Fault) → Allowed n → bytes ≡ spell (made n) → accept bytes ≡ Err fault → ⊥
 made_accepted n bytes fault allowed is refused =
     let sound = sound_is_accepted (made n) (made-sound n allowed) in
-    not_refused (accept bytes) sound.0 fault (ap accept is ∙ sound.1.0) refused
+    not_refused (accept bytes) sound.0 fault (ap accept is ∙ sound.1) refused

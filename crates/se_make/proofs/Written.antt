@@ -1,13 +1,21 @@
 -- A text that was sent, and another one after it.
-use Rattle.std.proofs.Common.{◌≡◌, ◌++◌, ℕ, List, Option, Result, Ok, Err, arith}
+use Rattle.std.proofs.Common.{◌≡◌, ◌++◌, ℕ, List, Option, Result, Ok, Err, refl, ap, arith}
 use Rattle.se_items.specs.Writing.{Sends, Wrote}
 use Rattle.se_items.specs.declared.WriteEnd.{WriteEnd}
 use Rattle.se_items.specs.declared.WriteEnd.TheVariants.{Fault}
 use Rattle.se_items.proofs.Gains.{gains-then, part-after, part-wider}
 
+same_end : {T : Type 0} (a b : WriteEnd) (result : Result T WriteEnd) → result ≡ Err a → result ≡ Err b → a ≡ b
+same_end a b result is also = cc (is, also)
+
 -- The first of two texts was sent in part.
 pub sent_stop : {T U : Type 0} (a b : Option (List ℕ)) (f g : ℕ) (s t : List ℕ) (end : WriteEnd) → Sends {T = T} a b f g s (Err end) → Sends {T = U} a b f g (s ++ t) (Err end)
-sent_stop a b f g s t end first = record { later = first.later; whole = tt; part = part-wider a b s t first.part; failed = first.failed }
+sent_stop {T} {U} a b f g s t end first = record {
+  later = first.later;
+  whole = tt;
+  part = part-wider a b s t first.part;
+  failed = λ is. first.failed (ap (λ (e : WriteEnd). Err e) (same_end {T = U} end Fault (Err end) refl is));
+}
 
 -- It was sent whole, and the second was written in part.
 pub sent_cut : {T U E : Type 0} (a b c : Option (List ℕ)) (f g h : ℕ) (s t : List ℕ) (u : T) (failed : E)
