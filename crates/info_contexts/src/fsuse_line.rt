@@ -1,51 +1,32 @@
 // The lines of how the files of file systems get their contexts.
 ghost use Rattle.std.specs.Prelude.{◌≡◌, ◌++◌, OnOk};
-ghost use Rattle.info_lines.specs.Listings.{HasLine, line_of};
-ghost use Rattle.info_contexts.specs.FsUseLines.{fsuse_line, fsuse_listing};
+ghost use Rattle.info_contexts.specs.FsUseLines.{fsuse_line};
 
 use crate::contexts::push_context;
 use crate::entry_names::EntryNames;
-use info_lines::LineText;
+use crate::table_lines::{LinedTable, TableLines};
 use pol_contexts::{FsUseList, FsUseView};
 use pol_cursor::Names;
 use pol_symbols::Symbols;
 use pol_texts::{behaviour_word, push_name_text};
 use std::alloc::{AllocError, Global};
-use std::marker::Model;
 
-/// The lines of how the files of file systems get their contexts, by numbers in file order. Contracts see the listing.
-#[derive(Drop)]
-pub struct FsUseLines<'p, 'a> {
-    entries: &'p FsUseList<'a>,
-    symbols: &'p Symbols<'a>,
-}
+/// The lines of how the files of file systems get their contexts.
+pub type FsUseLines<'p, 'a> = TableLines<'p, 'a, FsUseList<'a>>;
 
-impl<'p, 'a> Model for FsUseLines<'p, 'a> {
-    ghost use Rattle.std.specs.Prelude.{ℕ, List};
+impl<'a> LinedTable for FsUseList<'a> {
     ghost use Rattle.info_contexts.specs.FsUseLines.{fsuse_listing};
 
-    ghost Value = { List (List ℕ) };
-
-    ghost view = { λ l. fsuse_listing l.symbols.now l.entries.now };
-}
-
-impl<'p, 'a> FsUseLines<'p, 'a> {
-    /// The lines of these entries, with the names of these symbols.
-    pub fn new(entries: &'p FsUseList<'a>, symbols: &'p Symbols<'a>) -> FsUseLines<'p, 'a>
-        ensures { result ≡ fsuse_listing symbols.now entries.now }
-    {
-        FsUseLines { entries, symbols }
-    }
-}
-
-impl<'p, 'a> LineText for FsUseLines<'p, 'a> {
-    ghost has = { HasLine };
-
-    ghost text = { line_of };
+    ghost listing = { fsuse_listing };
 
     #[tactic(auto, using(info_lines::proofs::ListingLines::line_at))]
-    fn push_text(&self, number: u32, buffer: &mut Vec<u8>) -> Result<(), AllocError> {
-        push_fsuse(buffer, &self.entries.view(number), self.symbols)
+    fn push_entry(
+        &self,
+        symbols: &Symbols<'_>,
+        number: u32,
+        buffer: &mut Vec<u8>,
+    ) -> Result<(), AllocError> {
+        push_fsuse(buffer, &self.view(number), symbols)
     }
 }
 

@@ -1,50 +1,31 @@
 // The lines of the contexts of InfiniBand devices at ports.
 ghost use Rattle.std.specs.Prelude.{◌≡◌, ◌++◌, OnOk};
-ghost use Rattle.info_lines.specs.Listings.{HasLine, line_of};
-ghost use Rattle.info_contexts.specs.IbEndPortLines.{device_text, ibendport_line, ibendport_listing};
+ghost use Rattle.info_contexts.specs.IbEndPortLines.{device_text, ibendport_line};
 
 use crate::contexts::push_context;
-use info_lines::LineText;
+use crate::table_lines::{LinedTable, TableLines};
 use pol_contexts::{IbEndPortList, IbEndPortView};
 use pol_cursor::Names;
 use pol_symbols::Symbols;
 use pol_texts::{push_decimal, push_name_text};
 use std::alloc::AllocError;
-use std::marker::Model;
 
-/// The lines of the contexts of InfiniBand devices at their ports, by numbers in file order. Contracts see the listing.
-#[derive(Drop)]
-pub struct IbEndPortLines<'p, 'a> {
-    ports: &'p IbEndPortList<'a>,
-    symbols: &'p Symbols<'a>,
-}
+/// The lines of the contexts of InfiniBand devices at their ports.
+pub type IbEndPortLines<'p, 'a> = TableLines<'p, 'a, IbEndPortList<'a>>;
 
-impl<'p, 'a> Model for IbEndPortLines<'p, 'a> {
-    ghost use Rattle.std.specs.Prelude.{ℕ, List};
+impl<'a> LinedTable for IbEndPortList<'a> {
     ghost use Rattle.info_contexts.specs.IbEndPortLines.{ibendport_listing};
 
-    ghost Value = { List (List ℕ) };
-
-    ghost view = { λ l. ibendport_listing l.symbols.now l.ports.now };
-}
-
-impl<'p, 'a> IbEndPortLines<'p, 'a> {
-    /// The lines of these entries, with the names of these symbols.
-    pub fn new(ports: &'p IbEndPortList<'a>, symbols: &'p Symbols<'a>) -> IbEndPortLines<'p, 'a>
-        ensures { result ≡ ibendport_listing symbols.now ports.now }
-    {
-        IbEndPortLines { ports, symbols }
-    }
-}
-
-impl<'p, 'a> LineText for IbEndPortLines<'p, 'a> {
-    ghost has = { HasLine };
-
-    ghost text = { line_of };
+    ghost listing = { ibendport_listing };
 
     #[tactic(auto, using(info_lines::proofs::ListingLines::line_at))]
-    fn push_text(&self, number: u32, buffer: &mut Vec<u8>) -> Result<(), AllocError> {
-        push_ibendport(buffer, &self.ports.view(number), self.symbols)
+    fn push_entry(
+        &self,
+        symbols: &Symbols<'_>,
+        number: u32,
+        buffer: &mut Vec<u8>,
+    ) -> Result<(), AllocError> {
+        push_ibendport(buffer, &self.view(number), symbols)
     }
 }
 

@@ -1,50 +1,31 @@
 // The lines of the contexts of InfiniBand partition keys.
 ghost use Rattle.std.specs.Prelude.{◌≡◌, ◌++◌, OnOk};
-ghost use Rattle.info_lines.specs.Listings.{HasLine, line_of};
-ghost use Rattle.info_contexts.specs.IbPkeyLines.{prefixed_text, ibpkey_line, ibpkey_listing};
+ghost use Rattle.info_contexts.specs.IbPkeyLines.{prefixed_text, ibpkey_line};
 
 use crate::contexts::push_context;
-use info_lines::LineText;
+use crate::table_lines::{LinedTable, TableLines};
 use pol_contexts::{IbPkeyList, IbPkeyView};
 use pol_cursor::Names;
 use pol_symbols::Symbols;
 use pol_texts::{push_groups_text, push_keys_text};
 use std::alloc::AllocError;
-use std::marker::Model;
 
-/// The lines of the contexts of InfiniBand partition keys, by numbers in file order. Contracts see the listing.
-#[derive(Drop)]
-pub struct IbPkeyLines<'p, 'a> {
-    keys: &'p IbPkeyList<'a>,
-    symbols: &'p Symbols<'a>,
-}
+/// The lines of the contexts of InfiniBand partition keys.
+pub type IbPkeyLines<'p, 'a> = TableLines<'p, 'a, IbPkeyList<'a>>;
 
-impl<'p, 'a> Model for IbPkeyLines<'p, 'a> {
-    ghost use Rattle.std.specs.Prelude.{ℕ, List};
+impl<'a> LinedTable for IbPkeyList<'a> {
     ghost use Rattle.info_contexts.specs.IbPkeyLines.{ibpkey_listing};
 
-    ghost Value = { List (List ℕ) };
-
-    ghost view = { λ l. ibpkey_listing l.symbols.now l.keys.now };
-}
-
-impl<'p, 'a> IbPkeyLines<'p, 'a> {
-    /// The lines of these entries, with the names of these symbols.
-    pub fn new(keys: &'p IbPkeyList<'a>, symbols: &'p Symbols<'a>) -> IbPkeyLines<'p, 'a>
-        ensures { result ≡ ibpkey_listing symbols.now keys.now }
-    {
-        IbPkeyLines { keys, symbols }
-    }
-}
-
-impl<'p, 'a> LineText for IbPkeyLines<'p, 'a> {
-    ghost has = { HasLine };
-
-    ghost text = { line_of };
+    ghost listing = { ibpkey_listing };
 
     #[tactic(auto, using(info_lines::proofs::ListingLines::line_at))]
-    fn push_text(&self, number: u32, buffer: &mut Vec<u8>) -> Result<(), AllocError> {
-        push_ibpkey(buffer, &self.keys.view(number), self.symbols)
+    fn push_entry(
+        &self,
+        symbols: &Symbols<'_>,
+        number: u32,
+        buffer: &mut Vec<u8>,
+    ) -> Result<(), AllocError> {
+        push_ibpkey(buffer, &self.view(number), symbols)
     }
 }
 

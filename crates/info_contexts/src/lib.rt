@@ -14,6 +14,7 @@ mod node6_line;
 mod node_line;
 mod port_line;
 mod sid_line;
+mod table_lines;
 
 pub use fsuse_line::FsUseLines;
 pub use genfs_entry::GenfsEntry;
@@ -29,3 +30,4 @@ pub use node_line::NodeLines;
 pub use node6_line::Node6Lines;
 pub use port_line::PortLines;
 pub use sid_line::SidLines;
+pub use table_lines::{LinedTable, TableLines};

@@ -13,7 +13,7 @@ use crate::entry_names::numbers_of_name;
 use crate::genfs_entry::genfs_entries;
 use crate::{
     FsUseLines, GenfsLines, IbEndPortLines, IbPkeyLines, NetifLines, Node6Lines, NodeLines,
-    PortLines, SidLines,
+    PortLines, SidLines, TableLines,
 };
 use info_lines::{ChainedLines, EntryLines, FileLines, NumberedLines};
 use pol_read::Policy;
@@ -47,7 +47,7 @@ pub fn fsuse_lines<'p, 'a>(
 {
     let entries = &policy.contexts().fsuse;
     let numbers = numbers_of_name(alloc, entries, entries.len(), name)?;
-    let lines = FsUseLines::new(entries, policy.symbols());
+    let lines = TableLines::new(entries, policy.symbols());
     Ok(NumberedLines::new(lines, numbers))
 }
 
@@ -74,7 +74,7 @@ pub fn netif_lines<'p, 'a>(
 {
     let entries = &policy.contexts().netif;
     let numbers = numbers_of_name(alloc, entries, entries.len(), name)?;
-    let lines = NetifLines::new(entries, policy.symbols());
+    let lines = TableLines::new(entries, policy.symbols());
     Ok(NumberedLines::new(lines, numbers))
 }
 
@@ -94,7 +94,7 @@ fn ipv4_lines<'p, 'a>(policy: &'p Policy<'a>) -> FileLines<NodeLines<'p, 'a>>
     ensures { result ≡ node_listing policy.now.symbols policy.now.labels.contexts.node }
 {
     let entries = &policy.contexts().node;
-    FileLines::new(NodeLines::new(entries, policy.symbols()), entries.len())
+    FileLines::new(TableLines::new(entries, policy.symbols()), entries.len())
 }
 
 // Those of IPv6 addresses.
@@ -103,7 +103,7 @@ fn ipv6_lines<'p, 'a>(policy: &'p Policy<'a>) -> FileLines<Node6Lines<'p, 'a>>
     ensures { result ≡ node6_listing policy.now.symbols policy.now.labels.contexts.node6 }
 {
     let entries = &policy.contexts().node6;
-    FileLines::new(Node6Lines::new(entries, policy.symbols()), entries.len())
+    FileLines::new(TableLines::new(entries, policy.symbols()), entries.len())
 }
 
 /// Those of ports.
@@ -112,7 +112,7 @@ pub fn port_lines<'p, 'a>(policy: &'p Policy<'a>) -> FileLines<PortLines<'p, 'a>
     ensures { result ≡ port_listing policy.now.symbols policy.now.labels.contexts.port }
 {
     let entries = &policy.contexts().port;
-    FileLines::new(PortLines::new(entries, policy.symbols()), entries.len())
+    FileLines::new(TableLines::new(entries, policy.symbols()), entries.len())
 }
 
 /// Those of InfiniBand partition keys.
@@ -121,7 +121,7 @@ pub fn ibpkey_lines<'p, 'a>(policy: &'p Policy<'a>) -> FileLines<IbPkeyLines<'p,
     ensures { result ≡ ibpkey_listing policy.now.symbols policy.now.labels.contexts.ibpkey }
 {
     let entries = &policy.contexts().ibpkey;
-    FileLines::new(IbPkeyLines::new(entries, policy.symbols()), entries.len())
+    FileLines::new(TableLines::new(entries, policy.symbols()), entries.len())
 }
 
 /// Those of InfiniBand devices at ports.
@@ -130,8 +130,5 @@ pub fn ibendport_lines<'p, 'a>(policy: &'p Policy<'a>) -> FileLines<IbEndPortLin
     ensures { result ≡ ibendport_listing policy.now.symbols policy.now.labels.contexts.ibendport }
 {
     let entries = &policy.contexts().ibendport;
-    FileLines::new(
-        IbEndPortLines::new(entries, policy.symbols()),
-        entries.len(),
-    )
+    FileLines::new(TableLines::new(entries, policy.symbols()), entries.len())
 }

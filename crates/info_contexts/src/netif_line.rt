@@ -1,54 +1,32 @@
 // The lines of the contexts of network interfaces.
 ghost use Rattle.std.specs.Prelude.{◌≡◌, ◌++◌, OnOk};
-ghost use Rattle.info_lines.specs.Listings.{HasLine, line_of};
-ghost use Rattle.info_contexts.specs.NetifLines.{netif_line, netif_listing};
+ghost use Rattle.info_contexts.specs.NetifLines.{netif_line};
 
 use crate::contexts::push_context;
 use crate::entry_names::EntryNames;
-use info_lines::LineText;
+use crate::table_lines::{LinedTable, TableLines};
 use pol_contexts::{NetifList, NetifView};
 use pol_cursor::Names;
 use pol_symbols::Symbols;
 use pol_texts::push_name_text;
 use std::alloc::{AllocError, Global};
-use std::marker::Model;
 
-/// The lines of the contexts of network interfaces, by numbers in file order. Contracts see the listing.
-#[derive(Drop)]
-pub struct NetifLines<'p, 'a> {
-    interfaces: &'p NetifList<'a>,
-    symbols: &'p Symbols<'a>,
-}
+/// The lines of the contexts of network interfaces.
+pub type NetifLines<'p, 'a> = TableLines<'p, 'a, NetifList<'a>>;
 
-impl<'p, 'a> Model for NetifLines<'p, 'a> {
-    ghost use Rattle.std.specs.Prelude.{ℕ, List};
+impl<'a> LinedTable for NetifList<'a> {
     ghost use Rattle.info_contexts.specs.NetifLines.{netif_listing};
 
-    ghost Value = { List (List ℕ) };
-
-    ghost view = { λ l. netif_listing l.symbols.now l.interfaces.now };
-}
-
-impl<'p, 'a> NetifLines<'p, 'a> {
-    /// The lines of these entries, with the names of these symbols.
-    pub fn new(interfaces: &'p NetifList<'a>, symbols: &'p Symbols<'a>) -> NetifLines<'p, 'a>
-        ensures { result ≡ netif_listing symbols.now interfaces.now }
-    {
-        NetifLines {
-            interfaces,
-            symbols,
-        }
-    }
-}
-
-impl<'p, 'a> LineText for NetifLines<'p, 'a> {
-    ghost has = { HasLine };
-
-    ghost text = { line_of };
+    ghost listing = { netif_listing };
 
     #[tactic(auto, using(info_lines::proofs::ListingLines::line_at))]
-    fn push_text(&self, number: u32, buffer: &mut Vec<u8>) -> Result<(), AllocError> {
-        push_netif(buffer, &self.interfaces.view(number), self.symbols)
+    fn push_entry(
+        &self,
+        symbols: &Symbols<'_>,
+        number: u32,
+        buffer: &mut Vec<u8>,
+    ) -> Result<(), AllocError> {
+        push_netif(buffer, &self.view(number), symbols)
     }
 }
 

@@ -1,50 +1,31 @@
 // The lines of the contexts of IPv6 addresses.
 ghost use Rattle.std.specs.Prelude.{◌≡◌, ◌++◌, OnOk};
-ghost use Rattle.info_lines.specs.Listings.{HasLine, line_of};
-ghost use Rattle.info_contexts.specs.NodeLines.{masked6_text, node6_line, node6_listing};
+ghost use Rattle.info_contexts.specs.NodeLines.{masked6_text, node6_line};
 
 use crate::contexts::push_context;
-use info_lines::LineText;
+use crate::table_lines::{LinedTable, TableLines};
 use pol_contexts::{Node6List, Node6View};
 use pol_cursor::Names;
 use pol_symbols::Symbols;
 use pol_texts::push_groups_text;
 use std::alloc::AllocError;
-use std::marker::Model;
 
-/// The lines of the contexts of IPv6 addresses, by numbers in file order. Contracts see the listing.
-#[derive(Drop)]
-pub struct Node6Lines<'p, 'a> {
-    nodes: &'p Node6List<'a>,
-    symbols: &'p Symbols<'a>,
-}
+/// The lines of the contexts of IPv6 addresses.
+pub type Node6Lines<'p, 'a> = TableLines<'p, 'a, Node6List<'a>>;
 
-impl<'p, 'a> Model for Node6Lines<'p, 'a> {
-    ghost use Rattle.std.specs.Prelude.{ℕ, List};
+impl<'a> LinedTable for Node6List<'a> {
     ghost use Rattle.info_contexts.specs.NodeLines.{node6_listing};
 
-    ghost Value = { List (List ℕ) };
-
-    ghost view = { λ l. node6_listing l.symbols.now l.nodes.now };
-}
-
-impl<'p, 'a> Node6Lines<'p, 'a> {
-    /// The lines of these entries, with the names of these symbols.
-    pub fn new(nodes: &'p Node6List<'a>, symbols: &'p Symbols<'a>) -> Node6Lines<'p, 'a>
-        ensures { result ≡ node6_listing symbols.now nodes.now }
-    {
-        Node6Lines { nodes, symbols }
-    }
-}
-
-impl<'p, 'a> LineText for Node6Lines<'p, 'a> {
-    ghost has = { HasLine };
-
-    ghost text = { line_of };
+    ghost listing = { node6_listing };
 
     #[tactic(auto, using(info_lines::proofs::ListingLines::line_at))]
-    fn push_text(&self, number: u32, buffer: &mut Vec<u8>) -> Result<(), AllocError> {
-        push_node6(buffer, &self.nodes.view(number), self.symbols)
+    fn push_entry(
+        &self,
+        symbols: &Symbols<'_>,
+        number: u32,
+        buffer: &mut Vec<u8>,
+    ) -> Result<(), AllocError> {
+        push_node6(buffer, &self.view(number), symbols)
     }
 }
 

@@ -1,50 +1,31 @@
 // The lines of port contexts.
 ghost use Rattle.std.specs.Prelude.{◌≡◌, ◌++◌, OnOk};
-ghost use Rattle.info_lines.specs.Listings.{HasLine, line_of};
-ghost use Rattle.info_contexts.specs.PortLines.{port_line, port_listing};
+ghost use Rattle.info_contexts.specs.PortLines.{port_line};
 
 use crate::contexts::push_context;
-use info_lines::LineText;
+use crate::table_lines::{LinedTable, TableLines};
 use pol_contexts::{PortList, PortView};
 use pol_cursor::Names;
 use pol_symbols::Symbols;
 use pol_texts::{push_ports_text, push_protocol_name};
 use std::alloc::AllocError;
-use std::marker::Model;
 
-/// The lines of the contexts of ports, by numbers in file order. Contracts see the listing.
-#[derive(Drop)]
-pub struct PortLines<'p, 'a> {
-    ports: &'p PortList<'a>,
-    symbols: &'p Symbols<'a>,
-}
+/// The lines of the contexts of ports.
+pub type PortLines<'p, 'a> = TableLines<'p, 'a, PortList<'a>>;
 
-impl<'p, 'a> Model for PortLines<'p, 'a> {
-    ghost use Rattle.std.specs.Prelude.{ℕ, List};
+impl<'a> LinedTable for PortList<'a> {
     ghost use Rattle.info_contexts.specs.PortLines.{port_listing};
 
-    ghost Value = { List (List ℕ) };
-
-    ghost view = { λ l. port_listing l.symbols.now l.ports.now };
-}
-
-impl<'p, 'a> PortLines<'p, 'a> {
-    /// The lines of these entries, with the names of these symbols.
-    pub fn new(ports: &'p PortList<'a>, symbols: &'p Symbols<'a>) -> PortLines<'p, 'a>
-        ensures { result ≡ port_listing symbols.now ports.now }
-    {
-        PortLines { ports, symbols }
-    }
-}
-
-impl<'p, 'a> LineText for PortLines<'p, 'a> {
-    ghost has = { HasLine };
-
-    ghost text = { line_of };
+    ghost listing = { port_listing };
 
     #[tactic(auto, using(info_lines::proofs::ListingLines::line_at))]
-    fn push_text(&self, number: u32, buffer: &mut Vec<u8>) -> Result<(), AllocError> {
-        push_port(buffer, &self.ports.view(number), self.symbols)
+    fn push_entry(
+        &self,
+        symbols: &Symbols<'_>,
+        number: u32,
+        buffer: &mut Vec<u8>,
+    ) -> Result<(), AllocError> {
+        push_port(buffer, &self.view(number), symbols)
     }
 }
 
