@@ -1,21 +1,27 @@
 // What a rule is sorted by: ranks in place of names, so that no name is compared.
-ghost use Rattle.std.specs.Prelude.{◌≡◌};
+ghost use Rattle.std.specs.Prelude.{◌≡◌, IfSome};
 ghost use Rattle.std.proofs.Common.{rules};
 ghost use Rattle.std.specs.Cmp.{partial_order_from_own_ties, partial_order_from_total};
 ghost use Rattle.std.specs.Cmp.Rules.{comparing};
 ghost use Rattle.std.specs.Ordering.{as_partial_cmp};
 ghost use Rattle.pol_symbols.specs.PolicySymbols.{rank_in};
-ghost use Rattle.pol_rules.specs.StoredRules.{stored};
-ghost use Rattle.rule_order.specs.Keys.{AreWords, key_of_rule, keys_total, names_number, plain_cmp, rank_or_zero};
+ghost use Rattle.rule_order.specs.Keys.{AreWords, key_of_ends, key_of_word, keys_total, names_number, plain_cmp, rank_or_zero};
 
 use crate::ends::{table_of_source, table_of_target};
 use pol_cursor::TableKind;
-use pol_read::Rule;
+use pol_read::RuleEnds;
 use pol_symbols::Symbols;
 use std::cmp::Ordering;
 
 // How many values a u32 has.
 const WORD: u128 = 0x1_0000_0000;
+
+// How many ranks of ends and of classes, and how many numbers of rules, a word has room for.
+const ENDS: u64 = 0x4000;
+
+const CLASSES: u64 = 0x200;
+
+const NUMBERS: u64 = 0x80_0000;
 
 /// The key of a rule. Keys rise in the order in which rules are listed.
 #[derive(Clone, Copy, PartialEq, Eq)]
@@ -28,16 +34,49 @@ pub struct Key {
 }
 
 impl Key {
-    /// The key of a rule that has that number.
-    pub fn of(symbols: &Symbols<'_>, number: u32, rule: &Rule<'_>) -> Key
-        ensures { result ≡ key_of_rule symbols.now number (stored rule.now) }
+    /// The key of a rule of these ends that has that number.
+    pub fn of(symbols: &Symbols<'_>, number: u32, ends: RuleEnds) -> Key
+        ensures { result ≡ key_of_ends symbols.now number ends }
     {
         Key {
-            kind: rule.kind as u32,
-            source: rank_or_zero(symbols, table_of_source(rule.kind), rule.source),
-            target: rank_or_zero(symbols, table_of_target(rule.kind), rule.target),
-            class: rank_or_zero(symbols, TableKind::Classes, rule.class),
+            kind: ends.kind as u32,
+            source: rank_or_zero(symbols, table_of_source(ends.kind), ends.source),
+            target: rank_or_zero(symbols, table_of_target(ends.kind), ends.target),
+            class: rank_or_zero(symbols, TableKind::Classes, ends.class),
             number,
+        }
+    }
+
+    /// The key as one word, where its parts are small enough.
+    pub fn word(&self) -> Option<u64>
+        ensures { IfSome result (λ word. key_of_word word ≡ self.now) }
+    {
+        let source = self.source as u64;
+        let target = self.target as u64;
+        let class = self.class as u64;
+        let number = self.number as u64;
+        if self.kind < 16 && source < ENDS && target < ENDS && class < CLASSES && number < NUMBERS {
+            let heads = self.kind as u64 * ENDS + source;
+            let names = (heads * ENDS + target) * CLASSES + class;
+            Some(names * NUMBERS + number)
+        } else {
+            None
+        }
+    }
+
+    /// The key that a word is.
+    pub fn of_word(word: u64) -> Key
+        ensures { result ≡ key_of_word word }
+    {
+        let names = word / NUMBERS;
+        let ends = names / CLASSES;
+        let heads = ends / ENDS;
+        Key {
+            kind: (heads / ENDS) as u32,
+            source: (heads % ENDS) as u32,
+            target: (ends % ENDS) as u32,
+            class: (names % CLASSES) as u32,
+            number: number_of_word(word),
         }
     }
 
@@ -85,4 +124,11 @@ fn rank_or_zero(symbols: &Symbols<'_>, table: TableKind, value: u32) -> u32
         Some(rank) => rank,
         None => 0,
     }
+}
+
+/// The number of the key that a word is.
+pub fn number_of_word(word: u64) -> u32
+    ensures { result ≡ (key_of_word word).number }
+{
+    (word % NUMBERS) as u32
 }

@@ -2,6 +2,7 @@
 #![tactic(auto)]
 
 mod ends;
+mod key_list;
 mod keys;
 mod laws;
 mod rule_keys;

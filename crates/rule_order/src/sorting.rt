@@ -8,7 +8,8 @@ use std::alloc::{AllocError, Global};
 /// The same numbers of stored rules, in the order in which the rules are listed: by kind, then by the names of source, target and
 /// class, compared by their bytes, then by number.
 ///
-/// The key of each rule is made once, and keys compare as numbers. It takes 24 bytes of memory a number.
+/// The key of each rule is made once, of its ends, and keys compare as numbers. It takes 12 bytes of memory a number, and at most 32 in
+/// a policy of so many types, classes or rules that keys are no words.
 pub fn sort_by_rule_order(
     alloc: Global,
     policy: &Policy<'_>,
@@ -20,7 +21,7 @@ pub fn sort_by_rule_order(
 {
     let mut keys = RuleKeys::with_capacity(alloc, policy, numbers.len())?;
     for number in numbers {
-        keys.add(*number, &policy.rule(*number))?;
+        keys.add_ends(*number, policy.rule_ends(*number))?;
     }
     keys.sorted(alloc)
 }

@@ -1,23 +1,20 @@
-use Rattle.std.proofs.Common.{◌≡◌, ℕ, List, Vec, Global, Result, Ok, Err, IfOk, sym, subst}
-use Rattle.pol_file.specs.declared.Parts.{Parts}
-use Rattle.rule_order.specs.ListedOrder.{AreRules}
+use Rattle.std.proofs.Common.{◌≡◌}
+use Rattle.std.proofs.lemmas.Result.{IfOk-weaker}
+use Rattle.rule_order.specs.Keys.{AreSortedNumbers, numbers_in}
+use Rattle.rule_order.specs.ListedOrder.{AreRules, in_rule_order}
 use Rattle.rule_order.proofs.GatheredKeys.{numbers_in_order, numbers_are_rules}
 use Rattle.rule_order.proofs.SortedNumbers.{are_declared}
 use Rattle.rule_order.proofs.rule_keys.RuleKeys.sorted.Goals as goal
 
-rules_of : {E : Type 0} (policy : Parts) (r : Result (Vec ℕ Global) E) (ns : List ℕ) → AreRules policy ns → IfOk r (λ v. v.items ≡ ns) → IfOk r (λ v. AreRules policy v.items)
-rules_of policy (Ok v) ns are is = subst (λ (xs : List ℕ). AreRules policy xs) (sym is) are
-rules_of policy (Err e) ns are is = tt
-
 pub returns-clause-sorted : goal.returns-clause-sorted
 returns-clause-sorted c =
     let policy = c.self.inside.policy.now in
+    let keys = c.self.inside.keys in
     let declared = are_declared c.bytes.result.now policy c.bytes.ensures.accepted in
-    let is = numbers_in_order policy c.self.inside.keys.items c.sorted_keys-keys.result.items c.self.invariant c.sorted_keys-keys.ensures.same declared c.sorted_keys-keys.ensures.rise in
-    rw (← c.self.view_is, ← is, ← c.deref.ensures.value) c.numbers_of.ensures
+    rw (← c.self.view_is) (IfOk-weaker c.sorted_numbers.result (λ v. AreSortedNumbers keys v.items) (λ v. v.items ≡ in_rule_order policy (numbers_in keys)) (λ v are. numbers_in_order policy keys v.items c.self.invariant are declared) c.sorted_numbers.ensures)
 
 pub returns-clause-rules : goal.returns-clause-rules
 returns-clause-rules c =
     let policy = c.self.inside.policy.now in
-    let are = numbers_are_rules policy c.self.inside.keys.items c.sorted_keys-keys.result.items c.self.invariant c.sorted_keys-keys.ensures.same in
-    rw (← c.self.view_is) (rules_of policy c.numbers_of.result _ are (rw c.deref.ensures.value at c.numbers_of.ensures))
+    let keys = c.self.inside.keys in
+    rw (← c.self.view_is) (IfOk-weaker c.sorted_numbers.result (λ v. AreSortedNumbers keys v.items) (λ v. AreRules policy v.items) (λ v are. numbers_are_rules policy keys v.items c.self.invariant are) c.sorted_numbers.ensures)
