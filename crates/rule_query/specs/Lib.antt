@@ -2,6 +2,7 @@ pub mod Given
 pub mod Ends
 pub mod Listed
 pub mod Meeting
+pub mod NumberedRules
 pub mod Refusals
 pub mod Tests
 pub mod Resolved

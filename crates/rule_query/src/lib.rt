@@ -8,6 +8,7 @@ mod ends;
 mod given;
 mod kinds;
 mod listed;
+mod numbered_rule;
 mod query;
 mod refusing;
 mod resolving;

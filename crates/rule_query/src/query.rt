@@ -1,6 +1,6 @@
 ghost use Rattle.std.specs.Prelude.{◌≡◌, ◌<◌, ◌-◌, ◌∷◌, [], ◌++◌, IfOk, OnOk, if◌then◌else◌, length, option_map};
 ghost use Rattle.std.specs.List.{find, list_all, range_with_len};
-ghost use Rattle.pol_rules.specs.StoredRules.{stored, stored_rules};
+ghost use Rattle.pol_rules.specs.StoredRules.{stored_rules};
 ghost use Rattle.rule_order.specs.ListedOrder.{in_rule_order};
 ghost use Rattle.rule_criteria.specs.declared.Criteria.{Criteria};
 ghost use Rattle.rule_query.specs.Meeting.{meets, meeting};
@@ -8,9 +8,10 @@ ghost use Rattle.rule_query.specs.Resolved.{IsQueryOf};
 ghost use Rattle.rule_query.specs.Tests.{passes, rule_test, source_types, target_types};
 
 use crate::kinds::is_kind_asked;
+use crate::numbered_rule::NumberedRule;
 use crate::tests::Test;
 use pol_bitmap::Set;
-use pol_read::{Policy, Rule};
+use pol_read::Policy;
 use pol_symbols::Symbols;
 use rule_order::RuleKeys;
 use std::alloc::{AllocError, Global};
@@ -30,14 +31,14 @@ impl Query {
         requires { n < length (stored_rules policy.now) }
         ensures { (criteria : Criteria) → IsQueryOf policy.now criteria self.now → result ≡ meets policy.now criteria n }
     {
-        self.passes(policy.symbols(), &policy.rule(n))
+        self.passes(policy.symbols(), &NumberedRule::of(policy, n))
     }
 
     // Whether a rule is of a kind that is asked, and passes all tests.
-    fn passes(&self, symbols: &Symbols<'_>, rule: &Rule<'_>) -> bool
-        ensures { result ≡ passes symbols.now self.now (stored rule.now) }
+    fn passes(&self, symbols: &Symbols<'_>, rule: &NumberedRule<'_, '_>) -> bool
+        ensures { result ≡ passes symbols.now self.now rule.now }
     {
-        is_kind_asked(&self.kinds, rule.kind) && all_pass(&self.tests, symbols, rule)
+        is_kind_asked(&self.kinds, rule.ends().kind) && all_pass(&self.tests, symbols, rule)
     }
 
     /// The least number of a stored rule, at or above a number, that meets the criteria. `None` exactly where there is none. Takes no
@@ -100,17 +101,17 @@ impl Query {
         ensures policy { OnOk result (found.new.policy ≡ policy.now) }
         ensures numbers { (criteria : Criteria) → IsQueryOf policy.now criteria self.now → OnOk result (found.new.numbers ≡ found.old.numbers ++ (if meets policy.now criteria n then n ∷ [] else [])) }
     {
-        let rule = policy.rule(n);
+        let rule = NumberedRule::of(policy, n);
         if self.passes(policy.symbols(), &rule) {
-            found.add(n, &rule)?;
+            found.add_ends(n, rule.ends())?;
         }
         Ok(())
     }
 }
 
 // Whether a rule passes all tests.
-fn all_pass(tests: &[Test], symbols: &Symbols<'_>, rule: &Rule<'_>) -> bool
-    ensures { result ≡ list_all (rule_test symbols.now (stored rule.now)) tests.now }
+fn all_pass(tests: &[Test], symbols: &Symbols<'_>, rule: &NumberedRule<'_, '_>) -> bool
+    ensures { result ≡ list_all (rule_test symbols.now rule.now) tests.now }
 {
     tests.iter().all(|test| test.passes(symbols, rule))
 }

@@ -1,13 +1,13 @@
 // What a rule is compared with, criterion by criterion.
 ghost use Rattle.std.specs.Prelude.{◌≡◌};
 ghost use Rattle.pol_rules.specs.DeclaredRules.{default_table};
-ghost use Rattle.pol_rules.specs.StoredRules.{stored};
 ghost use Rattle.rule_query.specs.Tests.{class_test, condition_test, default_test, rule_test};
 
 use crate::ends::{Ends, has_value};
+use crate::numbered_rule::NumberedRule;
 use pol_bitmap::Set;
 use pol_cursor::TableKind;
-use pol_read::{Condition, Rule, RuleKind, RulePart};
+use pol_read::{Condition, RuleEnds, RuleKind, RulePart};
 use pol_symbols::Symbols;
 use rule_order::{table_of_source, table_of_target};
 use rule_tests::{NumberTest, PermissionTest};
@@ -27,17 +27,23 @@ pub enum Test {
 
 impl Test {
     /// Whether a rule passes. Takes no memory.
-    pub fn passes(&self, symbols: &Symbols<'_>, rule: &Rule<'_>) -> bool
-        ensures { result ≡ rule_test symbols.now (stored rule.now) self.now }
+    pub fn passes(&self, symbols: &Symbols<'_>, rule: &NumberedRule<'_, '_>) -> bool
+        ensures { result ≡ rule_test symbols.now rule.now self.now }
     {
+        let RuleEnds {
+            kind,
+            source,
+            target,
+            class,
+        } = rule.ends();
         match self {
-            Test::Source(ends) => ends.has(table_of_source(rule.kind), rule.source),
-            Test::Target(ends) => ends.has(table_of_target(rule.kind), rule.target),
-            Test::Class(classes) => has_class(classes, rule.kind, rule.class),
-            Test::Permissions(test) => test.meets(symbols, rule.class, &rule.part),
-            Test::Numbers(test) => test.meets(&rule.part),
-            Test::Default(ends) => has_default(ends, rule.kind, &rule.part),
-            Test::Condition(nodes) => is_under(nodes, rule.condition),
+            Test::Source(ends) => ends.has(table_of_source(kind), source),
+            Test::Target(ends) => ends.has(table_of_target(kind), target),
+            Test::Class(classes) => has_class(classes, kind, class),
+            Test::Permissions(test) => test.meets(symbols, class, &rule.part()),
+            Test::Numbers(test) => test.meets(&rule.part()),
+            Test::Default(ends) => has_default(ends, kind, &rule.part()),
+            Test::Condition(nodes) => is_under(nodes, rule.condition()),
         }
     }
 }

@@ -1,0 +1,13 @@
+-- The stored rule of a number, as a record where there is none too. It serves the code alone.
+use Rattle.std.specs.Prelude.{ℕ, None, slice_index_or}
+use Rattle.pol_file.specs.declared.Parts.{Parts}
+use Rattle.pol_rules.specs.declared.RuleKind.TheVariants.{Allow}
+use Rattle.pol_rules.specs.declared.RulePart.TheVariants.{Nothing}
+use Rattle.pol_rules.specs.StoredRules.{StoredRule, stored_rules}
+
+-- a rule that names nothing
+abbrev pub no_rule : StoredRule
+no_rule = record { kind = Allow; source = 0; target = 0; class = 0; part = Nothing; name = None; condition = None }
+
+unfoldable pub rule_at : Parts → ℕ → StoredRule
+rule_at policy number = slice_index_or (stored_rules policy) number no_rule
