@@ -8,32 +8,34 @@ ghost use Rattle.rule_text.specs.RuleTexts.{rest_text, text_of_rule};
 
 use crate::kept_head::KeptHead;
 use crate::kept_texts::{KeptText, empty_slots, push_kept};
-use crate::rule_parts::push_target;
 use crate::rule_texts::RuleTexts;
+use crate::type_names::TypeNames;
 use crate::whole_rule::push_end;
 use pol_read::{Policy, Rule, RulePart};
 use std::alloc::{AllocError, Global};
 use std::marker::Model;
 
 /// The texts of whole rules of a policy, where many are written one after the other: what stands before the targets of a source is
-/// made once where its rules come together, and so is most of what stands behind the ends of rules that give the same permissions.
-/// Contracts see the policy.
+/// made once where its rules come together, and so is most of what stands behind the ends of rules that give the same permissions. The
+/// names of targets are looked up once. Contracts see the policy.
 #[derive(Drop)]
 pub struct ListedTexts<'p, 'a> {
     texts: RuleTexts<'p, 'a>,
     head: KeptHead,
+    names: TypeNames<'a>,
     slots: Vec<Option<KeptText>>,
 }
 
 impl<'p, 'a> Model for ListedTexts<'p, 'a> {
     ghost use Rattle.pol_file.specs.declared.Parts.{Parts};
     ghost use Rattle.rule_text.specs.KeptTexts.{AreKept, IsHead};
+    ghost use Rattle.rule_text.specs.TypeNames.{AreNamesOf};
 
     ghost Value = { Parts };
 
     ghost view = { λ listed. listed.texts };
 
-    ghost invariant = { λ listed. IsHead listed.texts.symbols listed.head × AreKept listed.texts.symbols listed.slots.items };
+    ghost invariant = { λ listed. IsHead listed.texts.symbols listed.head × AreNamesOf listed.texts.symbols listed.names × AreKept listed.texts.symbols listed.slots.items };
 }
 
 impl<'p, 'a> ListedTexts<'p, 'a> {
@@ -41,9 +43,11 @@ impl<'p, 'a> ListedTexts<'p, 'a> {
     pub fn new(alloc: Global, policy: &'p Policy<'a>) -> Result<ListedTexts<'p, 'a>, AllocError>
         ensures { IfOk result (λ texts. texts ≡ policy.now) }
     {
+        let symbols = policy.symbols();
         Ok(ListedTexts {
             texts: RuleTexts::new(alloc, policy)?,
-            head: KeptHead::none(alloc, policy.symbols())?,
+            head: KeptHead::none(alloc, symbols)?,
+            names: TypeNames::new(alloc, symbols)?,
             slots: empty_slots(alloc)?,
         })
     }
@@ -59,7 +63,8 @@ impl<'p, 'a> ListedTexts<'p, 'a> {
         let symbols = policy.symbols();
         let rule = policy.rule(n);
         self.head.push(symbols, rule.kind, rule.source, buffer)?;
-        push_target(buffer, symbols, rule.kind, rule.target)?;
+        self.names
+            .push_target(symbols, rule.kind, rule.target, buffer)?;
         push_rest(buffer, &self.texts, &mut self.slots, &rule)
     }
 }

@@ -4,7 +4,7 @@ ghost use Rattle.std.specs.Prelude.{◌≡◌, ◌++◌, OnOk};
 ghost use Rattle.rule_text.specs.RuleFrames.{frame_head, frame_target};
 ghost use Rattle.rule_text.specs.TypeNames.{AreNamesOf};
 
-use crate::rule_parts::{push_head, push_target};
+use crate::rule_parts::push_head;
 use crate::type_names::TypeNames;
 use pol_read::RuleKind;
 use pol_symbols::Symbols;
@@ -38,10 +38,7 @@ impl<'p, 'a> RuleFrame<'p, 'a> {
         requires { AreNamesOf self.now.symbols.now names.now }
         ensures { OnOk result (buffer.new.items ≡ buffer.old.items ++ frame_target self.now target) }
     {
-        match self.kind {
-            RuleKind::RoleAllow => push_target(buffer, self.symbols, self.kind, target),
-            _ => names.push(self.symbols, target, buffer),
-        }
+        names.push_target(self.symbols, self.kind, target, buffer)
     }
 
     /// What stands behind a target, with the line feed.

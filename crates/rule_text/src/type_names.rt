@@ -4,10 +4,13 @@ ghost use Rattle.std.specs.Prelude.{◌≡◌, ◌++◌, IfOk, OnOk};
 ghost use Rattle.pol_cursor.specs.declared.TableKind.TheVariants.{Types};
 ghost use Rattle.pol_mls.specs.MlsTexts.{name_of};
 ghost use Rattle.pol_symbols.specs.PolicySymbols.{name_in};
+ghost use Rattle.pol_rules.specs.RuleOrder.{target_table};
 ghost use Rattle.rule_text.specs.TypeNames.{AreNamesOf};
 
+use crate::rule_parts::push_target;
 use pol_cursor::TableKind;
 use pol_mls::push_name;
+use pol_read::RuleKind;
 use pol_symbols::Symbols;
 use std::alloc::{AllocError, Global};
 
@@ -30,8 +33,25 @@ impl<'a> TypeNames<'a> {
         Ok(TypeNames { names })
     }
 
-    /// Adds the name of a type. The tables of the policy are handed in.
-    pub(crate) fn push(
+    /// Adds the name of a target of a rule of a kind. The tables of the policy are handed in.
+    pub(crate) fn push_target(
+        &self,
+        symbols: &Symbols<'_>,
+        kind: RuleKind,
+        target: u32,
+        buffer: &mut Vec<u8>,
+    ) -> Result<(), AllocError>
+        requires { AreNamesOf symbols.now self.now }
+        ensures { OnOk result (buffer.new.items ≡ buffer.old.items ++ name_of (name_in symbols.now) (target_table kind) target) }
+    {
+        match kind {
+            RuleKind::RoleAllow => push_target(buffer, symbols, kind, target),
+            _ => self.push(symbols, target, buffer),
+        }
+    }
+
+    // Adds the name of a type.
+    fn push(
         &self,
         symbols: &Symbols<'_>,
         value: u32,
