@@ -4,22 +4,9 @@
 //! the number of those that do.
 #![tactic(auto)]
 
-mod answer;
-mod case;
-mod cause;
-mod edit;
-mod failing;
-mod play;
-mod sweep;
-mod table;
-mod text;
-mod value;
-
 use anyhow::{Context, Result};
-use case::{Case, Source};
-use play::Contents;
-use std::alloc::Global;
-use std::rt::{Env, Files};
+use case_tables::{Case, Contents, Source, case_differences, cases_of, edited};
+use std::rt::Files;
 use std::{env, fs};
 
 /// How many cases there were, and how many of them differ.
@@ -30,6 +17,14 @@ struct Counts {
 }
 
 impl Counts {
+    // No case.
+    fn new() -> Counts {
+        Counts {
+            cases: 0,
+            differing: 0,
+        }
+    }
+
     // With one case more.
     fn and(self, differs: bool) -> Counts {
         Counts {
@@ -39,22 +34,27 @@ impl Counts {
     }
 }
 
-// The bytes of a file of the folder, with its edits.
-fn bytes_of(rt: &(impl Files + AllocGlobal), source: &Source) -> Result<Vec<u8>> {
+// The bytes of a file.
+fn bytes_of(rt: &(impl Files + AllocGlobal), name: &str) -> Result<Vec<u8>> {
+    fs::read(rt, name).context(format_args!("reading {name}"))
+}
+
+// The bytes of a file with its edits.
+fn edited_bytes(rt: &(impl Files + AllocGlobal), source: &Source) -> Result<Vec<u8>> {
     let name = source.file.as_str();
-    let bytes = fs::read(rt, name).context(format_args!("reading {name}"))?;
-    edit::edited(bytes, &source.edits).context(format_args!("editing {name}"))
+    let bytes = bytes_of(rt, name)?;
+    edited(bytes, &source.edits).context(format_args!("editing {name}"))
 }
 
 // The bytes of a file that may not be there.
 fn bytes_if(rt: &(impl Files + AllocGlobal), source: &Option<Source>) -> Result<Option<Vec<u8>>> {
     match source {
-        Some(source) => Ok(Some(bytes_of(rt, source)?)),
+        Some(source) => Ok(Some(edited_bytes(rt, source)?)),
         None => Ok(None),
     }
 }
 
-// What differs in the runs of a case.
+// What differs in a case.
 fn lines_of(rt: &(impl Files + AllocGlobal), case: &Case) -> Result<Vec<String>> {
     let policy = bytes_if(rt, &case.policy)?;
     let map = bytes_if(rt, &case.map)?;
@@ -62,10 +62,10 @@ fn lines_of(rt: &(impl Files + AllocGlobal), case: &Case) -> Result<Vec<String>>
         policy: policy.as_deref(),
         map: map.as_deref(),
     };
-    Ok(sweep::case_differences(rt.alloc(), case, contents)?)
+    Ok(case_differences(rt.alloc(), case, contents)?)
 }
 
-// Runs a case, prints what differs, and answers whether anything does.
+// Tries a case, prints what differs, and answers whether anything does.
 fn differs(rt: &(impl Files + Print + AllocGlobal), table: &str, case: &Case) -> Result<bool> {
     let lines = lines_of(rt, case).context(format_args!("{table}, line {}", case.line))?;
     for line in &lines {
@@ -74,22 +74,23 @@ fn differs(rt: &(impl Files + Print + AllocGlobal), table: &str, case: &Case) ->
     Ok(!lines.is_empty())
 }
 
-// Runs the cases of a table.
-fn replay(rt: &(impl Files + Print + AllocGlobal), table: &str, counts: Counts) -> Result<Counts> {
+// The cases of a table.
+fn table_of(rt: &(impl Files + AllocGlobal), table: &str) -> Result<Vec<Case>> {
     let text = fs::read_to_string(rt, table).context(format_args!("reading {table}"))?;
-    let cases = table::cases_of(rt.alloc(), text.as_str()).context(format_args!("in {table}"))?;
+    cases_of(rt.alloc(), text.as_str()).context(format_args!("in {table}"))
+}
+
+// Tries the cases of a table, and counts them.
+fn replay(rt: &(impl Files + Print + AllocGlobal), table: &str, counts: Counts) -> Result<Counts> {
     let mut counts = counts;
-    for case in &cases {
+    for case in &table_of(rt, table)? {
         counts = counts.and(differs(rt, table, case)?);
     }
     Ok(counts)
 }
 
 fn main(rt: HostRuntime) -> Result<()> {
-    let mut counts = Counts {
-        cases: 0,
-        differing: 0,
-    };
+    let mut counts = Counts::new();
     for table in env::args(&rt)?.skip(1) {
         counts = replay(&rt, table.as_str(), counts)?;
     }

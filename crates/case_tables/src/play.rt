@@ -1,4 +1,5 @@
 // A case is played: its words through the tools, over files, patterns and sinks in memory.
+ghost use Rattle.std.specs.Prelude.{IfOk};
 ghost use Rattle.se_outside.specs.Outside.{NoneAsked};
 ghost use Rattle.se_outside.specs.MemFiles.{mem_state};
 
@@ -22,15 +23,10 @@ pub fn play(
     contents: Contents<'_>,
     outside: &Outside,
 ) -> Result<Answer, AllocError> {
-    let mut files = MemFiles::new(alloc);
-    add_if(&mut files, case.name.as_str(), contents.policy)?;
-    add_if(&mut files, "map", contents.map)?;
-    files.fail(outside.files.fail)?;
-    files.most(outside.files.most);
+    let mut files = files_of(alloc, case.name.as_str(), contents, &outside.files)?;
+    let mut patterns = patterns_of(alloc, outside.patterns)?;
     let mut out = sink_of(alloc, &outside.out)?;
     let mut err = sink_of(alloc, &outside.err)?;
-    let mut patterns = MemPatterns::new(alloc);
-    patterns.fail(outside.patterns)?;
     let status = run(
         alloc,
         &case.words,
@@ -39,11 +35,24 @@ pub fn play(
         &mut out,
         &mut err,
     );
-    Ok(Answer {
-        code: status.code(),
-        out: Vec::from_slice(alloc, out.bytes())?,
-        err: Vec::from_slice(alloc, err.bytes())?,
-    })
+    answer_of(alloc, status.code(), &out, &err)
+}
+
+// A policy of that name and a map, where they are there, in files that are told these orders.
+fn files_of(
+    alloc: Global,
+    name: &str,
+    contents: Contents<'_>,
+    orders: &Orders,
+) -> Result<MemFiles, AllocError>
+    ensures { IfOk result (λ files. NoneAsked (mem_state files)) }
+{
+    let mut files = MemFiles::new(alloc);
+    add_if(&mut files, name, contents.policy)?;
+    add_if(&mut files, "map", contents.map)?;
+    files.fail(orders.fail)?;
+    files.most(orders.most);
+    Ok(files)
 }
 
 // Adds a file that may not be there.
@@ -57,10 +66,26 @@ fn add_if(files: &mut MemFiles, name: &str, bytes: Option<&[u8]>) -> Result<(), 
     }
 }
 
+// Patterns of which that call is refused.
+fn patterns_of(alloc: Global, fail: u64) -> Result<MemPatterns, AllocError> {
+    let mut patterns = MemPatterns::new(alloc);
+    patterns.fail(fail)?;
+    Ok(patterns)
+}
+
 // A sink that is told these orders.
 fn sink_of(alloc: Global, orders: &Orders) -> Result<MemSink, AllocError> {
     let mut sink = MemSink::new(alloc, orders.room)?;
     sink.fail(orders.fail)?;
     sink.most(orders.most);
     Ok(sink)
+}
+
+// The answer of a run that ended with that code.
+fn answer_of(alloc: Global, code: u8, out: &MemSink, err: &MemSink) -> Result<Answer, AllocError> {
+    Ok(Answer {
+        code,
+        out: Vec::from_slice(alloc, out.bytes())?,
+        err: Vec::from_slice(alloc, err.bytes())?,
+    })
 }

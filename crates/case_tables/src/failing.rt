@@ -4,7 +4,7 @@ use crate::case::{Case, Orders, Outside};
 use crate::play::Contents;
 
 /// Whose call fails.
-#[derive(Clone, Copy, Debug, PartialEq, Eq)]
+#[derive(Clone, Copy)]
 pub enum Failing {
     /// The files', at the policy.
     Policy,

@@ -8,14 +8,14 @@ use se_words::Words;
 use std::alloc::{AllocError, Global};
 
 /// A file of the folder, with edits that are made one after the other.
-#[derive(Debug, Drop)]
+#[derive(Drop)]
 pub struct Source {
     pub file: String,
     pub edits: Vec<Edit>,
 }
 
 /// What files or a sink in memory are told.
-#[derive(Clone, Copy, Debug, PartialEq, Eq)]
+#[derive(Clone, Copy)]
 pub struct Orders {
     /// The call that fails, counted from 1, or 0 where none does.
     pub fail: u64,
@@ -27,7 +27,7 @@ pub struct Orders {
 }
 
 /// What all that stands outside of a run is told.
-#[derive(Clone, Copy, Debug, PartialEq, Eq)]
+#[derive(Clone, Copy)]
 pub struct Outside {
     pub files: Orders,
     /// The pattern that is refused, counted from 1, or 0 where none is.
@@ -76,6 +76,28 @@ impl Orders {
             most,
             room,
         }
+    }
+
+    /// With that most bytes that one call moves.
+    pub fn moving(self, most: usize) -> Orders
+        requires { 0 < most }
+    {
+        let Orders {
+            fail,
+            most: _,
+            room,
+        } = self;
+        Orders { fail, most, room }
+    }
+
+    /// With that most bytes that a sink holds.
+    pub fn holding(self, room: usize) -> Orders {
+        let Orders {
+            fail,
+            most,
+            room: _,
+        } = self;
+        Orders { fail, most, room }
     }
 
     /// How many calls at least move so many bytes.

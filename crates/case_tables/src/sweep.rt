@@ -13,7 +13,7 @@ use std::alloc::{AllocError, Global};
 const MOST_CALLS: u64 = 100_000;
 
 /// What goes wrong in the runs of a case.
-#[derive(Clone, Copy, Debug, PartialEq, Eq)]
+#[derive(Clone, Copy)]
 pub enum Sweep {
     /// The policy ends before each of its bytes.
     Cut,

@@ -1,7 +1,7 @@
 // Edits of a file.
 
 /// An edit of a file.
-#[derive(Debug, Drop)]
+#[derive(Drop)]
 pub enum Edit {
     /// Only so many of its first bytes are kept.
     Keep(usize),
@@ -14,7 +14,7 @@ pub enum Edit {
 }
 
 /// Why an edit was not made.
-#[derive(Clone, Copy, Debug, PartialEq, Eq, thiserror::Error)]
+#[derive(Clone, Copy, Debug, thiserror::Error)]
 pub enum EditError {
     #[error("the edit reaches beyond the end")]
     Beyond,

@@ -2,7 +2,7 @@
 use std::alloc::{AllocError, AllocFailed};
 
 /// Why a line of a table is refused.
-#[derive(Clone, Copy, Debug, PartialEq, Eq, thiserror::Error)]
+#[derive(Clone, Copy, Debug, thiserror::Error)]
 pub enum Cause {
     #[error("no key with a colon after it")]
     NoKey,
@@ -43,7 +43,7 @@ impl<T: Drop> From<AllocFailed<T>> for Cause {
 }
 
 /// The first line of a table that is refused, counted from 1, and why it is.
-#[derive(Clone, Copy, Debug, PartialEq, Eq, thiserror::Error)]
+#[derive(Clone, Copy, Debug, thiserror::Error)]
 #[error("line {line}: {cause}")]
 pub struct TableError {
     pub line: usize,

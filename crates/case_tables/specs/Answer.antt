@@ -1,6 +1,6 @@
 -- When two answers are the same.
 use Rattle.std.specs.Prelude.{◌≡◌}
-use Rattle.replay.specs.declared.answer.Answer.{Answer}
+use Rattle.case_tables.specs.declared.answer.Answer.{Answer}
 
 -- they have the same status, and the same was written
 abbrev pub Agree : Answer → Answer → Type 0

@@ -1,12 +1,12 @@
 // What a run gives, and how two answers differ.
 ghost use Rattle.std.specs.Prelude.{◌≡◌, ◌↔◌, [], IfOk};
-ghost use Rattle.replay.specs.Answer.{Agree};
+ghost use Rattle.case_tables.specs.Answer.{Agree};
 
 use crate::text::escaped;
 use std::alloc::{AllocError, Global};
 
 /// What a run gives: its status as a number, and what it wrote.
-#[derive(Debug, Drop)]
+#[derive(Drop)]
 pub struct Answer {
     pub code: u8,
     pub out: Vec<u8>,
