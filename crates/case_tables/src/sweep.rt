@@ -6,6 +6,7 @@ use crate::answer::{Answer, differences};
 use crate::case::{Case, Outside};
 use crate::failing::Failing;
 use crate::play::{Contents, play};
+use crate::rewriting::rewrite;
 use crate::text::escaped;
 use std::alloc::{AllocError, Global};
 
@@ -46,8 +47,29 @@ impl Sweep {
     }
 }
 
-/// What differs in a case: in its one run, or in the first run of its sweep that does.
+/// What differs in a case: in its one run, or in the first run of its sweep that does, and where its policy is written back.
 pub fn case_differences(
+    alloc: Global,
+    case: &Case,
+    contents: Contents<'_>,
+) -> Result<Vec<String>, AllocError> {
+    let mut lines = runs_differences(alloc, case, contents)?;
+    if let Some(policy) = contents.policy {
+        push_rewrite(alloc, policy, &mut lines)?;
+    }
+    Ok(lines)
+}
+
+// Says what differs where a policy is written back.
+fn push_rewrite(alloc: Global, policy: &[u8], lines: &mut Vec<String>) -> Result<(), AllocError> {
+    if let Err(error) = rewrite(alloc, policy) {
+        lines.push(format!(in alloc; "{error}")?)?;
+    }
+    Ok(())
+}
+
+// What differs in the runs of a case.
+fn runs_differences(
     alloc: Global,
     case: &Case,
     contents: Contents<'_>,

@@ -1,13 +1,21 @@
-//! Runs the cases of tables through the tools, over files and sinks in memory, and says which of them differ.
+//! Runs the cases of tables through the tools, over files and sinks in memory, and says which of them differ. The policy of a case is
+//! also written back from its tree, and has to be itself.
 //!
-//! The words of the command line name the tables. Each case that differs is printed, with what differs in it, and at last
-//! the number of those that do.
+//! The words of the command line name the tables. Those after `--policies` name policies: each is a case, and is written back. Each case
+//! that differs is printed, with what differs in it, and at last the number of those that do.
 #![tactic(auto)]
 
 use anyhow::{Context, Result};
-use case_tables::{Case, Contents, Source, case_differences, cases_of, edited};
+use case_tables::{Case, Contents, Source, case_differences, cases_of, edited, rewrite};
 use std::rt::Files;
 use std::{env, fs};
+
+/// What files are that words name.
+#[derive(Clone, Copy)]
+enum Kind {
+    Tables,
+    Policies,
+}
 
 /// How many cases there were, and how many of them differ.
 #[derive(Clone, Copy)]
@@ -89,10 +97,40 @@ fn replay(rt: &(impl Files + Print + AllocGlobal), table: &str, counts: Counts) 
     Ok(counts)
 }
 
+// Writes a policy back, prints what differs, and answers whether anything does.
+fn rewrite_differs(rt: &(impl Files + Print + AllocGlobal), name: &str) -> Result<bool> {
+    let bytes = bytes_of(rt, name)?;
+    match rewrite(rt.alloc(), &bytes) {
+        Ok(()) => Ok(false),
+        Err(error) => {
+            println!(rt; "{name}: {error}")?;
+            Ok(true)
+        }
+    }
+}
+
+// Counts the cases of a file.
+fn counted(
+    rt: &(impl Files + Print + AllocGlobal),
+    kind: Kind,
+    name: &str,
+    counts: Counts,
+) -> Result<Counts> {
+    match kind {
+        Kind::Tables => replay(rt, name, counts),
+        Kind::Policies => Ok(counts.and(rewrite_differs(rt, name)?)),
+    }
+}
+
 fn main(rt: HostRuntime) -> Result<()> {
     let mut counts = Counts::new();
-    for table in env::args(&rt)?.skip(1) {
-        counts = replay(&rt, table.as_str(), counts)?;
+    let mut kind = Kind::Tables;
+    for word in env::args(&rt)?.skip(1) {
+        if word.as_str() == "--policies" {
+            kind = Kind::Policies;
+        } else {
+            counts = counted(&rt, kind, word.as_str(), counts)?;
+        }
     }
     println!(rt; "{} of {} cases differ", counts.differing, counts.cases)?;
     Ok(())

@@ -1,0 +1,78 @@
+// A policy is written back: it is read, copied as a tree, and the tree is written.
+ghost use Rattle.std.specs.Prelude.{◌≡◌, OnOk};
+ghost use Rattle.pol_tree.specs.TreeSpelling.{spell};
+
+use pol_cursor::ReadError;
+use pol_read::{Policy, read};
+use pol_tree::{Tree, tree_of};
+use pol_write::{WriteError, write};
+use std::alloc::{AllocError, Global};
+
+// No policy has more bytes.
+const MOST_BYTES: usize = 67_108_864;
+
+/// Why a policy is not written back as itself.
+#[derive(Clone, Copy, Debug, thiserror::Error)]
+pub enum RewriteError {
+    #[error("the policy is written back as other bytes")]
+    OtherBytes,
+    #[error("the policy is not written back")]
+    NotSound,
+    #[error("no memory to write the policy back")]
+    Memory,
+}
+
+impl From<AllocError> for RewriteError {
+    fn from(_error: AllocError) -> RewriteError {
+        RewriteError::Memory
+    }
+}
+
+impl From<WriteError> for RewriteError {
+    fn from(error: WriteError) -> RewriteError {
+        match error {
+            WriteError::NotSound(_) => RewriteError::NotSound,
+            WriteError::Memory => RewriteError::Memory,
+        }
+    }
+}
+
+/// Writes a policy back, which has to give the bytes that it was read from. Bytes that are no policy are not written.
+pub fn rewrite(alloc: Global, bytes: &[u8]) -> Result<(), RewriteError> {
+    match tree_in(alloc, bytes)? {
+        Some(tree) => compare(alloc, &tree, bytes),
+        None => Ok(()),
+    }
+}
+
+// The tree of the policy in bytes, if they are one.
+fn tree_in(alloc: Global, bytes: &[u8]) -> Result<Option<Tree>, RewriteError> {
+    if bytes.len() > MOST_BYTES {
+        return Ok(None);
+    }
+    match read(alloc, bytes) {
+        Ok(policy) => copied(alloc, policy),
+        Err(ReadError::Memory) => Err(RewriteError::Memory),
+        Err(ReadError::Fault(_)) => Ok(None),
+    }
+}
+
+// The tree of a policy, which is let go.
+fn copied(alloc: Global, policy: Policy<'_>) -> Result<Option<Tree>, RewriteError> {
+    let tree = tree_of(alloc, &policy);
+    drop(policy);
+    Ok(Some(tree?))
+}
+
+// Writes a tree, which has to give these bytes.
+fn compare(alloc: Global, tree: &Tree, bytes: &[u8]) -> Result<(), RewriteError>
+    ensures { OnOk result (spell tree.now ≡ bytes.now) }
+{
+    let mut written = Vec::new(alloc);
+    write(alloc, tree, &mut written)?;
+    if written.as_slice() == bytes {
+        Ok(())
+    } else {
+        Err(RewriteError::OtherBytes)
+    }
+}
