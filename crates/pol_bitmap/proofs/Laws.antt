@@ -1,14 +1,17 @@
 -- The two laws of a bitmap.
-use Rattle.std.proofs.Common.{◌≡◌, ℕ, zero, suc, ◌+◌, Option, List, [], ◌∷◌, length, None, refl, sym, ap, append_assoc, arith}
+use Rattle.std.proofs.Common.{◌≡◌, ◌<◌, ℕ, zero, suc, ◌+◌, Option, List, [], ◌∷◌, length, None, refl, sym, ap, append_assoc, arith}
 use Rattle.std.specs.Prelude.{◌==◌}
+use Rattle.std.specs.Int.{bytes_low_first, byte_at}
 use Rattle.std.specs.List.{flat_map, AllByRecursion}
 use Rattle.std.proofs.lemmas.List.{append-nil}
 use Rattle.std.proofs.lemmas.List.Concat.{flat_map-cons}
 use Rattle.std.proofs.lemmas.Bool.{and_parts, eqb-true}
 use Rattle.pol_cursor.specs.declared.fault.Cause.TheVariants.{BadStart, BadCount, BadMapUnit}
 use Rattle.pol_cursor.specs.Outcome.{field}
-use Rattle.pol_cursor.specs.Parts.{list_of}
+use Rattle.pol_cursor.specs.Parts.{num, list_of}
+use Rattle.pol_cursor.specs.Spelling.{bytes_of, AreBytes}
 use Rattle.pol_cursor.specs.Laws.{Reads, Again, IsSpelling, IsReadAgain, IsReadFromSpelling}
+use Rattle.pol_cursor.proofs.Numbers.{length-bytes_of, num-lt, bytes_of-num}
 use Rattle.pol_cursor.proofs.Laws.{Reads-done, Reads-part, Reads-as, Reads-number_if, Again-done, Again-part, Again-as, Again-number_if, Again-list_of}
 use Rattle.pol_bitmap.specs.declared.node.Node.{Node}
 use Rattle.pol_bitmap.proofs.NodePlaces.{unless_none}
@@ -70,12 +73,37 @@ bitmap_spelled limit =
     let is-unit : unit ≡ 64 = eqb-true _ _ (unless_none _ BadMapUnit unit-fits.1) in
     record {
       same = rw (is-unit, high, h.fitting.0, h.same) (simp append_assoc);
-      fitting = record { high = rw high highbit-fits.0; count = rw h.fitting.0 count-fits.0; nodes = h.fitting.1 };
+      fitting = record { count = rw h.fitting.0 count-fits.0; nodes = h.fitting.1 };
     }
+
+-- ---- the field of highbit
+
+byte_at-lt : (place n : ℕ) → byte_at place n < 256
+byte_at-lt zero n = omega arith
+byte_at-lt (suc place) n = omega arith
+
+bytes-are : (first w n : ℕ) → AreBytes (bytes_low_first first w n)
+bytes-are first zero n i = omega arith
+bytes-are first (suc w) n zero = byte_at-lt first n
+bytes-are first (suc w) n (suc i) = bytes-are (suc first) w n i
+
+-- what the four bytes of a number say
+abbrev field_of : ℕ → ℕ
+field_of n = num (bytes_of 4 n) 0 4
+
+field_of-are : (n : ℕ) → AreBytes (bytes_of 4 n)
+unfolding bytes_of
+field_of-are n = bytes-are 0 4 n
+
+-- The same bytes spell it, whatever the number.
+bytes_of-field_of : (n : ℕ) → bytes_of 4 (field_of n) ≡ bytes_of 4 n
+unfolding bytes_of
+bytes_of-field_of n = bytes_of-num (bytes_of 4 n) 0 4 (field_of-are n) (omega (arith, length-bytes_of 4 n))
 
 -- The first law of a bitmap.
 pub bitmap_again : (limit : Option ℕ) → IsReadAgain (bitmap_at limit) spell_bitmap BitmapFits
 unfolding bitmap_at nodes_at
 bitmap_again limit ns fits =
-    Again-as (Again-part _ (Again-number_if (field 2 1) 4 64 _ (omega arith)) (Again-part _ (Again-number_if (field 2 2) 4 (high_of ns) _ fits.high) (Again-part _ (Again-number_if (field 2 3) 4 (length ns) _ fits.count)
-    (Again-list_of (node_at limit (high_of ns)) floor_after spell_node NodeFits (node_again limit (high_of ns)) ns 0 fits.nodes)))) (simp append_assoc)
+    let highbit = field_of (high_of ns) in
+    Again-as (Again-part _ (Again-number_if (field 2 1) 4 64 _ (omega arith)) (Again-part _ (Again-number_if (field 2 2) 4 highbit _ (num-lt (bytes_of 4 (high_of ns)) 0 4 (field_of-are (high_of ns)))) (Again-part _ (Again-number_if (field 2 3) 4 (length ns) _ fits.count)
+    (Again-list_of (node_at limit highbit) floor_after spell_node NodeFits (node_again limit highbit) ns 0 fits.nodes)))) (rw (bytes_of-field_of (high_of ns)) (simp append_assoc))

@@ -77,7 +77,8 @@ spell_bitmap ns = bytes_of 4 64 ++ bytes_of 4 (high_of ns) ++ bytes_of 4 (length
 abbrev pub NodeFits : Node → Type 0
 NodeFits n = (n.start < 2 ^ 32) × (n.map < 2 ^ 64)
 
+-- The numbers of a bitmap fit their fields. Nothing is asked of highbit: where the last node ends beyond 32 bits, the lowest 32 are
+-- spelled, and the reader refuses them.
 pub record BitmapFits (ns : List Node) : Type 0 where
-  pub high : high_of ns < 2 ^ 32
   pub count : length ns < 2 ^ 32
   pub nodes : AllByRecursion NodeFits ns

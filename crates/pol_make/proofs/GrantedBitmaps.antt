@@ -1,5 +1,5 @@
 -- Bitmaps are read where no condition refuses them: those in the one form of a set.
-use Rattle.std.proofs.Common.{◌≡◌, ℕ, ◌+◌, ◌%◌, ◌<◌, ◌≤◌, ◌==◌, Bool, true, false, Option, None, List, [], ◌∷◌, length, refl, append_assoc, arith, if◌then◌else◌}
+use Rattle.std.proofs.Common.{◌≡◌, ℕ, ◌+◌, ◌%◌, ◌^◌, ◌<◌, ◌≤◌, ◌==◌, Bool, true, false, Option, None, List, [], ◌∷◌, length, refl, append_assoc, arith, if◌then◌else◌}
 use Rattle.std.specs.Prelude.{nat_le}
 use Rattle.std.specs.List.{AllByRecursion}
 use Rattle.std.proofs.lemmas.List.{append-nil}
@@ -68,13 +68,13 @@ count-stands [] rises = refl
 count-stands (n ∷ ns) rises = rw (ne_eqb (length (n ∷ ns)) 0 (λ none. omega (arith, none)), le-leb 1 (high_of (n ∷ ns)) (omega (arith, high-above 0 n ns rises))) refl
 
 -- The nodes of a set whose bits are below the limit are read.
-pub grants-bitmap : (limit : Option ℕ) (ns : List Node) → BitmapFits ns → IsRisingFrom 0 ns → AreWithin limit ns → GrantsOf (bitmap_at limit) ns (spell_bitmap ns)
+pub grants-bitmap : (limit : Option ℕ) (ns : List Node) → high_of ns < 2 ^ 32 → BitmapFits ns → IsRisingFrom 0 ns → AreWithin limit ns → GrantsOf (bitmap_at limit) ns (spell_bitmap ns)
 unfolding bitmap_at nodes_at
-grants-bitmap limit ns fits rises within =
+grants-bitmap limit ns high fits rises within =
     let whole : highbit_test (high_of ns) ≡ None = rw (eq-eqb (high_of ns % 64) 0 (high-whole 0 ns rises)) refl in
     grants-as
     (grants-then _ (grants-number_if (field 2 1) 4 64 _ (omega arith) refl)
-    (grants-then _ (grants-number_if (field 2 2) 4 (high_of ns) _ fits.high whole)
+    (grants-then _ (grants-number_if (field 2 2) 4 (high_of ns) _ high whole)
     (grants-then _ (grants-number_if (field 2 3) 4 (length ns) _ fits.count (count-stands ns rises))
     (grants-list_of (node_at limit (high_of ns)) floor_after spell_node (MayStand limit (high_of ns)) (node-granted limit (high_of ns)) ns 0 (nodes-stand limit 0 0 ns (omega arith) rises fits.nodes within)))))
     (simp append_assoc)
@@ -84,5 +84,5 @@ none-out [] = tt
 none-out (n ∷ ns) = (refl, none-out ns)
 
 -- The nodes of a set are read where its bits have no limit.
-pub grants-set : (ns : List Node) → BitmapFits ns → IsRisingFrom 0 ns → GrantsOf (bitmap_at None) ns (spell_bitmap ns)
-grants-set ns fits rises = grants-bitmap None ns fits rises (none-out ns)
+pub grants-set : (ns : List Node) → high_of ns < 2 ^ 32 → BitmapFits ns → IsRisingFrom 0 ns → GrantsOf (bitmap_at None) ns (spell_bitmap ns)
+grants-set ns high fits rises = grants-bitmap None ns high fits rises (none-out ns)

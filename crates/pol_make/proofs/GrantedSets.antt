@@ -63,16 +63,18 @@ high-below limit (n ∷ m ∷ ms) below = high-below limit (m ∷ ms) below.1
 
 pub set-fits : {limit : ℕ} {bits : List ℕ} → AreBits limit bits → BitmapFits (set_of bits)
 set-fits {limit} {bits} are = record {
-  high = omega (arith, are.small, high-below limit (set_of bits) (starts-below limit bits are.below));
   count = omega (arith, are.small, length-set_of bits, rises-length limit 0 bits (omega arith) are.rise are.below);
   nodes = (set_of-set 0 bits are.rise (numbers-fit are)).1;
 }
+
+set-high : {limit : ℕ} {bits : List ℕ} → AreBits limit bits → high_of (set_of bits) < 2 ^ 32
+set-high {limit} {bits} are = omega (arith, are.small, high-below limit (set_of bits) (starts-below limit bits are.below))
 
 set-rises : {limit : ℕ} {bits : List ℕ} → AreBits limit bits → IsRisingFrom 0 (set_of bits)
 set-rises {limit} {bits} are = (set_of-set 0 bits are.rise (numbers-fit are)).0
 
 pub set-granted : {limit : ℕ} {bits : List ℕ} → AreBits limit bits → GrantsOf (bitmap_at None) (set_of bits) (spell_bitmap (set_of bits))
-set-granted {limit} {bits} are = grants-set (set_of bits) (set-fits are) (set-rises are)
+set-granted {limit} {bits} are = grants-set (set_of bits) (set-high are) (set-fits are) (set-rises are)
 
 none-out : (limit : ℕ) (bits : List ℕ) → AllByRecursion (λ b. b < limit) bits → list_any (nat_le limit) bits ≡ false
 none-out limit [] below = refl
@@ -85,7 +87,7 @@ set-within {limit} {bits} are =
 
 -- where bits have that limit
 pub set-granted-below : {limit : ℕ} {bits : List ℕ} → AreBits limit bits → GrantsOf (bitmap_at (Some limit)) (set_of bits) (spell_bitmap (set_of bits))
-set-granted-below {limit} {bits} are = grants-bitmap (Some limit) (set_of bits) (set-fits are) (set-rises are) (set-within are)
+set-granted-below {limit} {bits} are = grants-bitmap (Some limit) (set_of bits) (set-high are) (set-fits are) (set-rises are) (set-within are)
 
 -- ---- how many bytes it takes
 
