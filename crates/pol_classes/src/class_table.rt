@@ -1,4 +1,4 @@
-ghost use Rattle.std.specs.Prelude.{◌≡◌, ◌<◌, Some, IfOk, option_map, slice_get, length, true};
+ghost use Rattle.std.specs.Prelude.{◌≡◌, ◌<◌, Some, IfOk, is_some, option_map, slice_get, length, true};
 ghost use Rattle.pol_cursor.specs.Outcome.{Yields};
 ghost use Rattle.pol_symtab.specs.SymbolTables.{value_named, primary_index, primary_name, rank_of};
 ghost use Rattle.pol_classes.specs.ClassTables.{class_table_at};
@@ -97,6 +97,16 @@ impl<'a> ClassTable<'a> {
         match &self.table {
             ByTypeSets::Without(table) => table.name_of(value),
             ByTypeSets::With(table) => table.name_of(value),
+        }
+    }
+
+    /// Whether a class has that value.
+    pub fn declares(&self, value: u32) -> bool
+        ensures { result ≡ is_some (primary_name (λ class. class.name) (λ class. true) (λ class. class.value) self.now.records value) }
+    {
+        match &self.table {
+            ByTypeSets::Without(table) => table.declares(value),
+            ByTypeSets::With(table) => table.declares(value),
         }
     }
 

@@ -1,4 +1,4 @@
-ghost use Rattle.std.specs.Prelude.{◌≡◌, ℕ, List, [], ◌∷◌, option_map};
+ghost use Rattle.std.specs.Prelude.{◌≡◌, ℕ, List, [], ◌∷◌, is_some, option_map};
 ghost use Rattle.std.specs.declared.option.Option.{Option};
 ghost use Rattle.pol_cursor.specs.References.{dangling_of};
 
@@ -14,6 +14,10 @@ pub trait Names {
     /// The name of the primary record of that value. It is `None` exactly where no primary record declares the value.
     fn name(&self, table: TableKind, value: u32) -> Option<&[u8]>
         ensures { option_map (λ name. name.now) result ≡ named self.now table value };
+
+    /// Whether a primary record declares that value. No name is looked at.
+    fn declares(&self, table: TableKind, value: u32) -> bool
+        ensures { result ≡ is_some (named self.now table value) };
 }
 
 /// The fault of a reference, where no primary record of its table declares the value that it names.
@@ -26,12 +30,13 @@ pub fn dangling<N: Names>(
 ) -> Option<Fault>
     ensures { result ≡ dangling_of (N.named names.now) (record { place = place; field = field; table = table; value = value } ∷ []) }
 {
-    match names.name(table, value) {
-        Some(_) => None,
-        None => Some(Fault {
+    if names.declares(table, value) {
+        None
+    } else {
+        Some(Fault {
             place,
             field,
             cause: Cause::Dangling { table, value },
-        }),
+        })
     }
 }

@@ -1,4 +1,4 @@
-ghost use Rattle.std.specs.Prelude.{◌≡◌, true, option_map};
+ghost use Rattle.std.specs.Prelude.{◌≡◌, true, is_some, option_map};
 ghost use Rattle.pol_cursor.specs.Outcome.{Yields};
 ghost use Rattle.std.specs.List.{find};
 ghost use Rattle.pol_symtab.specs.SymbolTables.{declares};
@@ -72,6 +72,22 @@ impl<'a> Symbols<'a> {
             TableKind::Booleans => self.booleans.name_of(value),
             TableKind::Levels => self.levels.name_of(value),
             TableKind::Categories => self.categories.name_of(value),
+        }
+    }
+
+    /// Whether a primary record of the table declares that value.
+    pub fn declares(&self, table: TableKind, value: u32) -> bool
+        ensures { result ≡ is_some (name_in self.now table value) }
+    {
+        match table {
+            TableKind::Commons => self.commons.declares(value),
+            TableKind::Classes => self.classes.declares(value),
+            TableKind::Roles => self.roles.declares(value),
+            TableKind::Types => self.types.declares(value),
+            TableKind::Users => self.users.declares(value),
+            TableKind::Booleans => self.booleans.declares(value),
+            TableKind::Levels => self.levels.declares(value),
+            TableKind::Categories => self.categories.declares(value),
         }
     }
 
@@ -221,6 +237,10 @@ impl<'a> Names for Symbols<'a> {
 
     fn name(&self, table: TableKind, value: u32) -> Option<&[u8]> {
         self.name_of(table, value)
+    }
+
+    fn declares(&self, table: TableKind, value: u32) -> bool {
+        self.declares(table, value)
     }
 }
 

@@ -1,6 +1,6 @@
 -- What the searches through the records of a table find.
-use Rattle.std.proofs.Common.{inl, inr, ◌⊎◌, ◌≡◌, ℕ, zero, suc, ◌<◌, ◌≤◌, Bool, true, false, cond, List, [], ◌∷◌, Some, None, length, get_or, slice_get, refl, sym, ap, subst, ◌∙◌, ltb, arith}
-use Rattle.std.specs.Prelude.{option_map}
+use Rattle.std.proofs.Common.{inl, inr, ◌⊎◌, ◌≡◌, ℕ, zero, suc, ◌<◌, ◌≤◌, Bool, true, false, cond, List, [], ◌∷◌, Option, Some, None, length, get_or, slice_get, refl, sym, ap, subst, ◌∙◌, ltb, arith}
+use Rattle.std.specs.Prelude.{is_some, option_map}
 use Rattle.std.specs.List.{find, position, position_or_len}
 use Rattle.std.proofs.lemmas.Bool.{ltb-true, ltb-false, lt-ltb, le-ltb, cases_order}
 use Rattle.std.proofs.lemmas.Option.{cond_some, slice_get_past, get_or_from_slice_get, slice_get_within, slice_get-get_or, slice_get-map}
@@ -94,6 +94,14 @@ module _ {A : Type 0} (name_of : A → List ℕ) (is_primary : A → Bool) (valu
   pub primary_name_none : (value : ℕ) → primary_index is_primary value_of records value ≡ None → primary_name name_of is_primary value_of records value ≡ None
   unfolding primary_index primary_name
   primary_name_none value e = ap (option_map (λ (r : Placed A). name_of r.value)) (nothing_found (declares is_primary value_of value) records e)
+
+  -- a value is declared exactly where its record has a place
+  declared_so : (value : ℕ) (place : Option ℕ) → primary_index is_primary value_of records value ≡ place → is_some place ≡ is_some (primary_name name_of is_primary value_of records value)
+  declared_so value (Some i) e = let at = place_of records i (primary_within value i e) in rw (primary_name_at value i at.0 e at.1) refl
+  declared_so value None e = rw (primary_name_none value e) refl
+
+  pub primary_declared : (value : ℕ) → is_some (primary_index is_primary value_of records value) ≡ is_some (primary_name name_of is_primary value_of records value)
+  primary_declared value = declared_so value (primary_index is_primary value_of records value) refl
 
   -- the rank of a value, in the list of ranks by record
   pub rank_within : (ranks : List ℕ) → HasRanks name_of is_primary records ranks → (value : ℕ) (i : ℕ) → primary_index is_primary value_of records value ≡ Some i → i < length ranks

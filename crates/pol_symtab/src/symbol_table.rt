@@ -1,4 +1,4 @@
-ghost use Rattle.std.specs.Prelude.{◌≡◌, ◌<◌, ◌≤◌, Some, IfOk, option_map, slice_get, length};
+ghost use Rattle.std.specs.Prelude.{◌≡◌, ◌<◌, ◌≤◌, Some, IfOk, is_some, option_map, slice_get, length};
 ghost use Rattle.pol_cursor.specs.Outcome.{Yields};
 ghost use Rattle.pol_cursor.specs.Contexts.{context_after};
 ghost use Rattle.pol_cursor.specs.References.{values_of, AreDeclared, references_in};
@@ -129,6 +129,14 @@ where
             Some(i) => Some(K::name(&self.view(i))),
             None => None,
         }
+    }
+
+    /// Whether a primary record declares that value.
+    #[tactic(auto, using(crate::proofs::Searches::primary_declared))]
+    pub fn declares(&self, value: u32) -> bool
+        ensures { result ≡ is_some (primary_name K.name_of K.is_primary K.value_of self.now.records value) }
+    {
+        self.by_value(value).is_some()
     }
 
     /// How many primary names of the table are below the name of that value, in the order of their bytes. `None` exactly where
