@@ -3,3 +3,4 @@ pub mod AvReading
 pub mod HeldNumbers
 pub mod AvLaws
 pub mod KeyWords
+pub mod DeclaredEnds

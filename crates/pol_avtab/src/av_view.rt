@@ -1,6 +1,7 @@
-ghost use Rattle.std.specs.Prelude.{◌≡◌, ◌+◌, ◌≤◌, true, IfOk, OnOk, Ok, Some, None, option_map, is_some, not, length, if◌then◌else◌};
+ghost use Rattle.std.specs.Prelude.{◌≡◌, ◌+◌, ◌≤◌, ◌&&◌, true, IfOk, OnOk, Ok, Some, None, option_map, is_some, not, length, if◌then◌else◌};
 ghost use Rattle.pol_cursor.specs.Outcome.{Answers};
 ghost use Rattle.pol_cursor.specs.References.{dangling_of};
+ghost use Rattle.pol_cursor.specs.declared.TableKind.TheVariants.{Types, Classes};
 ghost use Rattle.pol_avtab.specs.AvKeys.{key_of, has_key};
 ghost use Rattle.pol_avtab.specs.AvRecord.{is_extended, extended_at, part_at, av_at, av_in, part_in, av_length, av_end, HasAv, av_references, part_references, is_default};
 ghost use Rattle.pol_avtab.specs.XPerms.{mask_of, xperms_of};
@@ -65,6 +66,7 @@ impl<'a> AvView<'a> {
     }
 
     /// The value of the source, a type or an attribute.
+    #[inline(always)]
     pub fn source(&self) -> u16
         ensures { result ≡ self.now.value.source }
     {
@@ -72,6 +74,7 @@ impl<'a> AvView<'a> {
     }
 
     /// The value of the target, a type or an attribute.
+    #[inline(always)]
     pub fn target(&self) -> u16
         ensures { result ≡ self.now.value.target }
     {
@@ -79,6 +82,7 @@ impl<'a> AvView<'a> {
     }
 
     /// The value of the class.
+    #[inline(always)]
     pub fn class(&self) -> u16
         ensures { result ≡ self.now.value.class }
     {
@@ -86,6 +90,7 @@ impl<'a> AvView<'a> {
     }
 
     /// The kind of the rule, and the mark 0x8000, which has no meaning.
+    #[inline(always)]
     pub fn specified(&self) -> u16
         ensures { result ≡ self.now.value.specified }
     {
@@ -93,6 +98,7 @@ impl<'a> AvView<'a> {
     }
 
     /// What tells it from the other rules of a table.
+    #[inline(always)]
     pub fn key(&self) -> AvKey
         ensures { result ≡ key_of self.now.value }
     {
@@ -153,10 +159,13 @@ impl<'a> AvView<'a> {
     }
 
     /// The first of source, target, class and default type that no primary record declares, as a fault at its field.
-    #[tactic(auto, using(pol_cursor::proofs::DanglingLists::dangling_none, pol_cursor::proofs::DanglingLists::undeclared_first))]
+    #[tactic(auto, using(pol_cursor::proofs::DanglingLists::dangling_none, pol_cursor::proofs::DanglingLists::undeclared_first, crate::proofs::DeclaredEnds::ends_declared))]
     pub fn dangling<N: Names>(&self, names: &N) -> Option<Fault>
         ensures { result ≡ dangling_of (N.named names.now) (av_references self.now) }
     {
+        if self.has_declared_ends(names) {
+            return self.dangling_default(names);
+        }
         let place = self.place;
         let mentions = [
             Mention::new(AV, 1, place, TableKind::Types, self.source() as u32),
@@ -167,6 +176,16 @@ impl<'a> AvView<'a> {
             Some(fault) => Some(fault),
             None => self.dangling_default(names),
         }
+    }
+
+    // Whether primary records declare its source, its target and its class, as in nearly all rules.
+    #[inline(always)]
+    fn has_declared_ends<N: Names>(&self, names: &N) -> bool
+        ensures { result ≡ (is_some (N.named names.now Types self.now.value.source) && is_some (N.named names.now Types self.now.value.target) && is_some (N.named names.now Classes self.now.value.class)) }
+    {
+        names.declares(TableKind::Types, self.source() as u32)
+            && names.declares(TableKind::Types, self.target() as u32)
+            && names.declares(TableKind::Classes, self.class() as u32)
     }
 
     // The default type, where the data is one that no primary record declares.
