@@ -1,10 +1,12 @@
 -- Rules whose keys differ are read behind each other as each is read by itself.
-use Rattle.std.proofs.Common.{◌≡◌, ℕ, zero, suc, ◌+◌, Bool, true, false, true≢false, inl, inr, Option, Some, None, List, [], ◌∷◌, ◌++◌, length, map, refl, sym, ap, subst, ◌∙◌, arith}
-use Rattle.std.specs.Prelude.{◌==◌, ◌&&◌, ◌||◌, not, cond, nat_lt, if◌then◌else◌}
+use Rattle.std.proofs.Common.{◌≡◌, ℕ, zero, suc, ◌+◌, Bool, true, false, true≢false, inl, inr, Option, Some, None, List, [], ◌∷◌, ◌++◌, length, map, take, refl, sym, ap, subst, ◌∙◌, arith}
+use Rattle.std.specs.Prelude.{◌==◌, ◌&&◌, ◌||◌, not, cond, nat_lt, slice_get, if◌then◌else◌}
 use Rattle.std.specs.List.{filter, list_any, AllByRecursion, AllAdjacentBelow, IsDistinct}
 use Rattle.std.specs.List.Sorted.{IsPermutation}
 use Rattle.std.proofs.lemmas.Bool.{eqb-true, eq-eqb, ne_eqb, ltb-true}
 use Rattle.std.proofs.lemmas.Bool.Decides.{eqb_tells}
+use Rattle.std.proofs.lemmas.List.{take_more}
+use Rattle.std.proofs.lemmas.Option.{get_or_from_slice_get, slice_get_within}
 use Rattle.std.proofs.lemmas.List.Folds.{list_any-append}
 use Rattle.std.proofs.lemmas.List.Sorted.{IsPermutation-sym}
 use Rattle.std.proofs.lemmas.Map.Keys.{IsDistinct-from_apart, IsDistinct-IsPermutation, sorted_from_strictly_increasing, below_from_sorted}
@@ -239,3 +241,6 @@ words_pushed false [] rule kind = rw kind refl
 words_pushed extended (r ∷ rs) rule kind =
     word_front (not (is_extended (key_of r.value).specified)) (key_of r.value) (filter (λ (key : AvKey). not (is_extended key.specified)) (map (λ (rule : Placed AvRec). key_of rule.value) (rs ++ rule ∷ [])))
     (filter (λ (key : AvKey). not (is_extended key.specified)) (map (λ (rule : Placed AvRec). key_of rule.value) rs)) _ (words_pushed extended rs rule kind)
+
+pub rule_more : (rules : List (Placed AvRec)) (i : ℕ) (rule : Placed AvRec) → slice_get rules i ≡ Some rule → take (i + 1) rules ≡ take i rules ++ rule ∷ []
+rule_more rules i rule e = take_more rules i rule (slice_get_within rules i rule e) ∙ ap (λ (r : Placed AvRec). take i rules ++ r ∷ []) (get_or_from_slice_get rules i rule rule e)

@@ -3,4 +3,5 @@ pub mod AvReading
 pub mod HeldNumbers
 pub mod AvLaws
 pub mod KeyWords
+pub mod SharedWords
 pub mod DeclaredEnds

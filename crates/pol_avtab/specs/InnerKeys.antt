@@ -1,6 +1,7 @@
 -- How the code finds a rule that has the key of an earlier one. Nothing here is promised to a caller.
-use Rattle.std.specs.Prelude.{◌≡◌, ℕ, Bool, not, Option, Some, None, List, [], map, if◌then◌else◌}
-use Rattle.std.specs.List.{filter}
+use Rattle.std.specs.Prelude.{◌≡◌, ℕ, ◌+◌, ◌-◌, ◌*◌, ◌/◌, ◌%◌, ◌^◌, ◌≤◌, ◌==◌, Bool, true, not, Option, Some, None, List, [], ◌∷◌, map, length, slice_index, if◌then◌else◌}
+use Rattle.std.specs.List.{filter, Contains}
+use Rattle.std.specs.Int.{bit_at}
 use Rattle.pol_cursor.specs.Outcome.{Reader, Position, Got}
 use Rattle.pol_cursor.specs.Contexts.{records_after}
 use Rattle.pol_cursor.specs.References.{Placed}
@@ -33,6 +34,44 @@ rules_behind version collects n = records_after rule_behind after_collecting n (
 -- the keys of the rules that are not extended, as words
 abbrev pub words_of : List (Placed AvRec) → List ℕ
 words_of rules = map word_of (filter (λ key. not (is_extended key.specified)) (map (λ rule. key_of rule.value) rules))
+
+-- ---- marks of words, by two bits for each bucket
+
+-- the bit of a place, of which each number has 64
+unfoldable pub has_bit_of : List ℕ → ℕ → Bool
+has_bit_of bits place = bit_at (slice_index bits (place / 64)) (place % 64) == 1
+
+pub record Marks : Type 0 where
+  pub shift : ℕ
+  pub bits : List ℕ
+
+-- There are 2 ^ (64 - shift) buckets.
+pub record HasBuckets (shift : ℕ) (bits : List ℕ) : Type 0 where
+  pub least : 1 ≤ shift
+  pub most : shift ≤ 58
+  pub long : length bits ≡ 2 ^ (59 - shift)
+
+-- Any function would do: the high bits of a product spread words that are like each other.
+unfoldable pub bucket_of : ℕ → ℕ → ℕ
+bucket_of shift word = word * 0x9E3779B97F4A7C15 % 2 ^ 64 / 2 ^ shift
+
+-- whether a word of its bucket was met
+unfoldable pub is_met : Marks → ℕ → Bool
+is_met marks word = has_bit_of marks.bits (2 * bucket_of marks.shift word)
+
+-- whether one was met again
+unfoldable pub is_shared : Marks → ℕ → Bool
+is_shared marks word = has_bit_of marks.bits (2 * bucket_of marks.shift word + 1)
+
+-- The test passes for each word that stands again behind it.
+abbrev pub AreTested : (ℕ → Bool) → List ℕ → Type 0
+AreTested test [] = Unit {0}
+AreTested test (word ∷ words) = (Contains words word → test word ≡ true) × AreTested test words
+
+-- The words were met, and the buckets of those that are there twice are shared.
+pub record AreMarked (marks : Marks) (words : List ℕ) : Type 0 where
+  pub met : (word : ℕ) → Contains words word → is_met marks word ≡ true
+  pub twice : AreTested (is_shared marks) words
 
 -- what was found is what the reader gives, with the cursor behind it
 abbrev pub IsRead : {A : Type 0} → Reader A → Option A → Position → Position → Type 0

@@ -1,12 +1,14 @@
-ghost use Rattle.std.specs.Prelude.{◌≡◌, ◌==◌, true, IfOk};
-ghost use Rattle.std.specs.List.{IsDistinct};
+ghost use Rattle.std.specs.Prelude.{◌≡◌, ◌==◌, ◌<◌, ◌+◌, ◌++◌, true, IfOk, length, take};
+ghost use Rattle.std.specs.List.{IsDistinct, filter};
+ghost use Rattle.std.specs.Option.{option_to_list};
 ghost use Rattle.pol_cursor.specs.Outcome.{Yields};
 ghost use Rattle.pol_avtab.specs.AvTables.{placed_rules_at, table_at};
-ghost use Rattle.pol_avtab.specs.InnerKeys.{rules_behind, words_of, IsRead};
+ghost use Rattle.pol_avtab.specs.InnerKeys.{rules_behind, words_of, AreMarked, is_shared, IsRead};
 
 use crate::av_keys::AvKeys;
 use crate::av_kind::{Av, AvContext};
 use crate::causes::is_extended;
+use crate::word_marks::WordMarks;
 use pol_cursor::{Cursor, Field, ReadError, Records, read_records_after};
 use std::alloc::{AllocError, Global};
 
@@ -75,25 +77,58 @@ fn read_rules<'a>(
     Ok(read_records_after(alloc, c, n, context)?.0)
 }
 
-// Whether no two rules have the same key, but for extended ones.
+// Whether no two rules have the same key, but for extended ones. Equal words share a bucket, so only those of the shared ones are
+// sorted, which are few unless the policy is made for it.
 fn are_distinct(alloc: Global, table: &AvTable<'_>) -> Result<bool, AllocError>
     ensures { IfOk result (λ distinct. distinct ≡ true → IsDistinct ◌==◌ (words_of table.now)) }
 {
-    let mut words = words_of(alloc, table)?;
+    let marks = mark_words(alloc, table)?;
+    let mut words = shared_words(alloc, table, &marks)?;
     words.sort_unstable();
     Ok(words.is_sorted_by(|word, next| word < next))
 }
 
-// The keys of the rules that are not extended, as words, in their order.
-fn words_of(alloc: Global, table: &AvTable<'_>) -> Result<Vec<u64>, AllocError>
-    ensures { IfOk result (λ words. words.items ≡ words_of table.now) }
+// The marks of the keys of all rules.
+fn mark_words(alloc: Global, table: &AvTable<'_>) -> Result<WordMarks, AllocError>
+    ensures { IfOk result (λ marks. AreMarked marks (words_of table.now)) }
 {
-    let mut words = Vec::with_capacity(alloc, table.len() as usize)?;
+    let mut marks = WordMarks::new(alloc, table.len())?;
     for i in 0..table.len() {
-        let key = table.view(i).key();
-        if !is_extended(key.specified) {
-            words.push(key.word())?;
+        if let Some(word) = word_at(table, i) {
+            marks.meet(word);
+        }
+    }
+    Ok(marks)
+}
+
+// The keys whose buckets are shared, as words, in their order.
+fn shared_words(
+    alloc: Global,
+    table: &AvTable<'_>,
+    marks: &WordMarks,
+) -> Result<Vec<u64>, AllocError>
+    ensures { IfOk result (λ words. words.items ≡ filter (is_shared marks.now) (words_of table.now)) }
+{
+    let mut words = Vec::new(alloc);
+    for i in 0..table.len() {
+        if let Some(word) = word_at(table, i) {
+            if marks.is_shared(word) {
+                words.push(word)?;
+            }
         }
     }
     Ok(words)
+}
+
+// The key of a rule as a word, and `None` where it is extended.
+fn word_at(table: &AvTable<'_>, i: u32) -> Option<u64>
+    requires { i < length table.now }
+    ensures { words_of (take (i + 1) table.now) ≡ words_of (take i table.now) ++ option_to_list result }
+{
+    let key = table.view(i).key();
+    if is_extended(key.specified) {
+        None
+    } else {
+        Some(key.word())
+    }
 }

@@ -11,6 +11,7 @@ mod av_write;
 mod causes;
 mod parts;
 mod record_laws;
+mod word_marks;
 mod xnumbers;
 mod xperms;
 

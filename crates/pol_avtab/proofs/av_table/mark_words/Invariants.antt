@@ -1,0 +1,6 @@
+use Rattle.std.proofs.Common.{take}
+use Rattle.pol_avtab.specs.InnerKeys.{words_of, AreMarked}
+use Rattle.pol_avtab.proofs.av_table.mark_words.Given as goal
+
+abbrev pub invariant-loop-i : goal.invariant-loop-i
+invariant-loop-i l = AreMarked l.marks (words_of (take l.i l.table))

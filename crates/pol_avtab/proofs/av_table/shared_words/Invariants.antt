@@ -1,0 +1,7 @@
+use Rattle.std.proofs.Common.{◌≡◌, take}
+use Rattle.std.specs.List.{filter}
+use Rattle.pol_avtab.specs.InnerKeys.{words_of, is_shared}
+use Rattle.pol_avtab.proofs.av_table.shared_words.Given as goal
+
+abbrev pub invariant-loop-i : goal.invariant-loop-i
+invariant-loop-i l = l.words.items ≡ filter (is_shared l.marks) (words_of (take l.i l.table))

@@ -1,0 +1,79 @@
+ghost use Rattle.std.specs.Prelude.{◌≡◌, ◌+◌, ◌*◌, ◌<◌, ◌||◌, ◌==◌, ℕ, true, length};
+ghost use Rattle.pol_avtab.specs.InnerKeys.{has_bit_of, bucket_of, is_met, is_shared};
+
+use std::alloc::{AllocError, Global};
+use std::marker::Model;
+
+/// Which words were met, by two bits for each bucket: the first where a word of the bucket was met, the second where one was met
+/// again, be it the same or another. Contracts see the bits.
+#[derive(Drop)]
+pub struct WordMarks {
+    // A bucket is the high bits of a product, without the lowest ones, which are so many.
+    shift: u32,
+    bits: Vec<u64>,
+}
+
+impl Model for WordMarks {
+    ghost use Rattle.pol_avtab.specs.InnerKeys.{Marks, HasBuckets};
+
+    ghost Value = { Marks };
+
+    ghost view = { λ m. record { shift = m.shift; bits = m.bits.items } };
+
+    ghost invariant = { λ m. HasBuckets m.shift m.bits.items };
+}
+
+impl WordMarks {
+    /// None yet. There are at least four buckets for each of so many words, so that few share one.
+    pub fn new(alloc: Global, words: u32) -> Result<WordMarks, AllocError> {
+        let shift = (4 * words as u64).leading_zeros().min(58);
+        let bits = vec![in alloc; 0; 1 << (59 - shift)]?;
+        Ok(WordMarks { shift, bits })
+    }
+
+    /// Marks the bucket of a word as met, or, where it is already, as shared.
+    pub fn meet(&mut self, word: u64)
+        ensures met { is_met self.new word ≡ true }
+        ensures again { is_met self.old word ≡ true → is_shared self.new word ≡ true }
+        ensures stay_met { (other : ℕ) → is_met self.old other ≡ true → is_met self.new other ≡ true }
+        ensures stay_shared { (other : ℕ) → is_shared self.old other ≡ true → is_shared self.new other ≡ true }
+    {
+        let place = self.place_of(word);
+        if has_bit(&self.bits, place) {
+            set_bit(&mut self.bits, place + 1);
+        } else {
+            set_bit(&mut self.bits, place);
+        }
+    }
+
+    /// Whether the bucket of a word is shared.
+    pub fn is_shared(&self, word: u64) -> bool
+        ensures { result ≡ is_shared self.now word }
+    {
+        has_bit(&self.bits, self.place_of(word) + 1)
+    }
+
+    // The place of the first bit of a word's bucket. The factor spreads the words, whose parts are small numbers.
+    fn place_of(&self, word: u64) -> usize
+        ensures is { result ≡ 2 * bucket_of self.now.shift word }
+        ensures within { result + 1 < 64 * length self.now.bits }
+    {
+        2 * (word.wrapping_mul(0x9E37_79B9_7F4A_7C15) >> self.shift) as usize
+    }
+}
+
+// Whether the bit of a place is set.
+fn has_bit(bits: &[u64], place: usize) -> bool
+    requires { place < 64 * length bits.now }
+    ensures { result ≡ has_bit_of bits.now place }
+{
+    bits[place / 64] >> (place % 64) & 1 == 1
+}
+
+// Sets the bit of a place.
+fn set_bit(bits: &mut [u64], place: usize)
+    requires { place < 64 * length bits.old }
+    ensures { (other : ℕ) → has_bit_of bits.new other ≡ (has_bit_of bits.old other || (place == other)) }
+{
+    bits[place / 64] |= 1 << (place % 64);
+}
