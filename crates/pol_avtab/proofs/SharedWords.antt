@@ -1,12 +1,12 @@
 -- Words are distinct where those of shared buckets are.
-use Rattle.std.proofs.Common.{◌≡◌, ℕ, zero, suc, ◌+◌, ◌-◌, ◌*◌, ◌/◌, ◌%◌, ◌^◌, ◌<◌, ◌≤◌, Bool, true, false, true≢false, inl, inr, List, [], ◌∷◌, ◌++◌, length, get_or, set, refl, sym, ap, subst, ◌∙◌, arith}
+use Rattle.std.proofs.Common.{◌≡◌, ℕ, ◌+◌, ◌-◌, ◌*◌, ◌/◌, ◌%◌, ◌^◌, ◌<◌, ◌≤◌, Bool, true, false, true≢false, ◌⊎◌, inl, inr, List, [], ◌∷◌, ◌++◌, length, get_or, set, replicate, refl, sym, ap, subst, ◌∙◌, arith}
 use Rattle.std.specs.Prelude.{◌==◌, ◌||◌, cond, bit_or}
 use Rattle.std.specs.List.{filter, AllByRecursion, Contains, IsDistinct}
 use Rattle.std.specs.Int.{bit_at, leading_zeros, w64}
-use Rattle.std.proofs.lemmas.Bool.{cases_eq, or_left, or_right, eq-eqb, ne_eqb}
+use Rattle.std.proofs.lemmas.Bool.{cases_eq, cases_lt, or_left, or_right, eq-eqb, ne_eqb}
 use Rattle.std.proofs.lemmas.Nat.{shr_below, pow-add, leading_length}
-use Rattle.std.proofs.lemmas.Nat.Bits.{bit_at_set_same, bit_at_set_other}
-use Rattle.std.proofs.lemmas.List.{get_or-set_same, get_or-set_other}
+use Rattle.std.proofs.lemmas.Nat.Bits.{bit_at-zero, bit_at_set_same, bit_at_set_other}
+use Rattle.std.proofs.lemmas.List.{get_or-set_same, get_or-set_other, get_or-replicate, get_or_past, length-replicate}
 use Rattle.std.proofs.lemmas.List.Elements.{Contains-append_right, Contains-append_cases}
 use Rattle.pol_bitmap.proofs.Elements.{contains_nothing, contains_one, contains_first, keeps}
 use Rattle.pol_bitmap.proofs.Merging.{or_nothing}
@@ -97,6 +97,24 @@ bit_set bits place other lt =
           ∙ sym (ap (λ (b : Bool). (bit_at (get_or bits (other / 64) 0) (other % 64) == 1) || b) (ne_eqb place other (λ e. differs (sym e))) ∙ or_nothing _)
     ]
 
+none_set : (count place : ℕ) → has_bit_of (replicate count 0) place ≡ false
+unfolding has_bit_of
+none_set count place =
+    let nothing : get_or (replicate count 0) (place / 64) 0 ≡ 0 = elim (cases_lt (place / 64) count) [
+      | inl lt ↦ get_or-replicate count (place / 64) 0 0 lt
+      | inr le ↦ get_or_past (replicate count 0) (place / 64) 0 (omega (arith, le, length-replicate {A = ℕ} count 0))
+    ] in
+    ap (λ (w : ℕ). bit_at w (place % 64) == 1) nothing ∙ ap (λ (b : ℕ). b == 1) (bit_at-zero (place % 64))
+
+-- no word was met yet
+pub none_met : (shift count word : ℕ) → is_met (record { shift = shift; bits = replicate count 0 }) word ≡ false
+unfolding is_met
+none_met shift count word = none_set count (2 * bucket_of shift word)
+
+pub none_shared : (shift count word : ℕ) → is_shared (record { shift = shift; bits = replicate count 0 }) word ≡ false
+unfolding is_shared
+none_shared shift count word = none_set count (2 * bucket_of shift word + 1)
+
 -- what a word that is met changes
 pub record Meets (marks : Marks) (word : ℕ) (next : Marks) : Type 0 where
   pub met : is_met next word ≡ true
@@ -105,7 +123,7 @@ pub record Meets (marks : Marks) (word : ℕ) (next : Marks) : Type 0 where
   pub stay_shared : (other : ℕ) → is_shared marks other ≡ true → is_shared next other ≡ true
 
 module _ (marks : Marks) (word : ℕ) (bits : List ℕ) where
-  pub meets_again : ((other : ℕ) → has_bit_of bits other ≡ (has_bit_of marks.bits other || (2 * bucket_of marks.shift word + 1 == other))) → is_met marks word ≡ true → Meets marks word (record { shift = marks.shift; bits = bits })
+  meets_again : ((other : ℕ) → has_bit_of bits other ≡ (has_bit_of marks.bits other || (2 * bucket_of marks.shift word + 1 == other))) → is_met marks word ≡ true → Meets marks word (record { shift = marks.shift; bits = bits })
   unfolding is_met is_shared
   meets_again each met =
       let place = 2 * bucket_of marks.shift word + 1 in
@@ -116,7 +134,7 @@ module _ (marks : Marks) (word : ℕ) (bits : List ℕ) where
         stay_shared = λ other e. each _ ∙ or_left _ _ e;
       }
 
-  pub meets_first : ((other : ℕ) → has_bit_of bits other ≡ (has_bit_of marks.bits other || (2 * bucket_of marks.shift word == other))) → is_met marks word ≡ false → Meets marks word (record { shift = marks.shift; bits = bits })
+  meets_first : ((other : ℕ) → has_bit_of bits other ≡ (has_bit_of marks.bits other || (2 * bucket_of marks.shift word == other))) → is_met marks word ≡ false → Meets marks word (record { shift = marks.shift; bits = bits })
   unfolding is_met is_shared
   meets_first each new =
       let place = 2 * bucket_of marks.shift word in
@@ -126,6 +144,12 @@ module _ (marks : Marks) (word : ℕ) (bits : List ℕ) where
         stay_met = λ other e. each _ ∙ or_left _ _ e;
         stay_shared = λ other e. each _ ∙ or_left _ _ e;
       }
+
+  -- the second bit of its bucket is set where the first one is, and else the first
+  pub meets_at : (place : ℕ) → ((other : ℕ) → has_bit_of bits other ≡ (has_bit_of marks.bits other || (place == other)))
+      → ((is_met marks word ≡ true) × (place ≡ 2 * bucket_of marks.shift word + 1)) ⊎ ((is_met marks word ≡ false) × (place ≡ 2 * bucket_of marks.shift word)) → Meets marks word (record { shift = marks.shift; bits = bits })
+  meets_at place each (inl h) = meets_again (λ other. each other ∙ ap (λ (p : ℕ). has_bit_of marks.bits other || (p == other)) h.1) h.0
+  meets_at place each (inr h) = meets_first (λ other. each other ∙ ap (λ (p : ℕ). has_bit_of marks.bits other || (p == other)) h.1) h.0
 
 -- ---- buckets
 

@@ -1,4 +1,4 @@
-ghost use Rattle.std.specs.Prelude.{◌≡◌, ◌+◌, ◌*◌, ◌<◌, ◌||◌, ◌==◌, ℕ, true, length};
+ghost use Rattle.std.specs.Prelude.{◌≡◌, ◌+◌, ◌*◌, ◌<◌, ◌||◌, ◌==◌, ℕ, true, false, IfOk, length};
 ghost use Rattle.pol_avtab.specs.InnerKeys.{has_bit_of, bucket_of, is_met, is_shared};
 
 use std::alloc::{AllocError, Global};
@@ -25,7 +25,10 @@ impl Model for WordMarks {
 
 impl WordMarks {
     /// None yet. There are at least four buckets for each of so many words, so that few share one.
-    pub fn new(alloc: Global, words: u32) -> Result<WordMarks, AllocError> {
+    pub fn new(alloc: Global, words: u32) -> Result<WordMarks, AllocError>
+        ensures met { IfOk result (λ marks. (word : ℕ) → is_met marks word ≡ false) }
+        ensures shared { IfOk result (λ marks. (word : ℕ) → is_shared marks word ≡ false) }
+    {
         let shift = (4 * words as u64).leading_zeros().min(58);
         let bits = vec![in alloc; 0; 1 << (59 - shift)]?;
         Ok(WordMarks { shift, bits })
@@ -38,12 +41,13 @@ impl WordMarks {
         ensures stay_met { (other : ℕ) → is_met self.old other ≡ true → is_met self.new other ≡ true }
         ensures stay_shared { (other : ℕ) → is_shared self.old other ≡ true → is_shared self.new other ≡ true }
     {
-        let place = self.place_of(word);
-        if has_bit(&self.bits, place) {
-            set_bit(&mut self.bits, place + 1);
+        let first = self.place_of(word);
+        let place = if has_bit(&self.bits, first) {
+            first + 1
         } else {
-            set_bit(&mut self.bits, place);
-        }
+            first
+        };
+        set_bit(&mut self.bits, place);
     }
 
     /// Whether the bucket of a word is shared.

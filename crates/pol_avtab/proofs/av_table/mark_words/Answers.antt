@@ -1,4 +1,4 @@
-use Rattle.std.proofs.Common.{◌+◌, take}
+use Rattle.std.proofs.Common.{take}
 use Rattle.std.proofs.lemmas.List.{append-nil}
 use Rattle.pol_avtab.specs.InnerKeys.{words_of}
 use Rattle.pol_avtab.proofs.SharedWords.{marked_more}

@@ -1,8 +1,4 @@
-use Rattle.std.proofs.Common.{◌≡◌, ◌+◌, ◌++◌, ◌∷◌, [], take, true, false, sym, ap, ◌∙◌}
-use Rattle.std.proofs.lemmas.List.{append-nil, take_more}
-use Rattle.std.proofs.lemmas.Option.{get_or_from_slice_get, slice_get_within}
-use Rattle.pol_cursor.specs.References.{Placed}
-use Rattle.pol_avtab.specs.declared.av_rec.AvRec.{AvRec}
+use Rattle.std.proofs.Common.{take, true, false, sym}
 use Rattle.pol_avtab.proofs.KeyWords.{rule_more, words_pushed}
 use Rattle.pol_avtab.proofs.av_table.word_at.Goals as goal
 
