@@ -33,6 +33,7 @@ impl<'a> Policy<'a> {
     /// nor its name is read.
     ///
     /// What they name is declared.
+    #[inline(always)]
     pub fn rule_ends(&self, n: u32) -> RuleEnds
         requires { n < length (stored_rules self.now) }
         ensures is { option_map ends_of (slice_get (stored_rules self.now) n) ≡ Some result }

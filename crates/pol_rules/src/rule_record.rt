@@ -126,6 +126,7 @@ pub fn vector_rule<'a>(view: &AvView<'a>, condition: Option<Condition>) -> Rule<
 }
 
 /// The ends of the rule that an access vector of that key is.
+#[inline(always)]
 pub fn vector_ends(key: AvKey) -> RuleEnds
     ensures { result ≡ record { kind = rule_kind key.specified; source = key.source; target = key.target; class = key.class } }
 {
@@ -138,6 +139,7 @@ pub fn vector_ends(key: AvKey) -> RuleEnds
 }
 
 // The kind of rule that it specifies, without the mark.
+#[inline(always)]
 fn rule_kind(kind: u16) -> RuleKind
     ensures { result ≡ rule_kind kind }
 {

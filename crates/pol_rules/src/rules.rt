@@ -37,6 +37,7 @@ pub fn rule_at<'a>(parts: &Parts<'a>, index: &RuleIndex, n: u32) -> Rule<'a>
 }
 
 /// The ends of that rule. They are found in the same way, and nothing else of the rule is read.
+#[inline(always)]
 pub fn ends_at(parts: &Parts<'_>, index: &RuleIndex, n: u32) -> RuleEnds
     requires index { IsIndexOf parts.now index.now }
     requires rule { n < length (stored_rules parts.now) }
@@ -51,6 +52,7 @@ pub fn ends_at(parts: &Parts<'_>, index: &RuleIndex, n: u32) -> RuleEnds
 
 // The access vector that is the rule of that number.
 #[tactic(auto, using(crate::proofs::RuleSums::get_map, crate::proofs::RuleSums::table_first))]
+#[inline(always)]
 fn vector_at<'a>(parts: &Parts<'a>, n: u32) -> AvView<'a>
     requires { n < length parts.now.rules.table }
     ensures { slice_get (stored_rules parts.now) n ≡ Some (av_rule None result) }
@@ -60,6 +62,7 @@ fn vector_at<'a>(parts: &Parts<'a>, n: u32) -> AvView<'a>
 
 // What the rule of that number is read from.
 #[tactic(auto, using(crate::proofs::RuleSums::total_is, crate::proofs::RuleSums::found, crate::proofs::RuleSums::found_length))]
+#[inline(never)]
 fn record_at<'a>(parts: &Parts<'a>, index: &RuleIndex, n: u32) -> RuleRecord<'a>
     requires index { IsIndexOf parts.now index.now }
     requires rule { n < length (stored_rules parts.now) }

@@ -35,6 +35,7 @@ pub struct Key {
 
 impl Key {
     /// The key of a rule of these ends that has that number.
+    #[inline(always)]
     pub fn of(symbols: &Symbols<'_>, number: u32, ends: RuleEnds) -> Key
         ensures { result ≡ key_of_ends symbols.now number ends }
     {
@@ -48,6 +49,7 @@ impl Key {
     }
 
     /// The key as one word, where its parts are small enough.
+    #[inline(always)]
     pub fn word(&self) -> Option<u64>
         ensures { IfSome result (λ word. key_of_word word ≡ self.now) }
     {

@@ -7,6 +7,7 @@ ghost use Rattle.rule_query.specs.Refusals.{is_any_asked};
 use pol_read::RuleKind;
 
 /// Whether a kind is asked.
+#[inline(always)]
 pub fn is_kind_asked(kinds: &[bool; 12], kind: RuleKind) -> bool
     ensures { result ≡ is_kind_asked kinds.now kind }
 {

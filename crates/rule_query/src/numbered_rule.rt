@@ -28,6 +28,7 @@ impl<'p, 'a> Model for NumberedRule<'p, 'a> {
 
 impl<'p, 'a> NumberedRule<'p, 'a> {
     /// The stored rule of that number. What it names is declared.
+    #[inline(always)]
     pub fn of(policy: &'p Policy<'a>, number: u32) -> NumberedRule<'p, 'a>
         requires { number < length (stored_rules policy.now) }
         ensures is { slice_get (stored_rules policy.now) number ≡ Some result }
@@ -43,6 +44,7 @@ impl<'p, 'a> NumberedRule<'p, 'a> {
     }
 
     /// Its ends, with its kind and its class.
+    #[inline(always)]
     pub fn ends(&self) -> RuleEnds
         ensures { result ≡ ends_of self.now }
     {

@@ -35,6 +35,7 @@ impl Query {
     }
 
     // Whether a rule is of a kind that is asked, and passes all tests.
+    #[inline(always)]
     fn passes(&self, symbols: &Symbols<'_>, rule: &NumberedRule<'_, '_>) -> bool
         ensures { result ≡ passes symbols.now self.now rule.now }
     {
@@ -110,6 +111,7 @@ impl Query {
 }
 
 // Whether a rule passes all tests.
+#[inline(always)]
 fn all_pass(tests: &[Test], symbols: &Symbols<'_>, rule: &NumberedRule<'_, '_>) -> bool
     ensures { result ≡ list_all (rule_test symbols.now rule.now) tests.now }
 {
