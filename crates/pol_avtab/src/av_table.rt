@@ -101,7 +101,7 @@ fn mark_words(alloc: Global, table: &AvTable<'_>) -> Result<WordMarks, AllocErro
     Ok(marks)
 }
 
-// The keys whose buckets are shared, as words, in their order.
+// The keys whose buckets are shared, as words, in their order. A quarter of the rules is room for those of most tables.
 fn shared_words(
     alloc: Global,
     table: &AvTable<'_>,
@@ -109,7 +109,7 @@ fn shared_words(
 ) -> Result<Vec<u64>, AllocError>
     ensures { IfOk result (λ words. words.items ≡ filter (is_shared marks.now) (words_of table.now)) }
 {
-    let mut words = Vec::new(alloc);
+    let mut words = Vec::with_capacity(alloc, table.len() as usize / 4)?;
     for i in 0..table.len() {
         if let Some(word) = word_at(table, i) {
             if marks.is_shared(word) {

@@ -8,7 +8,7 @@ use std::marker::Model;
 /// again, be it the same or another. Contracts see the bits.
 #[derive(Drop)]
 pub struct WordMarks {
-    // A bucket is the high bits of a product, without the lowest ones, which are so many.
+    // How many low bits of a word's product its bucket leaves out.
     shift: u32,
     bits: Vec<u64>,
 }
