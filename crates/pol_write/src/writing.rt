@@ -1,8 +1,9 @@
 ghost use Rattle.std.specs.Prelude.{◌≡◌, ◌++◌, OnOk, OnErr};
 ghost use Rattle.pol_tree.specs.TreeSpelling.{spell};
-ghost use Rattle.pol_write.specs.Soundness.{unsound, unsound_bytes, Judges};
+ghost use Rattle.pol_write.specs.Soundness.{unsound, unsound_bytes, IsSound, Judges};
 
 use crate::errors::{Unsound, WriteError};
+use crate::looking::look_at;
 use pol_cursor::{ReadError, Written};
 use pol_file::read_file;
 use pol_tree::{Tree, wrong_part_of};
@@ -11,17 +12,21 @@ use std::alloc::Global;
 // The greatest number of bytes of a policy: 64 MiB.
 const MOST_BYTES: usize = 67_108_864;
 
-/// Appends the bytes of a tree. The error is the first reason against it: a wrong optional part, too many bytes, or the fault by which
-/// a reader refuses them. Nothing is appended then, nor where memory does not suffice.
-#[tactic(auto, unfolding(crate::specs::Soundness::unsound))]
+/// Appends the bytes of a tree, which is sound then. The error is the first reason against it: a wrong optional part, too many bytes, or
+/// the fault by which a reader refuses them. Nothing is appended then, nor where memory does not suffice.
+#[tactic(auto, unfolding(crate::specs::Soundness::unsound), using(crate::proofs::WrittenTree::written_is_sound))]
 pub fn write(alloc: Global, tree: &Tree, out: &mut Vec<u8>) -> Result<(), WriteError>
     ensures sound { Judges result (unsound tree.now) }
+    ensures whole { OnOk result (IsSound tree.now) }
     ensures ok { OnOk result (out.new.items ≡ out.old.items ++ spell tree.now) }
     ensures err { OnErr result (out.new.items ≡ out.old.items) }
 {
     match wrong_part_of(tree) {
         Some(field) => Err(WriteError::NotSound(Unsound::Shape(field))),
-        None => append(alloc, tree, out),
+        None => {
+            look_at(tree);
+            append(alloc, tree, out)
+        }
     }
 }
 
