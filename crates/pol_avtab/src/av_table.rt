@@ -1,4 +1,4 @@
-ghost use Rattle.std.specs.Prelude.{◌≡◌, ◌==◌, ◌<◌, ◌+◌, ◌++◌, true, IfOk, length, take};
+ghost use Rattle.std.specs.Prelude.{◌≡◌, ◌==◌, ◌<◌, ◌≤◌, ◌+◌, ◌++◌, true, IfOk, length, take};
 ghost use Rattle.std.specs.List.{IsDistinct, filter};
 ghost use Rattle.std.specs.Option.{option_to_list};
 ghost use Rattle.pol_cursor.specs.Outcome.{Yields};
@@ -11,6 +11,9 @@ use crate::causes::is_extended;
 use crate::word_marks::WordMarks;
 use pol_cursor::{Cursor, Field, ReadError, Records, read_records_after};
 use std::alloc::{AllocError, Global};
+
+// How many rules are looked at together: their marks lie far apart, and the processor fetches those of one loop side by side.
+const AT_ONCE: u32 = 128;
 
 /// The table of access vectors. Contracts see the list of them, each with its place.
 pub type AvTable<'a> = Records<'a, Av>;
@@ -93,10 +96,11 @@ fn mark_words(alloc: Global, table: &AvTable<'_>) -> Result<WordMarks, AllocErro
     ensures { IfOk result (λ marks. AreMarked marks (words_of table.now)) }
 {
     let mut marks = WordMarks::new(alloc, table.len())?;
-    for i in 0..table.len() {
-        if let Some(word) = word_at(table, i) {
-            marks.meet(word);
-        }
+    let mut words = Vec::new(alloc);
+    let mut i = 0;
+    while i < table.len() {
+        i = next_words(&mut words, table, i)?;
+        marks.meet_all(&words);
     }
     Ok(marks)
 }
@@ -107,17 +111,32 @@ fn shared_words(
     table: &AvTable<'_>,
     marks: &WordMarks,
 ) -> Result<Vec<u64>, AllocError>
-    ensures { IfOk result (λ words. words.items ≡ filter (is_shared marks.now) (words_of table.now)) }
+    ensures { IfOk result (λ found. found.items ≡ filter (is_shared marks.now) (words_of table.now)) }
 {
-    let mut words = Vec::with_capacity(alloc, table.len() as usize / 4)?;
-    for i in 0..table.len() {
+    let mut found = Vec::with_capacity(alloc, table.len() as usize / 4)?;
+    let mut words = Vec::new(alloc);
+    let mut i = 0;
+    while i < table.len() {
+        i = next_words(&mut words, table, i)?;
+        marks.push_shared(&words, &mut found)?;
+    }
+    Ok(found)
+}
+
+// The keys of the next rules as words, in place of those that are there, and the number of the rule behind them.
+fn next_words(words: &mut Vec<u64>, table: &AvTable<'_>, from: u32) -> Result<u32, AllocError>
+    requires { from < length table.now }
+    ensures further { IfOk result (λ to. (from < to) × (to ≤ length table.now)) }
+    ensures words { IfOk result (λ to. words_of (take to table.now) ≡ words_of (take from table.now) ++ words.new.items) }
+{
+    let to = from + (table.len() - from).min(AT_ONCE);
+    words.clear();
+    for i in from..to {
         if let Some(word) = word_at(table, i) {
-            if marks.is_shared(word) {
-                words.push(word)?;
-            }
+            words.push(word)?;
         }
     }
-    Ok(words)
+    Ok(to)
 }
 
 // The key of a rule as a word, and `None` where it is extended.

@@ -1,5 +1,6 @@
-ghost use Rattle.std.specs.Prelude.{◌≡◌, ◌+◌, ◌*◌, ◌<◌, ◌||◌, ◌==◌, ℕ, true, false, IfOk, length};
-ghost use Rattle.pol_avtab.specs.InnerKeys.{has_bit_of, bucket_of, is_met, is_shared};
+ghost use Rattle.std.specs.Prelude.{◌≡◌, ◌+◌, ◌*◌, ◌<◌, ◌||◌, ◌==◌, ◌++◌, ℕ, List, true, false, IfOk, OnOk, length};
+ghost use Rattle.std.specs.List.{filter};
+ghost use Rattle.pol_avtab.specs.InnerKeys.{has_bit_of, bucket_of, is_met, is_shared, AreMarked};
 
 use std::alloc::{AllocError, Global};
 use std::marker::Model;
@@ -34,8 +35,29 @@ impl WordMarks {
         Ok(WordMarks { shift, bits })
     }
 
-    /// Marks the bucket of a word as met, or, where it is already, as shared.
-    pub fn meet(&mut self, word: u64)
+    /// Marks the buckets of more words.
+    pub fn meet_all(&mut self, words: &[u64])
+        ensures { (before : List ℕ) → AreMarked self.old before → AreMarked self.new (before ++ words.now) }
+    {
+        for word in words {
+            self.meet(*word);
+        }
+    }
+
+    /// Adds those of the words whose buckets are shared.
+    pub fn push_shared(&self, words: &[u64], found: &mut Vec<u64>) -> Result<(), AllocError>
+        ensures { OnOk result (found.new.items ≡ found.old.items ++ filter (is_shared self.now) words.now) }
+    {
+        for word in words {
+            if self.is_shared(*word) {
+                found.push(*word)?;
+            }
+        }
+        Ok(())
+    }
+
+    // Marks the bucket of a word as met, or, where it is already, as shared.
+    fn meet(&mut self, word: u64)
         ensures met { is_met self.new word ≡ true }
         ensures again { is_met self.old word ≡ true → is_shared self.new word ≡ true }
         ensures stay_met { (other : ℕ) → is_met self.old other ≡ true → is_met self.new other ≡ true }
@@ -50,8 +72,8 @@ impl WordMarks {
         set_bit(&mut self.bits, place);
     }
 
-    /// Whether the bucket of a word is shared.
-    pub fn is_shared(&self, word: u64) -> bool
+    // Whether the bucket of a word is shared.
+    fn is_shared(&self, word: u64) -> bool
         ensures { result ≡ is_shared self.now word }
     {
         has_bit(&self.bits, self.place_of(word) + 1)
