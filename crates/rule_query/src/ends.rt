@@ -6,12 +6,12 @@ ghost use Rattle.pol_file.specs.TypeValues.{IsTypeValue};
 ghost use Rattle.pol_expand.specs.PolicyMap.{IsPolicyMap, expand};
 ghost use Rattle.pol_rules.specs.DeclaredRules.{IsDeclaredIn};
 ghost use Rattle.rule_query.specs.Ends.{is_meant, meets_type, expands_to};
-ghost use Rattle.rule_query.specs.Tests.{AreEnds, AreMeant, HasPattern, is_asked_name, is_asked_type};
+ghost use Rattle.rule_query.specs.Tests.{AreEnds, AreMeant, HasPattern, IsMapIfMade, is_asked_name, is_asked_type};
 
 use named_values::{values_found, values_named};
 use pol_bitmap::Set;
 use pol_cursor::TableKind;
-use pol_expand::TypeMap;
+use pol_expand::{TypeMap, type_map};
 use pol_read::Policy;
 use pol_symbols::Symbols;
 use regex::Regex;
@@ -46,17 +46,18 @@ pub fn has_value(set: &Set, value: u32) -> bool
     set.has(value)
 }
 
-/// The sources, or the targets, that meet a criterion.
+/// The sources, or the targets, that meet a criterion. The map of types is made where it is first asked for.
 pub fn ends_of(
     alloc: Global,
     policy: &Policy<'_>,
-    types: &TypeMap,
+    types: &mut Option<TypeMap>,
     criterion: &Criterion,
     pattern: &Option<Regex>,
 ) -> Result<Ends, AllocError>
-    requires map { IsPolicyMap policy.now types.now }
+    requires map { IsMapIfMade policy.now types.old }
     requires pattern { HasPattern criterion.now pattern.now }
-    ensures { IfOk result (AreEnds policy.now criterion.now) }
+    ensures map { IsMapIfMade policy.now types.new }
+    ensures ends { IfOk result (AreEnds policy.now criterion.now) }
 {
     Ok(Ends {
         types: type_ends(alloc, policy, types, criterion, pattern)?,
@@ -103,17 +104,18 @@ fn meant(
     }
 }
 
-// The types and attributes that meet a criterion.
+// The types and attributes that meet a criterion. Only those that do by what they expand to ask for the map.
 fn type_ends(
     alloc: Global,
     policy: &Policy<'_>,
-    types: &TypeMap,
+    types: &mut Option<TypeMap>,
     criterion: &Criterion,
     pattern: &Option<Regex>,
 ) -> Result<Set, AllocError>
-    requires map { IsPolicyMap policy.now types.now }
+    requires map { IsMapIfMade policy.now types.old }
     requires pattern { HasPattern criterion.now pattern.now }
-    ensures { IfOk result (λ set. (value : ℕ) → IsDeclaredIn policy.now.symbols Types value → has_bit set value ≡ meets_type policy.now criterion.now value) }
+    ensures map { IsMapIfMade policy.now types.new }
+    ensures ends { IfOk result (λ set. (value : ℕ) → IsDeclaredIn policy.now.symbols Types value → has_bit set value ≡ meets_type policy.now criterion.now value) }
 {
     if criterion.mode.is_direct() {
         meant(
@@ -124,7 +126,25 @@ fn type_ends(
             pattern,
         )
     } else {
-        expanding(alloc, policy, types, criterion, pattern)
+        let map = made_map(alloc, policy, types.take())?;
+        let ends = expanding(alloc, policy, &map, criterion, pattern);
+        *types = Some(map);
+        ends
+    }
+}
+
+// The map of a policy's types that was made, or else one that is made here.
+fn made_map(
+    alloc: Global,
+    policy: &Policy<'_>,
+    types: Option<TypeMap>,
+) -> Result<TypeMap, AllocError>
+    requires { IsMapIfMade policy.now types }
+    ensures { IfOk result (IsPolicyMap policy.now) }
+{
+    match types {
+        Some(map) => Ok(map),
+        None => type_map(alloc, policy),
     }
 }
 
