@@ -8,6 +8,7 @@ ghost use Rattle.pol_rules.specs.DeclaredRules.{IsDeclaredIn};
 ghost use Rattle.rule_query.specs.Ends.{is_meant, meets_type, expands_to};
 ghost use Rattle.rule_query.specs.Tests.{AreEnds, AreMeant, HasPattern, IsMapIfMade, is_asked_name, is_asked_type};
 
+use crate::marked_set::MarkedSet;
 use named_values::{values_found, values_named};
 use pol_bitmap::Set;
 use pol_cursor::TableKind;
@@ -21,8 +22,8 @@ use std::alloc::{AllocError, Global};
 /// The values of types, attributes among them, and of roles that an end may have.
 #[derive(Drop)]
 pub struct Ends {
-    pub types: Set,
-    pub roles: Set,
+    pub types: MarkedSet,
+    pub roles: MarkedSet,
 }
 
 impl Ends {
@@ -33,17 +34,10 @@ impl Ends {
         ensures { result ≡ has_end self.now table value }
     {
         match table {
-            TableKind::Roles => has_value(&self.roles, value),
-            _ => has_value(&self.types, value),
+            TableKind::Roles => self.roles.has(value),
+            _ => self.types.has(value),
         }
     }
-}
-
-/// Whether a set has a value.
-pub fn has_value(set: &Set, value: u32) -> bool
-    ensures { result ≡ has_bit set.now value }
-{
-    set.has(value)
 }
 
 /// The sources, or the targets, that meet a criterion. The map of types is made where it is first asked for.
@@ -59,15 +53,17 @@ pub fn ends_of(
     ensures map { IsMapIfMade policy.now types.new }
     ensures ends { IfOk result (AreEnds policy.now criterion.now) }
 {
+    let of_types = type_ends(alloc, policy, types, criterion, pattern)?;
+    let of_roles = meant(
+        alloc,
+        policy.symbols(),
+        TableKind::Roles,
+        criterion,
+        pattern,
+    )?;
     Ok(Ends {
-        types: type_ends(alloc, policy, types, criterion, pattern)?,
-        roles: meant(
-            alloc,
-            policy.symbols(),
-            TableKind::Roles,
-            criterion,
-            pattern,
-        )?,
+        types: MarkedSet::of(alloc, of_types)?,
+        roles: MarkedSet::of(alloc, of_roles)?,
     })
 }
 
@@ -81,9 +77,11 @@ pub fn defaults(
     requires { HasPattern criterion.now pattern.now }
     ensures { IfOk result (AreMeant symbols.now criterion.now) }
 {
+    let of_types = meant(alloc, symbols, TableKind::Types, criterion, pattern)?;
+    let of_roles = meant(alloc, symbols, TableKind::Roles, criterion, pattern)?;
     Ok(Ends {
-        types: meant(alloc, symbols, TableKind::Types, criterion, pattern)?,
-        roles: meant(alloc, symbols, TableKind::Roles, criterion, pattern)?,
+        types: MarkedSet::of(alloc, of_types)?,
+        roles: MarkedSet::of(alloc, of_roles)?,
     })
 }
 

@@ -61,7 +61,7 @@ impl Query {
     {
         for test in &self.tests {
             if let Test::Source(ends) = test {
-                return Some(&ends.types);
+                return Some(ends.types.set());
             }
         }
         None
@@ -73,7 +73,7 @@ impl Query {
     {
         for test in &self.tests {
             if let Test::Target(ends) = test {
-                return Some(&ends.types);
+                return Some(ends.types.set());
             }
         }
         None
