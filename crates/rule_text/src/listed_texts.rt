@@ -99,7 +99,13 @@ fn push_given<'a>(
 {
     match rule.part {
         RulePart::Perms(mask) => push_kept(buffer, texts, slots, rule, GivenNumber::Perms(mask)),
-        RulePart::Default(value) => push_kept(buffer, texts, slots, rule, GivenNumber::Default(value)),
+        RulePart::Default(value) => push_kept(
+            buffer,
+            texts,
+            slots,
+            rule,
+            GivenNumber::Default(value),
+        ),
         _ => texts.push_given(buffer, rule),
     }
 }
