@@ -66,7 +66,6 @@ impl<'a> AvView<'a> {
     }
 
     /// The value of the source, a type or an attribute.
-    #[inline(always)]
     pub fn source(&self) -> u16
         ensures { result ≡ self.now.value.source }
     {
@@ -74,7 +73,6 @@ impl<'a> AvView<'a> {
     }
 
     /// The value of the target, a type or an attribute.
-    #[inline(always)]
     pub fn target(&self) -> u16
         ensures { result ≡ self.now.value.target }
     {
@@ -82,7 +80,6 @@ impl<'a> AvView<'a> {
     }
 
     /// The value of the class.
-    #[inline(always)]
     pub fn class(&self) -> u16
         ensures { result ≡ self.now.value.class }
     {
@@ -90,7 +87,6 @@ impl<'a> AvView<'a> {
     }
 
     /// The kind of the rule, and the mark 0x8000, which has no meaning.
-    #[inline(always)]
     pub fn specified(&self) -> u16
         ensures { result ≡ self.now.value.specified }
     {
@@ -98,7 +94,6 @@ impl<'a> AvView<'a> {
     }
 
     /// What tells it from the other rules of a table.
-    #[inline(always)]
     pub fn key(&self) -> AvKey
         ensures { result ≡ key_of self.now.value }
     {
@@ -160,6 +155,7 @@ impl<'a> AvView<'a> {
 
     /// The first of source, target, class and default type that no primary record declares, as a fault at its field.
     #[tactic(auto, using(pol_cursor::proofs::DanglingLists::dangling_none, pol_cursor::proofs::DanglingLists::undeclared_first, crate::proofs::DeclaredEnds::ends_declared))]
+    #[inline(always)]
     pub fn dangling<N: Names>(&self, names: &N) -> Option<Fault>
         ensures { result ≡ dangling_of (N.named names.now) (av_references self.now) }
     {
@@ -179,7 +175,6 @@ impl<'a> AvView<'a> {
     }
 
     // Whether primary records declare its source, its target and its class, as in nearly all rules.
-    #[inline(always)]
     fn has_declared_ends<N: Names>(&self, names: &N) -> bool
         ensures { result ≡ (is_some (N.named names.now Types self.now.value.source) && is_some (N.named names.now Types self.now.value.target) && is_some (N.named names.now Classes self.now.value.class)) }
     {

@@ -101,7 +101,6 @@ impl<'a> ClassTable<'a> {
     }
 
     /// Whether a class has that value.
-    #[inline(always)]
     pub fn declares(&self, value: u32) -> bool
         ensures { result ≡ is_some (primary_name (λ class. class.name) (λ class. true) (λ class. class.value) self.now.records value) }
     {

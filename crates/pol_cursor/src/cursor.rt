@@ -59,7 +59,6 @@ impl<'a> Cursor<'a> {
 
     /// The little-endian number in the next byte. `Short` exactly where fewer are left.
     #[tactic(auto, using(crate::proofs::Facts::number_of_string, crate::proofs::Facts::number_of_short))]
-    #[inline(always)]
     pub fn u8(&mut self, field: Field) -> Result<u8, Fault>
         ensures exact { Answers (λ n. n) result (number field 1) self.old self.new }
         ensures err { OnErr result (self.new ≡ self.old) }
@@ -69,7 +68,6 @@ impl<'a> Cursor<'a> {
 
     /// The little-endian number in the next 2 bytes. `Short` exactly where fewer are left.
     #[tactic(auto, using(crate::proofs::Facts::number_of_string, crate::proofs::Facts::number_of_short))]
-    #[inline(always)]
     pub fn u16(&mut self, field: Field) -> Result<u16, Fault>
         ensures exact { Answers (λ n. n) result (number field 2) self.old self.new }
         ensures err { OnErr result (self.new ≡ self.old) }
@@ -79,7 +77,6 @@ impl<'a> Cursor<'a> {
 
     /// The little-endian number in the next 4 bytes. `Short` exactly where fewer are left.
     #[tactic(auto, using(crate::proofs::Facts::number_of_string, crate::proofs::Facts::number_of_short))]
-    #[inline(always)]
     pub fn u32(&mut self, field: Field) -> Result<u32, Fault>
         ensures exact { Answers (λ n. n) result (number field 4) self.old self.new }
         ensures err { OnErr result (self.new ≡ self.old) }
@@ -89,7 +86,6 @@ impl<'a> Cursor<'a> {
 
     /// The little-endian number in the next 8 bytes. `Short` exactly where fewer are left.
     #[tactic(auto, using(crate::proofs::Facts::number_of_string, crate::proofs::Facts::number_of_short))]
-    #[inline(always)]
     pub fn u64(&mut self, field: Field) -> Result<u64, Fault>
         ensures exact { Answers (λ n. n) result (number field 8) self.old self.new }
         ensures err { OnErr result (self.new ≡ self.old) }
@@ -99,7 +95,6 @@ impl<'a> Cursor<'a> {
 
     /// The next n bytes, a part of the buffer. `Short` exactly where fewer are left.
     #[tactic(auto, unfolding(crate::specs::Parts::string))]
-    #[inline(always)]
     pub fn take(&mut self, n: u32, field: Field) -> Result<&'a [u8], Fault>
         ensures exact { Answers (λ part. part.now) result (string field n) self.old self.new }
         ensures err { OnErr result (self.new ≡ self.old) }
@@ -123,7 +118,6 @@ impl<'a> Cursor<'a> {
         Ok(())
     }
 
-    #[cold]
     fn fault(&self, field: Field, cause: Cause) -> Fault
         ensures { result ≡ fault self.now.place field cause }
     {

@@ -21,7 +21,6 @@ pub trait Names {
 }
 
 /// The fault of a reference, where no primary record of its table declares the value that it names.
-#[inline(always)]
 pub fn dangling<N: Names>(
     names: &N,
     place: u32,

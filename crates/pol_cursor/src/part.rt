@@ -31,7 +31,6 @@ impl<'a> Written for Part<'a> {
     ghost spelling = { spell_part };
 
     #[tactic(auto, using(crate::proofs::Writings::gains_nothing))]
-    #[inline(always)]
     fn write(&self, out: &mut Vec<u8>) -> Result<(), AllocError> {
         match *self {
             Part::U8(n) => push_number(out, 1, n),

@@ -10,7 +10,6 @@ use byteorder::{ByteOrder, LittleEndian};
 use std::alloc::AllocError;
 
 #[tactic(auto, unfolding(crate::specs::Parts::num))]
-#[inline(always)]
 pub fn u16_in(bytes: &[u8], place: usize) -> u16
     requires { place + 2 ≤ length bytes.now }
     ensures { result ≡ num bytes.now place 2 }
@@ -19,7 +18,6 @@ pub fn u16_in(bytes: &[u8], place: usize) -> u16
 }
 
 #[tactic(auto, unfolding(crate::specs::Parts::num))]
-#[inline(always)]
 pub fn u32_in(bytes: &[u8], place: usize) -> u32
     requires { place + 4 ≤ length bytes.now }
     ensures { result ≡ num bytes.now place 4 }
@@ -28,7 +26,6 @@ pub fn u32_in(bytes: &[u8], place: usize) -> u32
 }
 
 #[tactic(auto, unfolding(crate::specs::Parts::num))]
-#[inline(always)]
 pub fn u64_in(bytes: &[u8], place: usize) -> u64
     requires { place + 8 ≤ length bytes.now }
     ensures { result ≡ num bytes.now place 8 }
@@ -44,7 +41,6 @@ pub fn string_in(bytes: &[u8], place: usize, n: usize) -> &[u8]
 }
 
 /// Refuses a value where there is a cause.
-#[inline(always)]
 pub fn refuse(cause: Option<Cause>, place: u32, field: Field) -> Result<(), Fault>
     ensures { Judges result cause place field }
 {
@@ -61,7 +57,6 @@ pub fn refuse(cause: Option<Cause>, place: u32, field: Field) -> Result<(), Faul
 /// Appends the lowest bytes of a number, as many as its field is wide, the lowest of them first.
 /// Out of memory, nothing was appended.
 #[tactic(auto, using(crate::proofs::Numbers::first_bytes))]
-#[inline(always)]
 pub fn push_number(out: &mut Vec<u8>, width: usize, n: u64) -> Result<(), AllocError>
     requires { width ≤ 8 }
     ensures ok { OnOk result (out.new.items ≡ out.old.items ++ bytes_of width n) }

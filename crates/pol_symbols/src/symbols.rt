@@ -76,7 +76,6 @@ impl<'a> Symbols<'a> {
     }
 
     /// Whether a primary record of the table declares that value.
-    #[inline(always)]
     pub fn declares(&self, table: TableKind, value: u32) -> bool
         ensures { result ≡ is_some (name_in self.now table value) }
     {
@@ -240,7 +239,6 @@ impl<'a> Names for Symbols<'a> {
         self.name_of(table, value)
     }
 
-    #[inline(always)]
     fn declares(&self, table: TableKind, value: u32) -> bool {
         self.declares(table, value)
     }

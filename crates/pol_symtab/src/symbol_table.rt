@@ -111,7 +111,6 @@ where
     }
 
     /// The place in the list of the primary record of that value. `None` exactly where no primary record declares it.
-    #[inline(always)]
     pub fn by_value(&self, value: u32) -> Option<u32>
         ensures { result ≡ primary_index K.is_primary K.value_of self.now.records value }
     {
@@ -134,7 +133,6 @@ where
 
     /// Whether a primary record declares that value.
     #[tactic(auto, using(crate::proofs::Searches::primary_declared))]
-    #[inline(always)]
     pub fn declares(&self, value: u32) -> bool
         ensures { result ≡ is_some (primary_name K.name_of K.is_primary K.value_of self.now.records value) }
     {
