@@ -1,5 +1,5 @@
 -- The two laws of a bitmap.
-use Rattle.std.proofs.Common.{◌≡◌, ◌<◌, ℕ, zero, suc, ◌+◌, Option, List, [], ◌∷◌, length, None, refl, sym, ap, append_assoc, arith}
+use Rattle.std.proofs.Common.{◌≡◌, ◌<◌, ℕ, zero, suc, ◌+◌, ◌^◌, Option, List, [], ◌∷◌, length, None, refl, sym, ap, append_assoc, arith}
 use Rattle.std.specs.Prelude.{◌==◌}
 use Rattle.std.specs.Int.{bytes_low_first, byte_at}
 use Rattle.std.specs.List.{flat_map, AllByRecursion}
@@ -61,10 +61,10 @@ high_is highbit zero [] e len h = sym (eqb-true _ _ (unless_none _ BadCount e))
 high_is highbit zero (n ∷ ns) e len h = absurd cc
 high_is highbit (suc count) ns e len h = h count refl
 
--- The second law of a bitmap.
-pub bitmap_spelled : (limit : Option ℕ) → IsReadFromSpelling (bitmap_at limit) spell_bitmap BitmapFits
+-- What was read fits, and ends within 32 bits.
+bitmap_read : (limit : Option ℕ) → IsReadFromSpelling (bitmap_at limit) spell_bitmap (λ ns. BitmapFits ns × (high_of ns < 2 ^ 32))
 unfolding bitmap_at nodes_at
-bitmap_spelled limit =
+bitmap_read limit =
     Reads-part (Reads-number_if (field 2 1) 4) λ unit unit-fits.
     Reads-part (Reads-number_if (field 2 2) 4) λ highbit highbit-fits.
     Reads-part (Reads-number_if (field 2 3) 4) λ count count-fits.
@@ -73,8 +73,15 @@ bitmap_spelled limit =
     let is-unit : unit ≡ 64 = eqb-true _ _ (unless_none _ BadMapUnit unit-fits.1) in
     record {
       same = rw (is-unit, high, h.fitting.0, h.same) (simp append_assoc);
-      fitting = record { count = rw h.fitting.0 count-fits.0; nodes = h.fitting.1 };
+      fitting = (record { count = rw h.fitting.0 count-fits.0; nodes = h.fitting.1 }, rw high highbit-fits.0);
     }
+
+-- The second law of a bitmap.
+pub bitmap_spelled : (limit : Option ℕ) → IsReadFromSpelling (bitmap_at limit) spell_bitmap BitmapFits
+bitmap_spelled limit = Reads-as (bitmap_read limit) λ text ns h. record { same = h.same; fitting = h.fitting.0 }
+
+pub bitmap_within : (limit : Option ℕ) → IsReadFromSpelling (bitmap_at limit) spell_bitmap (λ ns. high_of ns < 2 ^ 32)
+bitmap_within limit = Reads-as (bitmap_read limit) λ text ns h. record { same = h.same; fitting = h.fitting.1 }
 
 -- ---- the field of highbit
 
