@@ -125,6 +125,14 @@ pub fn vector_rule<'a>(view: &AvView<'a>, condition: Option<Condition>) -> Rule<
     rule_with(vector_ends(key), part, None, condition)
 }
 
+/// The kind of the rule that an access vector is.
+#[inline(always)]
+pub fn vector_kind(view: &AvView<'_>) -> RuleKind
+    ensures { result ≡ rule_kind (kind_of view.now.value.specified) }
+{
+    rule_kind(view.key().specified)
+}
+
 /// The ends of the rule that an access vector of that key is.
 #[inline(always)]
 pub fn vector_ends(key: AvKey) -> RuleEnds

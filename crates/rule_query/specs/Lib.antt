@@ -1,5 +1,6 @@
 pub mod Given
 pub mod Ends
+pub mod MarkedSets
 pub mod Listed
 pub mod Meeting
 pub mod NumberedRules

@@ -1,5 +1,5 @@
 -- What rules are compared with in place of the names of criteria: sets of values, and tests of permissions and of numbers. It serves the code alone.
-use Rattle.std.specs.Prelude.{◌≡◌, ℕ, Bool, true, false, ◌&&◌, nat_eq, Option, Some, None, List, [], ◌∷◌, if◌then◌else◌}
+use Rattle.std.specs.Prelude.{◌≡◌, ℕ, Bool, true, false, ◌&&◌, nat_eq, Option, Some, None, List, [], ◌∷◌, ⊤, if◌then◌else◌}
 use Rattle.std.specs.List.{list_any, list_all}
 use Rattle.std.specs.Option.{option_or}
 use Rattle.pol_cursor.specs.declared.TableKind.{TableKind}
@@ -9,7 +9,8 @@ use Rattle.pol_bitmap.specs.Nodes.{has_bit}
 use Rattle.pol_symbols.specs.PolicySymbols.{value_in}
 use Rattle.pol_symbols.specs.declared.Symbols.{Symbols}
 use Rattle.pol_file.specs.declared.Parts.{Parts}
-use Rattle.pol_expand.specs.PolicyMap.{expand}
+use Rattle.pol_expand.specs.Expansion.{Expansions}
+use Rattle.pol_expand.specs.PolicyMap.{IsPolicyMap, expand}
 use Rattle.pol_rules.specs.declared.RuleKind.{RuleKind}
 use Rattle.pol_rules.specs.declared.RuleKind.TheVariants.{RoleAllow}
 use Rattle.pol_rules.specs.declared.RulePart.{RulePart}
@@ -46,6 +47,11 @@ HasPatternWord given None = is_pattern_word given ≡ false
 HasPatternWord given (Some pattern) = (is_pattern_word given ≡ true) × IsBuiltFrom given.criterion.text pattern
 
 -- ---- ends
+
+-- the map of a policy's types, where it was made
+abbrev pub IsMapIfMade : Parts → Option Expansions → Type 0
+IsMapIfMade policy None = ⊤
+IsMapIfMade policy (Some map) = IsPolicyMap policy map
 
 abbrev pub has_end : Ends → TableKind → ℕ → Bool
 has_end ends Roles value = has_bit ends.roles value

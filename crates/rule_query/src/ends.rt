@@ -6,12 +6,13 @@ ghost use Rattle.pol_file.specs.TypeValues.{IsTypeValue};
 ghost use Rattle.pol_expand.specs.PolicyMap.{IsPolicyMap, expand};
 ghost use Rattle.pol_rules.specs.DeclaredRules.{IsDeclaredIn};
 ghost use Rattle.rule_query.specs.Ends.{is_meant, meets_type, expands_to};
-ghost use Rattle.rule_query.specs.Tests.{AreEnds, AreMeant, HasPattern, is_asked_name, is_asked_type};
+ghost use Rattle.rule_query.specs.Tests.{AreEnds, AreMeant, HasPattern, IsMapIfMade, is_asked_name, is_asked_type};
 
+use crate::marked_set::MarkedSet;
 use named_values::{values_found, values_named};
 use pol_bitmap::Set;
 use pol_cursor::TableKind;
-use pol_expand::TypeMap;
+use pol_expand::{TypeMap, type_map};
 use pol_read::Policy;
 use pol_symbols::Symbols;
 use regex::Regex;
@@ -21,8 +22,8 @@ use std::alloc::{AllocError, Global};
 /// The values of types, attributes among them, and of roles that an end may have.
 #[derive(Drop)]
 pub struct Ends {
-    pub types: Set,
-    pub roles: Set,
+    pub types: MarkedSet,
+    pub roles: MarkedSet,
 }
 
 impl Ends {
@@ -33,40 +34,36 @@ impl Ends {
         ensures { result ≡ has_end self.now table value }
     {
         match table {
-            TableKind::Roles => has_value(&self.roles, value),
-            _ => has_value(&self.types, value),
+            TableKind::Roles => self.roles.has(value),
+            _ => self.types.has(value),
         }
     }
 }
 
-/// Whether a set has a value.
-pub fn has_value(set: &Set, value: u32) -> bool
-    ensures { result ≡ has_bit set.now value }
-{
-    set.has(value)
-}
-
-/// The sources, or the targets, that meet a criterion.
+/// The sources, or the targets, that meet a criterion. The map of types is made where it is first asked for.
 pub fn ends_of(
     alloc: Global,
     policy: &Policy<'_>,
-    types: &TypeMap,
+    types: &mut Option<TypeMap>,
     criterion: &Criterion,
     pattern: &Option<Regex>,
 ) -> Result<Ends, AllocError>
-    requires map { IsPolicyMap policy.now types.now }
+    requires map { IsMapIfMade policy.now types.old }
     requires pattern { HasPattern criterion.now pattern.now }
-    ensures { IfOk result (AreEnds policy.now criterion.now) }
+    ensures map { IsMapIfMade policy.now types.new }
+    ensures ends { IfOk result (AreEnds policy.now criterion.now) }
 {
+    let of_types = type_ends(alloc, policy, types, criterion, pattern)?;
+    let of_roles = meant(
+        alloc,
+        policy.symbols(),
+        TableKind::Roles,
+        criterion,
+        pattern,
+    )?;
     Ok(Ends {
-        types: type_ends(alloc, policy, types, criterion, pattern)?,
-        roles: meant(
-            alloc,
-            policy.symbols(),
-            TableKind::Roles,
-            criterion,
-            pattern,
-        )?,
+        types: MarkedSet::of(alloc, of_types)?,
+        roles: MarkedSet::of(alloc, of_roles)?,
     })
 }
 
@@ -80,9 +77,11 @@ pub fn defaults(
     requires { HasPattern criterion.now pattern.now }
     ensures { IfOk result (AreMeant symbols.now criterion.now) }
 {
+    let of_types = meant(alloc, symbols, TableKind::Types, criterion, pattern)?;
+    let of_roles = meant(alloc, symbols, TableKind::Roles, criterion, pattern)?;
     Ok(Ends {
-        types: meant(alloc, symbols, TableKind::Types, criterion, pattern)?,
-        roles: meant(alloc, symbols, TableKind::Roles, criterion, pattern)?,
+        types: MarkedSet::of(alloc, of_types)?,
+        roles: MarkedSet::of(alloc, of_roles)?,
     })
 }
 
@@ -103,17 +102,18 @@ fn meant(
     }
 }
 
-// The types and attributes that meet a criterion.
+// The types and attributes that meet a criterion. Only those that do by what they expand to ask for the map.
 fn type_ends(
     alloc: Global,
     policy: &Policy<'_>,
-    types: &TypeMap,
+    types: &mut Option<TypeMap>,
     criterion: &Criterion,
     pattern: &Option<Regex>,
 ) -> Result<Set, AllocError>
-    requires map { IsPolicyMap policy.now types.now }
+    requires map { IsMapIfMade policy.now types.old }
     requires pattern { HasPattern criterion.now pattern.now }
-    ensures { IfOk result (λ set. (value : ℕ) → IsDeclaredIn policy.now.symbols Types value → has_bit set value ≡ meets_type policy.now criterion.now value) }
+    ensures map { IsMapIfMade policy.now types.new }
+    ensures ends { IfOk result (λ set. (value : ℕ) → IsDeclaredIn policy.now.symbols Types value → has_bit set value ≡ meets_type policy.now criterion.now value) }
 {
     if criterion.mode.is_direct() {
         meant(
@@ -124,7 +124,25 @@ fn type_ends(
             pattern,
         )
     } else {
-        expanding(alloc, policy, types, criterion, pattern)
+        let map = made_map(alloc, policy, types.take())?;
+        let ends = expanding(alloc, policy, &map, criterion, pattern);
+        *types = Some(map);
+        ends
+    }
+}
+
+// The map of a policy's types that was made, or else one that is made here.
+fn made_map(
+    alloc: Global,
+    policy: &Policy<'_>,
+    types: Option<TypeMap>,
+) -> Result<TypeMap, AllocError>
+    requires { IsMapIfMade policy.now types }
+    ensures { IfOk result (IsPolicyMap policy.now) }
+{
+    match types {
+        Some(map) => Ok(map),
+        None => type_map(alloc, policy),
     }
 }
 

@@ -8,6 +8,7 @@ mod ends;
 mod given;
 mod kinds;
 mod listed;
+mod marked_set;
 mod numbered_rule;
 mod query;
 mod refusing;

@@ -1,4 +1,4 @@
-ghost use Rattle.std.specs.Prelude.{◌≡◌, ◌<◌, ◌-◌, ◌∷◌, [], ◌++◌, IfOk, OnOk, if◌then◌else◌, length, option_map};
+ghost use Rattle.std.specs.Prelude.{◌≡◌, ◌<◌, ◌-◌, ◌∷◌, [], ◌++◌, false, IfOk, OnOk, if◌then◌else◌, length, option_map};
 ghost use Rattle.std.specs.List.{find, list_all, range_with_len};
 ghost use Rattle.pol_rules.specs.StoredRules.{stored_rules};
 ghost use Rattle.rule_order.specs.ListedOrder.{in_rule_order};
@@ -61,7 +61,7 @@ impl Query {
     {
         for test in &self.tests {
             if let Test::Source(ends) = test {
-                return Some(&ends.types);
+                return Some(ends.types.set());
             }
         }
         None
@@ -73,7 +73,7 @@ impl Query {
     {
         for test in &self.tests {
             if let Test::Target(ends) = test {
-                return Some(&ends.types);
+                return Some(ends.types.set());
             }
         }
         None
@@ -102,11 +102,29 @@ impl Query {
         ensures policy { OnOk result (found.new.policy ≡ policy.now) }
         ensures numbers { (criteria : Criteria) → IsQueryOf policy.now criteria self.now → OnOk result (found.new.numbers ≡ found.old.numbers ++ (if meets policy.now criteria n then n ∷ [] else [])) }
     {
+        if !self.may_meet(policy, n) {
+            return Ok(());
+        }
         let rule = NumberedRule::of(policy, n);
         if self.passes(policy.symbols(), &rule) {
             found.add_ends(n, rule.ends())?;
         }
         Ok(())
+    }
+
+    // Whether the rule of a number may meet the criteria by its kind. Only the kind of an access vector is read by itself: the others
+    // are found by halves, and so are looked at once.
+    #[inline(always)]
+    fn may_meet(&self, policy: &Policy<'_>, n: u32) -> bool
+        requires { n < length (stored_rules policy.now) }
+        ensures { (criteria : Criteria) → IsQueryOf policy.now criteria self.now → result ≡ false → meets policy.now criteria n ≡ false }
+    {
+        // the policy was accepted, and so what its rules name is declared
+        let _ = policy.bytes();
+        if n >= policy.table().len() {
+            return true;
+        }
+        is_kind_asked(&self.kinds, policy.rule_kind(n))
     }
 }
 

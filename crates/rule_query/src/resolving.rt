@@ -1,9 +1,8 @@
 ghost use Rattle.std.specs.Prelude.{◌≡◌, OnOk};
-ghost use Rattle.pol_expand.specs.PolicyMap.{IsPolicyMap};
 ghost use Rattle.rule_query.specs.Given.{shown};
 ghost use Rattle.rule_query.specs.Resolved.{Gains};
 ghost use Rattle.rule_query.specs.Resolving.{Asks, BuildsWord, Resolves};
-ghost use Rattle.rule_query.specs.Tests.{HasPatternWord};
+ghost use Rattle.rule_query.specs.Tests.{HasPatternWord, IsMapIfMade};
 
 use crate::given::{GivenCriterion, in_word_order};
 use crate::query::Query;
@@ -42,24 +41,23 @@ impl From<AllocError> for QueryError {
     }
 }
 
-/// Looks up the names, numbers and patterns of criteria, word by word in the order of their words, in a policy with the map of its
-/// types. The first word that is refused ends it. Each pattern is built once, by `patterns`, and matched here against all names of
-/// its tables.
+/// Looks up the names, numbers and patterns of criteria, word by word in the order of their words, in a policy. The first word that is
+/// refused ends it. Each pattern is built once, by `patterns`, and matched here against all names of its tables. The map of the policy's
+/// types is made once, and only where a criterion asks what types expand to.
 pub fn resolve<P: Patterns>(
     alloc: Global,
     criteria: &Criteria,
     policy: &Policy<'_>,
-    types: &TypeMap,
     patterns: &mut P,
 ) -> Result<Query, QueryError>
-    requires { IsPolicyMap policy.now types.now }
     ensures { Resolves policy.now criteria.now (P.asked patterns.old) (P.asked patterns.new) (P.refusals patterns.old) (P.refusals patterns.new) result }
 {
     let order = in_word_order(alloc, criteria)?;
+    let mut types = None;
     let mut tests = Vec::new(alloc);
     for given in &order {
         let pattern = ask(alloc, policy.symbols(), &criteria.kinds, given, patterns)?;
-        add_test(alloc, policy, types, given, &pattern, &mut tests)?;
+        add_test(alloc, policy, &mut types, given, &pattern, &mut tests)?;
     }
     Ok(Query {
         kinds: criteria.kinds,
@@ -71,14 +69,15 @@ pub fn resolve<P: Patterns>(
 fn add_test(
     alloc: Global,
     policy: &Policy<'_>,
-    types: &TypeMap,
+    types: &mut Option<TypeMap>,
     given: &GivenCriterion<'_>,
     pattern: &Option<Regex>,
     tests: &mut Vec<Test>,
 ) -> Result<(), AllocError>
-    requires map { IsPolicyMap policy.now types.now }
+    requires map { IsMapIfMade policy.now types.old }
     requires pattern { HasPatternWord (shown given.now) pattern.now }
-    ensures { OnOk result (Gains policy.now (shown given.now) tests.old.items tests.new.items) }
+    ensures map { IsMapIfMade policy.now types.new }
+    ensures test { OnOk result (Gains policy.now (shown given.now) tests.old.items tests.new.items) }
 {
     tests.push(test_of(alloc, policy, types, given, pattern)?)?;
     Ok(())

@@ -1,8 +1,7 @@
 // The test of a criterion.
 ghost use Rattle.std.specs.Prelude.{IfOk};
-ghost use Rattle.pol_expand.specs.PolicyMap.{IsPolicyMap};
 ghost use Rattle.rule_query.specs.Given.{shown};
-ghost use Rattle.rule_query.specs.Tests.{HasPatternWord};
+ghost use Rattle.rule_query.specs.Tests.{HasPatternWord, IsMapIfMade};
 ghost use Rattle.rule_query.specs.Resolved.{IsTestOf};
 
 use crate::ends::{defaults, ends_of};
@@ -20,13 +19,14 @@ use std::alloc::{AllocError, Global};
 pub fn test_of(
     alloc: Global,
     policy: &Policy<'_>,
-    types: &TypeMap,
+    types: &mut Option<TypeMap>,
     given: &GivenCriterion<'_>,
     pattern: &Option<Regex>,
 ) -> Result<Test, AllocError>
-    requires map { IsPolicyMap policy.now types.now }
+    requires map { IsMapIfMade policy.now types.old }
     requires pattern { HasPatternWord (shown given.now) pattern.now }
-    ensures { IfOk result (IsTestOf policy.now (shown given.now)) }
+    ensures map { IsMapIfMade policy.now types.new }
+    ensures test { IfOk result (IsTestOf policy.now (shown given.now)) }
 {
     let symbols = policy.symbols();
     let criterion = given.criterion;

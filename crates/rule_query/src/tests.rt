@@ -3,7 +3,8 @@ ghost use Rattle.std.specs.Prelude.{◌≡◌};
 ghost use Rattle.pol_rules.specs.DeclaredRules.{default_table};
 ghost use Rattle.rule_query.specs.Tests.{class_test, condition_test, default_test, rule_test};
 
-use crate::ends::{Ends, has_value};
+use crate::ends::Ends;
+use crate::marked_set::has_value;
 use crate::numbered_rule::NumberedRule;
 use pol_bitmap::Set;
 use pol_cursor::TableKind;

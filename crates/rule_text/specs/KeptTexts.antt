@@ -6,9 +6,11 @@ use Rattle.pol_symbols.specs.declared.Symbols.{Symbols}
 use Rattle.pol_file.specs.declared.Parts.{Parts}
 use Rattle.pol_rules.specs.declared.rule.RuleKind.{RuleKind}
 use Rattle.pol_rules.specs.declared.rule.RulePart.{RulePart}
-use Rattle.pol_rules.specs.declared.rule.RulePart.TheVariants.{Perms}
+use Rattle.pol_rules.specs.declared.rule.RulePart.TheVariants as parts
 use Rattle.pol_rules.specs.StoredRules.{StoredRule}
 use Rattle.rule_text.specs.declared.kept_head.KeptHead.{KeptHead}
+use Rattle.rule_text.specs.declared.kept_texts.GivenNumber.{GivenNumber}
+use Rattle.rule_text.specs.declared.kept_texts.GivenNumber.TheVariants.{Perms, Default}
 use Rattle.rule_text.specs.declared.kept_texts.KeptText.{KeptText}
 use Rattle.rule_text.specs.RuleFrames.{head_text}
 use Rattle.rule_text.specs.ConditionTexts.{condition_text}
@@ -26,10 +28,15 @@ end_text policy rule = file_name_text rule.name ++ codes ";" ++ condition_text (
 abbrev pub IsHead : Symbols → KeptHead → Type 0
 IsHead symbols head = head.text.items ≡ head_text symbols head.kind head.source
 
--- What a slot keeps, if it does, is the text of its kind, class and mask.
+-- what a rule gives by one number
+abbrev pub part_of : GivenNumber → RulePart
+part_of (Perms mask) = parts.Perms mask
+part_of (Default value) = parts.Default value
+
+-- What a slot keeps, if it does, is the text of its kind, its class and what is given.
 abbrev pub IsKept : Symbols → Option KeptText → Type 0
 IsKept symbols None = ⊤
-IsKept symbols (Some kept) = kept.text.items ≡ given_text symbols kept.kind kept.class (Perms kept.mask)
+IsKept symbols (Some kept) = kept.text.items ≡ given_text symbols kept.kind kept.class (part_of kept.given)
 
 -- so in each of 4,096 slots
 pub record AreKept (symbols : Symbols) (slots : List (Option KeptText)) : Type 0 where

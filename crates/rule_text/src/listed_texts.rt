@@ -7,7 +7,7 @@ ghost use Rattle.rule_text.specs.KeptTexts.{AreKept, given_text};
 ghost use Rattle.rule_text.specs.RuleTexts.{rest_text, text_of_rule};
 
 use crate::kept_head::KeptHead;
-use crate::kept_texts::{KeptText, empty_slots, push_kept};
+use crate::kept_texts::{GivenNumber, KeptText, empty_slots, push_kept};
 use crate::rule_texts::RuleTexts;
 use crate::type_names::TypeNames;
 use crate::whole_rule::push_end;
@@ -16,8 +16,8 @@ use std::alloc::{AllocError, Global};
 use std::marker::Model;
 
 /// The texts of whole rules of a policy, where many are written one after the other: what stands before the targets of a source is
-/// made once where its rules come together, and so is most of what stands behind the ends of rules that give the same permissions. The
-/// names of targets are looked up once. Contracts see the policy.
+/// made once where its rules come together, and so is most of what stands behind the ends of rules that give the same permissions or the
+/// same default. The names of targets are looked up once. Contracts see the policy.
 #[derive(Drop)]
 pub struct ListedTexts<'p, 'a> {
     texts: RuleTexts<'p, 'a>,
@@ -86,7 +86,7 @@ fn push_rest<'a>(
     push_end(buffer, texts.policy(), rule)
 }
 
-// Adds the class of a rule and what the rule gives. The text of permissions is kept.
+// Adds the class of a rule and what the rule gives. The text of what it gives by one number is kept.
 fn push_given<'a>(
     buffer: &mut Vec<u8>,
     texts: &RuleTexts<'_, 'a>,
@@ -98,7 +98,14 @@ fn push_given<'a>(
     ensures text { OnOk result (buffer.new.items ≡ buffer.old.items ++ given_text texts.now.symbols rule.now.kind rule.now.class rule.now.part) }
 {
     match rule.part {
-        RulePart::Perms(mask) => push_kept(buffer, texts, slots, rule, mask),
+        RulePart::Perms(mask) => push_kept(buffer, texts, slots, rule, GivenNumber::Perms(mask)),
+        RulePart::Default(value) => push_kept(
+            buffer,
+            texts,
+            slots,
+            rule,
+            GivenNumber::Default(value),
+        ),
         _ => texts.push_given(buffer, rule),
     }
 }

@@ -2,7 +2,6 @@
 ghost use Rattle.std.specs.Prelude.{◌≡◌, IfOk, map};
 ghost use Rattle.rule_criteria.specs.declared.Criteria.{Criteria};
 ghost use Rattle.rule_query.specs.Resolved.{IsQueryOf};
-ghost use Rattle.rule_query.specs.Resolving.{Resolves};
 ghost use Rattle.se_status.specs.Meeting.{Concludes, IsWritten, done};
 ghost use Rattle.se_words.specs.SearchRequest.{search_view};
 ghost use Rattle.se_items.specs.Writing.{Sends};
@@ -38,7 +37,7 @@ pub fn answer_search<P: Patterns, S: Sink>(
     ensures patterns { TriesPatterns (pattern_words (search_view asks.now).criteria)
         (P.asked patterns.old) (P.asked patterns.new) (P.refusals patterns.old) (P.refusals patterns.new) result }
 {
-    match look_up(alloc, policy, asks, patterns) {
+    match resolve(alloc, &asks.criteria, policy, patterns) {
         Ok(query) => write_found(alloc, policy, asks, &query, out),
         Err(error) => status_of(error),
     }
@@ -54,22 +53,6 @@ fn status_of(error: QueryError) -> Status
         QueryError::BadPattern(word, kind) => Status::BadPattern(word, kind),
         QueryError::Memory => Status::Memory,
     }
-}
-
-// Looks up what is asked.
-fn look_up<P: Patterns>(
-    alloc: Global,
-    policy: &Policy<'_>,
-    asks: &SearchRequest<'_>,
-    patterns: &mut P,
-) -> Result<Query, QueryError>
-    ensures { Resolves policy.now asks.now.criteria
-        (P.asked patterns.old) (P.asked patterns.new) (P.refusals patterns.old) (P.refusals patterns.new) result }
-{
-    let Ok(types) = type_map(alloc, policy) else {
-        return Err(QueryError::Memory);
-    };
-    resolve(alloc, &asks.criteria, policy, &types, patterns)
 }
 
 // Writes the lines of the rules that meet a query, or of those between single types.

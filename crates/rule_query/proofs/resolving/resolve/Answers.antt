@@ -5,14 +5,17 @@ use Rattle.rule_query.proofs.Resolvings.{LookedUp, nothing_yet, one_more, stoppe
 use Rattle.rule_query.proofs.resolving.resolve.Goals as goal
 
 pub loop-given-init : goal.loop-given-init
-loop-given-init g c = rw c.new-tests.ensures.items (nothing_yet c.args.policy.now c.args.criteria.now (g.P.Patterns.asked c.args.patterns.now) (g.P.Patterns.refusals c.args.patterns.now))
+loop-given-init g c = record {
+  are_looked_up = rw c.new-tests.ensures.items (nothing_yet c.args.policy.now c.args.criteria.now (g.P.Patterns.asked c.args.patterns.now) (g.P.Patterns.refusals c.args.patterns.now));
+  map = tt;
+}
 
 pub returns-in_err-pattern : goal.returns-in_err-pattern
 returns-in_err-pattern g c =
     let p = err_from_is_err_and c.from_residual-in_err-pattern.result c.from_residual-in_err-pattern.ensures.1 in
     rw (p.1, p.2) (stopped c.args.policy.now c.args.criteria.now (g.P.Patterns.asked c.args.patterns.now) (g.P.Patterns.asked c.loop-given.patterns) (g.P.Patterns.asked c.ask.new.patterns)
     (g.P.Patterns.refusals c.args.patterns.now) (g.P.Patterns.refusals c.loop-given.patterns) (g.P.Patterns.refusals c.ask.new.patterns)
-    (map shown (take c.loop-given.given-index c.deref-given-items.result.now)) c.loop-given.tests.items c.loop-given.invariant (shown c.given-item.result)
+    (map shown (take c.loop-given.given-index c.deref-given-items.result.now)) c.loop-given.tests.items c.loop-given.invariant.are_looked_up (shown c.given-item.result)
     (map shown (drop (c.loop-given.given-index + 1) c.deref-given-items.result.now))
     (split_at c.deref-given-items.result.now c.loop-given.given-index c.given-item.result c.loop-given-test.true c.given-item.is (in_word_order c.args.criteria.now) (ap (map shown) c.deref-given-items.ensures.value ∙ c.in_ok-order.ensures))
     _ c.ask.result c.in_err-pattern.was (rw c.symbols.ensures at c.ask.ensures))
@@ -22,21 +25,24 @@ returns-in_err-add_test g c =
     let p = err_from_is_err_and c.from_residual-in_err-add_test.result c.from_residual-in_err-add_test.ensures.1 in
     rw (p.1, p.2) (no_room c.args.policy.now c.args.criteria.now (g.P.Patterns.asked c.args.patterns.now) (g.P.Patterns.asked c.loop-given.patterns) (g.P.Patterns.asked c.ask.new.patterns)
     (g.P.Patterns.refusals c.args.patterns.now) (g.P.Patterns.refusals c.loop-given.patterns) (g.P.Patterns.refusals c.ask.new.patterns)
-    (map shown (take c.loop-given.given-index c.deref-given-items.result.now)) c.loop-given.tests.items c.loop-given.invariant (shown c.given-item.result)
+    (map shown (take c.loop-given.given-index c.deref-given-items.result.now)) c.loop-given.tests.items c.loop-given.invariant.are_looked_up (shown c.given-item.result)
     (map shown (drop (c.loop-given.given-index + 1) c.deref-given-items.result.now))
     (split_at c.deref-given-items.result.now c.loop-given.given-index c.given-item.result c.loop-given-test.true c.given-item.is (in_word_order c.args.criteria.now) (ap (map shown) c.deref-given-items.ensures.value ∙ c.in_ok-order.ensures))
     c.in_ok-pattern.pattern (rw c.symbols.ensures at c.in_ok-pattern.ensures))
 
 pub loop-given-preserved : goal.loop-given-preserved
-loop-given-preserved g c =
-    subst (λ (done : List Given). LookedUp c.args.policy.now c.args.criteria.now (g.P.Patterns.asked c.args.patterns.now) (g.P.Patterns.asked c.ask.new.patterns) (g.P.Patterns.refusals c.args.patterns.now) (g.P.Patterns.refusals c.ask.new.patterns) done c.add_test.new.tests.items)
-    (sym (one_taken c.deref-given-items.result.now c.loop-given.given-index c.given-item.result c.loop-given-test.true c.given-item.is))
-    (one_more c.args.policy.now c.args.criteria.now (g.P.Patterns.asked c.args.patterns.now) (g.P.Patterns.asked c.loop-given.patterns) (g.P.Patterns.asked c.ask.new.patterns)
-    (g.P.Patterns.refusals c.args.patterns.now) (g.P.Patterns.refusals c.loop-given.patterns) (g.P.Patterns.refusals c.ask.new.patterns)
-    (map shown (take c.loop-given.given-index c.deref-given-items.result.now)) c.loop-given.tests.items c.loop-given.invariant (shown c.given-item.result)
-    c.in_ok-pattern.pattern c.add_test.new.tests.items (rw c.symbols.ensures at c.in_ok-pattern.ensures) c.in_ok-add_test.ensures)
+loop-given-preserved g c = record {
+  map = c.add_test.ensures.map;
+  are_looked_up =
+      subst (λ (done : List Given). LookedUp c.args.policy.now c.args.criteria.now (g.P.Patterns.asked c.args.patterns.now) (g.P.Patterns.asked c.ask.new.patterns) (g.P.Patterns.refusals c.args.patterns.now) (g.P.Patterns.refusals c.ask.new.patterns) done c.add_test.new.tests.items)
+      (sym (one_taken c.deref-given-items.result.now c.loop-given.given-index c.given-item.result c.loop-given-test.true c.given-item.is))
+      (one_more c.args.policy.now c.args.criteria.now (g.P.Patterns.asked c.args.patterns.now) (g.P.Patterns.asked c.loop-given.patterns) (g.P.Patterns.asked c.ask.new.patterns)
+      (g.P.Patterns.refusals c.args.patterns.now) (g.P.Patterns.refusals c.loop-given.patterns) (g.P.Patterns.refusals c.ask.new.patterns)
+      (map shown (take c.loop-given.given-index c.deref-given-items.result.now)) c.loop-given.tests.items c.loop-given.invariant.are_looked_up (shown c.given-item.result)
+      c.in_ok-pattern.pattern c.add_test.new.tests.items (rw c.symbols.ensures at c.in_ok-pattern.ensures) c.in_ok-add_test.ensures.test);
+}
 
 pub returns : goal.returns
 returns g c = all_words c.args.policy.now c.args.criteria.now (g.P.Patterns.asked c.args.patterns.now) (g.P.Patterns.asked c.loop-given.patterns) (g.P.Patterns.refusals c.args.patterns.now) (g.P.Patterns.refusals c.loop-given.patterns)
-    (map shown (take c.loop-given.given-index c.deref-given-items.result.now)) (record { kinds = c.args.criteria.now.kinds; tests = c.loop-given.tests }) c.loop-given.invariant
+    (map shown (take c.loop-given.given-index c.deref-given-items.result.now)) (record { kinds = c.args.criteria.now.kinds; tests = c.loop-given.tests }) c.loop-given.invariant.are_looked_up
     (all_taken c.deref-given-items.result.now c.loop-given.given-index (in_word_order c.args.criteria.now) c.loop-given-test.false (ap (map shown) c.deref-given-items.ensures.value ∙ c.in_ok-order.ensures)) refl

@@ -1,7 +1,15 @@
 use Rattle.std.proofs.Common.{map, take}
 use Rattle.rule_query.specs.Given.{shown}
+use Rattle.rule_query.specs.Tests.{IsMapIfMade}
 use Rattle.rule_query.proofs.Resolvings.{LookedUp}
 use Rattle.rule_query.proofs.resolving.resolve.Given as goal
 
+-- the words that were looked up, and the map of types
+pub record SoFar (words types : Type 0) : Type 0 where
+  pub are_looked_up : words
+  pub map : types
+
 abbrev pub invariant-loop-given : goal.invariant-loop-given
-invariant-loop-given g l = LookedUp l.policy l.criteria (g.P.Patterns.asked l.fn.patterns) (g.P.Patterns.asked l.patterns) (g.P.Patterns.refusals l.fn.patterns) (g.P.Patterns.refusals l.patterns) (map shown (take l.given-index l.given-items)) l.tests.items
+invariant-loop-given g l =
+    SoFar (LookedUp l.policy l.criteria (g.P.Patterns.asked l.fn.patterns) (g.P.Patterns.asked l.patterns) (g.P.Patterns.refusals l.fn.patterns) (g.P.Patterns.refusals l.patterns) (map shown (take l.given-index l.given-items)) l.tests.items)
+    (IsMapIfMade l.policy l.types)

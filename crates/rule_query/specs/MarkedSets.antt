@@ -1,0 +1,10 @@
+-- Marks for the values of a set. It serves the code alone.
+use Rattle.std.specs.Prelude.{◌≡◌, ℕ, Option, Some, None, List, ⊤}
+use Rattle.pol_bitmap.specs.declared.Node.{Node}
+use Rattle.pol_bitmap.specs.Nodes.{has_bit}
+use Rattle.value_groups.specs.Marking.{MarkedValues, is_among}
+
+-- Where a set has marks, each value has one exactly where the set has the value.
+abbrev pub AreMarksOf : List Node → Option MarkedValues → Type 0
+AreMarksOf set None = ⊤
+AreMarksOf set (Some marks) = (value : ℕ) → is_among marks.values value ≡ has_bit set value
