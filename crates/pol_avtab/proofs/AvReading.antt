@@ -1,6 +1,8 @@
 -- The parts of an access vector that were read are those that stand there.
-use Rattle.std.proofs.Common.{◌≡◌, ℕ, ◌+◌, ◌≤◌, Option, None, Bool, true, false, List, length, take, drop, refl, sym, ap, subst, ◌∙◌, arith}
-use Rattle.std.specs.Prelude.{if◌then◌else◌}
+use Rattle.std.proofs.Common.{◌≡◌, ⊎_elim, ℕ, ◌+◌, ◌≤◌, Option, None, Some, Bool, true, false, List, length, take, drop, refl, sym, ap, subst, ◌∙◌, arith}
+use Rattle.std.specs.Prelude.{◌||◌, ◌==◌, nat_le, option_map, if◌then◌else◌}
+use Rattle.std.proofs.lemmas.Bool.{false≢true, le-ltb, eqb-true, or_cases, or_right}
+use Rattle.pol_cursor.specs.declared.field.Field.{Field}
 use Rattle.pol_cursor.specs.Outcome.{Position, Reader, Got, field}
 use Rattle.pol_cursor.specs.Parts.{num, number, string}
 use Rattle.pol_cursor.proofs.Facts.{number_is, string_is}
@@ -9,8 +11,9 @@ use Rattle.pol_avtab.specs.declared.av_rec.AvPart.{AvPart}
 use Rattle.pol_avtab.specs.declared.av_rec.AvPart.TheVariants.{Extended}
 use Rattle.pol_avtab.specs.declared.av_key.AvKey.{AvKey}
 use Rattle.pol_avtab.specs.declared.av_rec.AvRec.{AvRec}
-use Rattle.pol_avtab.specs.AvKeys.{kind_of}
-use Rattle.pol_avtab.specs.AvRecord.{is_extended, specified_test, xkind_test, extended_at, part_at, av_at, specified_in, part_in, av_in, av_length, av_end}
+use Rattle.pol_avtab.specs.AvKeys.{kind_of, has_key}
+use Rattle.pol_avtab.specs.AvRecord.{is_extended, is_kind, standing_test, specified_test, xkind_test, extended_at, data_at, part_at, av_at, specified_in, part_in, av_in, av_length, av_end}
+use Rattle.pol_avtab.specs.InnerKeys.{IsFirst}
 
 extended_is : (a b : ℕ) (bits : List ℕ) (a' b' : ℕ) (bits' : List ℕ) → a ≡ a' → b ≡ b' → bits ≡ bits' → Extended a b bits ≡ Extended a' b' bits'
 extended_is a b bits a' b' bits' p q r = rw (p, q, r) refl
@@ -97,3 +100,55 @@ av_read version earlier old second third fourth fifth new source target class sp
       ends = ends;
       long = rw same at long;
     }
+
+-- ---- an access vector that is right at first sight
+
+number_there : (d : Field) (w : ℕ) (bytes : List ℕ) (place : ℕ) → place + w ≤ length bytes → number d w bytes place ≡ Got (num bytes place w) (place + w)
+unfolding number
+number_there d w bytes place there = rw (le-ltb (length bytes) (place + w) there) refl
+
+-- what is so of six kinds is so of each that the first version has
+module _ (P : ℕ → Type 0) (allow : P 0x1) (auditallow : P 0x2) (auditdeny : P 0x4) (transition : P 0x10) (member : P 0x20) (change : P 0x40) where
+  either : (x y : Bool) (kind : ℕ) → (x ≡ true → P kind) → (y ≡ true → P kind) → (x || y) ≡ true → P kind
+  either x y kind f g e = ⊎_elim f g (or_cases x y e)
+
+  by : (n kind : ℕ) → P n → (kind == n) ≡ true → P kind
+  by n kind p e = subst P (sym (eqb-true kind n e)) p
+
+  of_plain : (kind : ℕ) → is_kind 0 kind ≡ true → P kind
+  of_plain kind =
+      either _ _ kind
+      (either _ _ kind (either _ _ kind (either _ _ kind (either _ _ kind (either _ _ kind (by 0x1 kind allow) (by 0x2 kind auditallow)) (by 0x4 kind auditdeny)) (by 0x10 kind transition)) (by 0x20 kind member)) (by 0x40 kind change))
+      (λ e. absurd (false≢true e))
+
+abbrev IsPlain : ℕ → ℕ → Type 0
+IsPlain version specified = (is_kind version (kind_of specified) ≡ true) × (is_extended (kind_of specified) ≡ false) × (is_extended specified ≡ false)
+
+plain : (version specified : ℕ) → is_kind 0 specified ≡ true → IsPlain version specified
+plain version specified e = of_plain (IsPlain version) (refl, refl, refl) (refl, refl, refl) (refl, refl, refl) (refl, refl, refl) (refl, refl, refl) (refl, refl, refl) specified e
+
+standing : (version : ℕ) (earlier : Option (List AvKey)) → IsFirst earlier → (key : AvKey) → is_extended key.specified ≡ false → standing_test version (option_map (λ keys. has_key keys key) earlier) key ≡ None
+standing version None first key e = rw (e, or_right (nat_le 34 version) true refl) refl
+standing version (Some keys) first key e = rw (first, e) refl
+
+stands_well : (version : ℕ) (earlier : Option (List AvKey)) → IsFirst earlier → (key : AvKey) → is_kind version key.specified ≡ true → is_extended key.specified ≡ false → specified_test version earlier key ≡ None
+stands_well version earlier first key kind e = rw kind (standing version earlier first key e)
+
+plain_part : (bytes : List ℕ) (place : ℕ) (extended : Bool) → extended ≡ false → place + 4 ≤ length bytes → part_at extended bytes place ≡ Got (part_in extended bytes place) (place + 4)
+unfolding part_at data_at
+plain_part bytes place extended e long = rw (e, number_there (field 16 8) 4 bytes place long) refl
+
+pub plain_end : (bytes : List ℕ) (place : ℕ) → is_kind 0 (specified_in bytes place) ≡ true → av_end bytes place ≡ place + 12
+plain_end bytes place kind = rw (plain 0 (specified_in bytes place) kind).2 refl
+
+pub plain_read : (version : ℕ) (earlier : Option (List AvKey)) → IsFirst earlier → (bytes : List ℕ) (place : ℕ) → place + 12 ≤ length bytes → is_kind 0 (specified_in bytes place) ≡ true → av_at version earlier bytes place ≡ Got (av_in bytes place) (place + 12)
+plain_read version earlier first bytes place long kind =
+    let specified = num bytes (place + 2 + 2 + 2) 2 in
+    let same : specified_in bytes place ≡ specified = ap (λ (i : ℕ). num bytes i 2) (omega arith) in
+    let is = plain version specified (subst (λ (n : ℕ). is_kind 0 n ≡ true) same kind) in
+    let key : AvKey = record { source = num bytes place 2; target = num bytes (place + 2) 2; class = num bytes (place + 2 + 2) 2; specified = kind_of specified } in
+    let got = av_got bytes place (place + 2) (place + 2 + 2) (place + 2 + 2 + 2) (place + 2 + 2 + 2 + 2) (place + 2 + 2 + 2 + 2 + 4) key.source key.target key.class specified
+    (number_there (field 16 1) 2 bytes place (omega (arith, long))) (number_there (field 16 2) 2 bytes (place + 2) (omega (arith, long))) (number_there (field 16 3) 2 bytes (place + 2 + 2) (omega (arith, long)))
+    (number_there (field 16 4) 2 bytes (place + 2 + 2 + 2) (omega (arith, long)))
+    version earlier (stands_well version earlier first key is.0 is.1) (plain_part bytes (place + 2 + 2 + 2 + 2) (is_extended specified) is.2 (omega (arith, long))) in
+    subst (λ (i : ℕ). av_at version earlier bytes place ≡ Got (av_in bytes place) i) (omega arith) got

@@ -27,6 +27,11 @@ after_collecting context av = record {
   collects = context.collects;
 }
 
+-- no earlier rule can have the key of one: there is none in its table, or it stands under a condition
+abbrev pub IsFirst : Option (List AvKey) → Type 0
+IsFirst None = Unit {0}
+IsFirst (Some keys) = keys ≡ []
+
 -- n rules, each behind those before it where keys are collected, and else each as if it were the first
 unfoldable pub rules_behind : ℕ → Bool → ℕ → Reader (List (Placed AvRec))
 rules_behind version collects n = records_after rule_behind after_collecting n (record { version = version; keys = []; collects = collects })

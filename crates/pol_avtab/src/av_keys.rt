@@ -1,4 +1,4 @@
-ghost use Rattle.std.specs.Prelude.{◌≡◌, [], OnOk, OnErr};
+ghost use Rattle.std.specs.Prelude.{◌≡◌, true, [], OnOk, OnErr};
 ghost use Rattle.pol_avtab.specs.AvKeys.{key_of, has_key, with_key};
 
 use crate::av_key::AvKey;
@@ -31,11 +31,18 @@ impl AvKeys {
         AvKeys { keys }
     }
 
+    /// Whether there is none.
+    pub fn is_empty(&self) -> bool
+        ensures { result ≡ true → self.now ≡ [] }
+    {
+        self.keys.is_empty()
+    }
+
     /// Whether a rule has the key. It looks at no other key, and at none where there are none.
     pub fn has(&self, key: AvKey) -> bool
         ensures { result ≡ has_key self.now key }
     {
-        !self.keys.is_empty() && self.keys.contains(&key)
+        !self.is_empty() && self.keys.contains(&key)
     }
 
     /// Adds the key of a rule. Out of memory, the keys are as they were.

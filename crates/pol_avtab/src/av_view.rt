@@ -1,15 +1,16 @@
-ghost use Rattle.std.specs.Prelude.{◌≡◌, ◌+◌, ◌≤◌, ◌&&◌, true, IfOk, OnOk, Ok, Some, None, option_map, is_some, not, length, if◌then◌else◌};
-ghost use Rattle.pol_cursor.specs.Outcome.{Answers};
+ghost use Rattle.std.specs.Prelude.{◌≡◌, ℕ, ◌+◌, ◌^◌, ◌≤◌, ◌<◌, ◌&&◌, true, IfOk, OnOk, Ok, Some, None, option_map, is_some, not, length, if◌then◌else◌};
+ghost use Rattle.pol_cursor.specs.Outcome.{Answers, Got};
 ghost use Rattle.pol_cursor.specs.References.{dangling_of};
 ghost use Rattle.pol_cursor.specs.declared.TableKind.TheVariants.{Types, Classes};
 ghost use Rattle.pol_avtab.specs.AvKeys.{key_of, has_key};
-ghost use Rattle.pol_avtab.specs.AvRecord.{is_extended, extended_at, part_at, av_at, av_in, part_in, av_length, av_end, HasAv, av_references, part_references, is_default};
+ghost use Rattle.pol_avtab.specs.AvRecord.{is_extended, is_kind, extended_at, part_at, av_at, av_in, specified_in, part_in, av_length, av_end, HasAv, av_references, part_references, is_default};
+ghost use Rattle.pol_avtab.specs.InnerKeys.{IsFirst};
 ghost use Rattle.pol_avtab.specs.XPerms.{mask_of, xperms_of};
 
 use crate::av_key::AvKey;
 use crate::av_keys::AvKeys;
 use crate::av_rec::{AvPart, AvRec};
-use crate::causes::{is_default, is_extended, kind_cause, kind_of, xkind_cause};
+use crate::causes::{is_default, is_extended, is_kind, kind_cause, kind_of, xkind_cause};
 use crate::parts::u8_in;
 use crate::xperms::XPerms;
 use pol_cursor::{
@@ -248,8 +249,51 @@ pub fn read_av<'a>(
 }
 
 // Passes over the access vector at the cursor.
-#[tactic(auto, unfolding(crate::specs::AvRecord::av_at))]
 fn pass_av(c: &mut Cursor<'_>, version: u32, earlier: Option<&AvKeys>) -> Result<(), Fault>
+    ensures exact { Answers (λ _. av_in c.old.bytes c.old.place) result (av_at version (option_map (λ keys. keys.now) earlier.entry)) c.old c.new }
+    ensures next { OnOk result (c.new.place ≡ av_end c.old.bytes c.old.place) }
+    ensures long { OnOk result (c.new.place ≤ length c.old.bytes) }
+{
+    if is_plain(c, earlier) {
+        *c = Cursor::at(c.bytes(), c.place() + 12);
+        return Ok(());
+    }
+    pass_parts(c, version, earlier)
+}
+
+// Whether the access vector at the cursor is right at first sight, as nearly all are: it is there whole, each version has its kind,
+// and no earlier rule can have its key.
+#[tactic(auto, using(crate::proofs::AvReading::plain_read, crate::proofs::AvReading::plain_end))]
+fn is_plain(c: &Cursor<'_>, earlier: Option<&AvKeys>) -> bool
+    ensures long { result ≡ true → c.now.place + 12 ≤ length c.now.bytes }
+    ensures end { result ≡ true → av_end c.now.bytes c.now.place ≡ c.now.place + 12 }
+    ensures read { result ≡ true → (version : ℕ) → av_at version (option_map (λ keys. keys.now) earlier.entry) c.now.bytes c.now.place ≡ Got (av_in c.now.bytes c.now.place) (c.now.place + 12) }
+{
+    is_first(earlier) && has_plain_kind(c.bytes(), c.place() as usize)
+}
+
+// Whether no rule is before it.
+fn is_first(earlier: Option<&AvKeys>) -> bool
+    ensures { result ≡ true → IsFirst (option_map (λ keys. keys.now) earlier.entry) }
+{
+    match earlier {
+        Some(keys) => keys.is_empty(),
+        None => true,
+    }
+}
+
+// Whether 12 bytes are there, and a kind that each version has.
+fn has_plain_kind(bytes: &[u8], place: usize) -> bool
+    requires { place < 2 ^ 32 }
+    ensures long { result ≡ true → place + 12 ≤ length bytes.now }
+    ensures kind { result ≡ true → is_kind 0 (specified_in bytes.now place) ≡ true }
+{
+    place + 12 <= bytes.len() && is_kind(0, u16_in(bytes, place + 6))
+}
+
+// Passes over its parts, one after the other.
+#[tactic(auto, unfolding(crate::specs::AvRecord::av_at))]
+fn pass_parts(c: &mut Cursor<'_>, version: u32, earlier: Option<&AvKeys>) -> Result<(), Fault>
     ensures exact { Answers (λ _. av_in c.old.bytes c.old.place) result (av_at version (option_map (λ keys. keys.now) earlier.entry)) c.old c.new }
     ensures next { OnOk result (c.new.place ≡ av_end c.old.bytes c.old.place) }
     ensures long { OnOk result (c.new.place ≤ length c.old.bytes) }

@@ -35,8 +35,8 @@ pub fn is_default(specified: u16) -> bool
     kind == 0x10 || kind == 0x20 || kind == 0x40
 }
 
-// Whether a version has the kind.
-fn is_kind(version: u32, kind: u16) -> bool
+/// Whether a version has the kind.
+pub fn is_kind(version: u32, kind: u16) -> bool
     ensures { result ≡ is_kind version kind }
 {
     match kind {

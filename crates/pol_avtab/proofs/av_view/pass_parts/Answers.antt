@@ -1,6 +1,6 @@
 use Rattle.std.proofs.Common.{sym, ◌∙◌, option_map}
 use Rattle.pol_avtab.proofs.AvReading.{av_read}
-use Rattle.pol_avtab.proofs.av_view.pass_av.Goals as goal
+use Rattle.pol_avtab.proofs.av_view.pass_parts.Goals as goal
 
 pub returns : goal.returns
 returns c =
