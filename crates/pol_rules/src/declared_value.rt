@@ -1,6 +1,5 @@
 // Values of types by the bits that stand for them.
-ghost use Rattle.std.specs.Prelude.{◌≡◌, ◌+◌, ◌<◌, ◌%◌, ◌&&◌, ◌==◌, Some, None, length, slice_get, if◌then◌else◌};
-ghost use Rattle.std.specs.Int.{bit_at};
+ghost use Rattle.std.specs.Prelude.{◌≡◌, ◌+◌, ◌<◌, ◌%◌, ◌∷◌, Some, None, length, slice_get, if◌then◌else◌};
 ghost use Rattle.pol_bitmap.specs.Nodes.{node_bits};
 ghost use Rattle.pol_rules.specs.StoredRules.{is_declared_type, declared_values};
 
@@ -20,30 +19,20 @@ fn declared_value(symbols: &Symbols<'_>, bit: u32) -> Option<u32>
     }
 }
 
-// The same of bit i of a node's map, where it is set.
-fn value_in(symbols: &Symbols<'_>, node: Node, i: u32) -> Option<u32>
-    requires whole { node.start % 64 ≡ 0 }
-    requires within { i < 64 }
-    ensures { result ≡ (if (bit_at node.map i == 1) && is_declared_type symbols.now (node.start + i + 1) then Some (node.start + i + 1) else None) }
-{
-    if (node.map >> i) % 2 == 1 {
-        declared_value(symbols, node.start + i)
-    } else {
-        None
-    }
-}
-
 /// How many declared values the bits of a node stand for.
 pub fn count_values(symbols: &Symbols<'_>, node: Node) -> u32
     requires { node.start % 64 ≡ 0 }
     ensures { result ≡ length (declared_values symbols.now (node_bits node)) }
 {
+    let mut left = node;
     let mut count = 0;
-    for i in 0..64 {
-        match value_in(symbols, node, i) {
+    while left.map != 0 {
+        let (bit, rest) = split_lowest(left);
+        match declared_value(symbols, bit) {
             None => {}
             Some(_) => count += 1,
         }
+        left = rest;
     }
     count
 }
@@ -54,17 +43,35 @@ pub fn value_at(symbols: &Symbols<'_>, node: Node, n: u32) -> u32
     requires value { n < length (declared_values symbols.now (node_bits node)) }
     ensures { slice_get (declared_values symbols.now (node_bits node)) n ≡ Some result }
 {
-    let mut left = n;
-    for i in 0..64 {
-        match value_in(symbols, node, i) {
+    let mut left = node;
+    let mut before = n;
+    while left.map != 0 {
+        let (bit, rest) = split_lowest(left);
+        match declared_value(symbols, bit) {
             None => {}
             Some(value) => {
-                if left == 0 {
+                if before == 0 {
                     return value;
                 }
-                left -= 1;
+                before -= 1;
             }
         }
+        left = rest;
     }
     unreachable!()
+}
+
+// The lowest bit of a node that has one, and the node without it.
+fn split_lowest(node: Node) -> (u32, Node)
+    requires whole { node.start % 64 ≡ 0 }
+    requires full { 0 < node.map }
+    ensures bits { node_bits node ≡ result.0 ∷ node_bits result.1 }
+    ensures start { result.1.start ≡ node.start }
+{
+    let lowest = node.map.trailing_zeros();
+    let rest = Node {
+        start: node.start,
+        map: node.map & !(1 << lowest),
+    };
+    (node.start + lowest, rest)
 }

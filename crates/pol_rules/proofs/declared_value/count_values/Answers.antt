@@ -1,22 +1,19 @@
-use Rattle.std.proofs.Common.{sym, arith}
-use Rattle.pol_rules.proofs.NodeValues.{count_none, count_some, count_end}
+use Rattle.std.proofs.Common.{length, refl, sym, ap, ◌∙◌, arith}
+use Rattle.pol_rules.proofs.NodeValues.{bits_few, fewer, values_none, values_end}
 use Rattle.pol_rules.proofs.declared_value.count_values.Goals as goal
-use Rattle.pol_rules.proofs.declared_value.count_values.Goals.{in-None, in-Some}
 
-pub loop-i-preserved : goal.loop-i-preserved
-loop-i-preserved c =
-    let symbols = c.args.symbols.now in
-    let node = c.args.node in
-    elim c.match-value_in.branch [
-      | in-None w ↦ record {
-        same = rw w.count-is (count_none symbols node c.loop-i.count c.loop-i.i c.loop-i-test.true (sym (rw w.in-None.is at c.value_in.ensures)) c.loop-i.invariant.same);
-        few = omega (arith, w.count-is, c.loop-i.invariant.few);
-      }
-      | in-Some w ↦ record {
-        same = rw w.count-is (count_some symbols node c.loop-i.count c.loop-i.i w.in-Some.field-0 c.loop-i-test.true (sym (rw w.in-Some.is at c.value_in.ensures)) c.loop-i.invariant.same);
-        few = omega (arith, w.count-is, c.loop-i.invariant.few);
-      }
-    ]
+pub loop-left-init : goal.loop-left-init
+loop-left-init c = record { same = omega arith; few = omega (arith, bits_few c.args.node); start = refl }
+
+pub loop-left-preserved-in-None : goal.loop-left-preserved-in-None
+loop-left-preserved-in-None c =
+    let split = c.split_lowest-bit.ensures.bits in
+    let before = c.loop-left.invariant in
+    record {
+      same = omega (arith, before.same, ap length (values_none c.args.symbols.now c.loop-left.left c.split_lowest-bit.result.1 c.split_lowest-bit.result.0 split (sym (rw c.in-None.is at c.declared_value.ensures))));
+      few = omega (arith, before.few, fewer c.args.symbols.now c.loop-left.left c.split_lowest-bit.result.1 c.split_lowest-bit.result.0 split);
+      start = c.split_lowest-bit.ensures.start ∙ before.start;
+    }
 
 pub returns : goal.returns
-returns c = count_end c.args.symbols.now c.args.node c.loop-i.count c.loop-i.i c.loop-i-test.false c.loop-i.invariant.same
+returns c = omega (arith, c.loop-left.invariant.same, ap length (values_end c.args.symbols.now c.loop-left.left c.loop-left-test.false))

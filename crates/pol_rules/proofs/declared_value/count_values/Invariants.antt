@@ -1,10 +1,10 @@
-use Rattle.std.proofs.Common.{◌≡◌, ◌+◌, ◌≤◌, length}
-use Rattle.pol_rules.proofs.NodeValues.{values_from}
+use Rattle.std.proofs.Common.{length}
+use Rattle.pol_bitmap.specs.Nodes.{node_bits}
+use Rattle.pol_rules.proofs.NodeValues.{Counting}
 use Rattle.pol_rules.proofs.declared_value.count_values.Given as goal
 
--- what is counted and what is left are the whole
-abbrev pub invariant-loop-i : goal.invariant-loop-i
-invariant-loop-i l = record {
-  same : l.count + length (values_from l.symbols l.node l.i) ≡ length (values_from l.symbols l.node 0);
-  few : l.count ≤ l.i;
-}
+abbrev pub invariant-loop-left : goal.invariant-loop-left
+invariant-loop-left l = Counting l.fn.symbols l.fn.node l.left l.count
+
+abbrev pub decreases-loop-left : goal.decreases-loop-left
+decreases-loop-left l = length (node_bits l.left)
