@@ -6,3 +6,4 @@ pub mod ClassLists
 pub mod ConditionTrees
 pub mod Frames
 pub mod KeptSlots
+pub mod ReadAhead

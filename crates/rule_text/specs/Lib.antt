@@ -7,3 +7,4 @@ pub mod ShownNames
 pub mod ClassPermissions
 pub mod TypeNames
 pub mod KeptTexts
+pub mod ReadRules

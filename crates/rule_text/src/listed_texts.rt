@@ -1,10 +1,10 @@
 //! The texts of whole rules in the order in which rules are listed.
 
-ghost use Rattle.std.specs.Prelude.{◌≡◌, ◌<◌, ◌++◌, OnOk, IfOk, length};
-ghost use Rattle.pol_rules.specs.StoredRules.{stored, stored_rules};
-ghost use Rattle.pol_rules.specs.DeclaredRules.{StandsUnder};
+ghost use Rattle.std.specs.Prelude.{◌≡◌, ◌++◌, OnOk, IfOk};
+ghost use Rattle.pol_rules.specs.StoredRules.{stored};
+ghost use Rattle.pol_rules.specs.DeclaredRules.{IsDeclaredRule, StandsUnder};
 ghost use Rattle.rule_text.specs.KeptTexts.{AreKept, given_text};
-ghost use Rattle.rule_text.specs.RuleTexts.{rest_text, text_of_rule};
+ghost use Rattle.rule_text.specs.RuleTexts.{rest_text, rule_text};
 
 use crate::kept_head::KeptHead;
 use crate::kept_texts::{GivenNumber, KeptText, empty_slots, push_kept};
@@ -52,20 +52,25 @@ impl<'p, 'a> ListedTexts<'p, 'a> {
         })
     }
 
-    /// Adds the text of the stored rule of that number, from 0 on, without a line feed.
-    #[tactic(auto, unfolding(crate::specs::RuleTexts::text_of_rule, crate::specs::RuleTexts::rule_text, crate::specs::RuleTexts::ends_text, crate::specs::RuleFrames::head_text))]
-    pub fn push_rule(&mut self, n: u32, buffer: &mut Vec<u8>) -> Result<(), AllocError>
-        requires { n < length (stored_rules self.old) }
-        ensures policy { self.new ≡ self.old }
-        ensures text { OnOk result (buffer.new.items ≡ buffer.old.items ++ text_of_rule self.old n) }
+    /// The policy.
+    pub fn policy(&self) -> &'p Policy<'a>
+        ensures { result.now ≡ self.now }
     {
-        let policy = self.texts.policy();
-        let symbols = policy.symbols();
-        let rule = policy.rule(n);
+        self.texts.policy()
+    }
+
+    /// Adds the text of a rule, without a line feed. What the rule names is declared.
+    #[tactic(auto, unfolding(crate::specs::RuleTexts::rule_text, crate::specs::RuleTexts::ends_text, crate::specs::RuleFrames::head_text))]
+    pub fn push_rule(&mut self, rule: &Rule<'a>, buffer: &mut Vec<u8>) -> Result<(), AllocError>
+        requires { IsDeclaredRule self.old (stored rule.now) }
+        ensures policy { self.new ≡ self.old }
+        ensures text { OnOk result (buffer.new.items ≡ buffer.old.items ++ rule_text self.old (stored rule.now)) }
+    {
+        let symbols = self.texts.policy().symbols();
         self.head.push(symbols, rule.kind, rule.source, buffer)?;
         self.names
             .push_target(symbols, rule.kind, rule.target, buffer)?;
-        push_rest(buffer, &self.texts, &mut self.slots, &rule)
+        push_rest(buffer, &self.texts, &mut self.slots, rule)
     }
 }
 

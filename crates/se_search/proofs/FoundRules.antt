@@ -85,10 +85,6 @@ unfolding rules_text
 text-found asks policy lines numbers is are =
     ap concat (ap (λ ys. limited asks.limit (drop asks.from ys)) (is ∙ ap (map (rule_line policy)) are) ∙ listed-page (rule_line policy) asks.from asks.limit (found_rules asks policy))
 
--- a line that is passed over
-pub line-passed : (policy : Parts) (number : ℕ) (numbers others : List ℕ) → numbers ≡ number ∷ others → (text : List ℕ) × (map (rule_line policy) numbers ≡ text ∷ map (rule_line policy) others)
-line-passed policy number numbers others e = (rule_line policy number, ap (map (rule_line policy)) e)
-
 short : (policy : Parts) (k : ℕ) (xs : List ℕ) → length (map (rule_line policy) (take k xs)) ≤ k
 short policy zero xs = omega arith
 short policy (suc k) [] = omega arith

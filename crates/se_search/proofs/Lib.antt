@@ -2,6 +2,7 @@ pub mod WordsRise
 pub mod Refused
 pub mod Tried
 pub mod FoundRules
+pub mod LinesOfRules
 pub mod RowTexts
 pub mod SingleRows
 pub mod SingleTexts

@@ -1,30 +1,37 @@
 // The lines of rules, as items that are written one after the other.
-ghost use Rattle.std.specs.Prelude.{◌≡◌, ◌<◌, ◌++◌, OnOk, length, map};
-ghost use Rattle.pol_rules.specs.StoredRules.{stored_rules};
+ghost use Rattle.std.specs.Prelude.{◌≡◌, ◌++◌, IfOk, OnOk, map};
+ghost use Rattle.pol_rules.specs.DeclaredRules.{IsDeclaredRule};
+ghost use Rattle.pol_rules.specs.StoredRules.{stored};
 ghost use Rattle.rule_order.specs.ListedOrder.{AreRules};
-ghost use Rattle.se_search.specs.SearchAnswer.{rule_line};
+ghost use Rattle.se_search.specs.SearchAnswer.{line_of, rule_line};
 
-use rule_text::ListedTexts;
+use pol_read::Rule;
+use rule_text::{ListedTexts, RulesAhead};
 use se_items::Items;
-use std::alloc::AllocError;
+use std::alloc::{AllocError, Global};
 
-/// The lines of the stored rules of these numbers.
+/// The lines of the stored rules of some numbers.
 #[derive(Drop)]
 pub struct RuleLines<'q, 'p, 'a> {
     texts: ListedTexts<'p, 'a>,
-    numbers: &'q [u32],
-    ghost are_rules: { AreRules texts numbers.now },
+    rules: RulesAhead<'q, 'p, 'a>,
+    ghost of_policy: { rules.policy ≡ texts },
 }
 
 impl<'q, 'p, 'a> RuleLines<'q, 'p, 'a> {
     ghost use Rattle.se_search.specs.RuleLines.{lines_left};
 
-    /// Those of the rules of a policy.
-    pub fn new(texts: ListedTexts<'p, 'a>, numbers: &'q [u32]) -> RuleLines<'q, 'p, 'a>
+    /// Those of the rules of a policy, which are read when their lines are made.
+    pub fn new(
+        alloc: Global,
+        texts: ListedTexts<'p, 'a>,
+        numbers: &'q [u32],
+    ) -> Result<RuleLines<'q, 'p, 'a>, AllocError>
         requires { AreRules texts numbers.now }
-        ensures { lines_left result ≡ map (rule_line texts.entry) numbers.now }
+        ensures { IfOk result (λ lines. lines_left lines ≡ map (rule_line texts.entry) numbers.now) }
     {
-        RuleLines { texts, numbers }
+        let rules = RulesAhead::new(alloc, texts.policy(), numbers)?;
+        Ok(RuleLines { texts, rules })
     }
 }
 
@@ -34,34 +41,30 @@ impl Items for RuleLines<'_, '_, '_> {
     ghost left = { lines_left };
 
     fn pass(&mut self) -> bool {
-        let Some((_number, others)) = self.numbers.split_first() else {
-            return false;
-        };
-        self.numbers = others;
-        true
+        self.rules.pass()
     }
 
     fn push_next(&mut self, buffer: &mut Vec<u8>) -> Result<bool, AllocError> {
-        let Some((number, others)) = self.numbers.split_first() else {
+        self.rules.read();
+        let Some(rule) = self.rules.front() else {
             return Ok(false);
         };
-        push_line(&mut self.texts, *number, buffer)?;
-        self.numbers = others;
-        Ok(true)
+        push_line(&mut self.texts, rule, buffer)?;
+        Ok(self.rules.pass())
     }
 }
 
-// Adds the line of the rule of a number.
-#[tactic(auto, unfolding(crate::specs::SearchAnswer::rule_line))]
-fn push_line(
-    texts: &mut ListedTexts<'_, '_>,
-    number: u32,
+// Adds the line of a rule.
+#[tactic(auto, unfolding(crate::specs::SearchAnswer::line_of))]
+fn push_line<'a>(
+    texts: &mut ListedTexts<'_, 'a>,
+    rule: &Rule<'a>,
     buffer: &mut Vec<u8>,
 ) -> Result<(), AllocError>
-    requires { number < length (stored_rules texts.old) }
+    requires { IsDeclaredRule texts.old (stored rule.now) }
     ensures policy { texts.new ≡ texts.old }
-    ensures line { OnOk result (buffer.new.items ≡ buffer.old.items ++ rule_line texts.old number) }
+    ensures line { OnOk result (buffer.new.items ≡ buffer.old.items ++ line_of texts.old (stored rule.now)) }
 {
-    texts.push_rule(number, buffer)?;
+    texts.push_rule(rule, buffer)?;
     Ok(buffer.push(b'\n')?)
 }

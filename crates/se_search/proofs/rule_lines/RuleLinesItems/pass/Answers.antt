@@ -1,5 +1,5 @@
-use Rattle.se_search.proofs.FoundRules.{line-passed}
+use Rattle.se_search.proofs.LinesOfRules.{line-passed}
 use Rattle.se_search.proofs.rule_lines.RuleLinesItems.pass.Goals as goal
 
 pub returns : goal.returns
-returns c = line-passed c.args.self.now.texts c.in-Some._number.now c.args.self.now.numbers.now c.in-Some.others.now c.in-Some.ensures.cases.0
+returns c = line-passed c.args.self.now.texts c.args.self.now.rules.numbers c.pass.new.self.numbers c.pass.result c.pass.ensures.numbers

@@ -1,13 +1,15 @@
-use Rattle.std.proofs.Common.{ℕ, ◌<◌, length, sym, subst}
-use Rattle.std.proofs.lemmas.List.Elements.{All-rest}
+use Rattle.std.proofs.Common.{◌∙◌, ℕ, List, subst}
 use Rattle.pol_file.specs.declared.Parts.{Parts}
-use Rattle.pol_rules.specs.StoredRules.{stored_rules}
-use Rattle.rule_order.specs.ListedOrder.{AreRules}
+use Rattle.rule_text.specs.ReadRules.{IsOfFirst, PassesNumber}
+use Rattle.se_search.proofs.LinesOfRules.{line-pushed}
 use Rattle.se_search.proofs.rule_lines.RuleLinesItems.push_next.Goals as goal
 
-pub invariant_of-self-2 : goal.invariant_of-self-2
-invariant_of-self-2 c =
-    let lines = c.args.self.now in
-    let others = c.in-Some.others.now in
-    let rest : AreRules lines.texts others = All-rest (λ (number : ℕ). number < length (stored_rules lines.texts)) c.in-Some.number.now others lines.numbers.now c.in-Some.ensures.cases.0 lines.are_rules in
-    record { are_rules = subst (λ (policy : Parts). AreRules policy others) (sym c.push_line.ensures.policy) rest }
+pub returns : goal.returns
+returns c =
+    let old = c.args.self.now in
+    let rule = c.in-Some.rule.now in
+    let left = c.pass.new.self.numbers in
+    let read : IsOfFirst c.read.new.self.policy old.rules.numbers rule = subst (λ (numbers : List ℕ). IsOfFirst c.read.new.self.policy numbers rule) c.read.ensures.numbers c.in-Some.ensures in
+    let first : IsOfFirst old.texts old.rules.numbers rule = subst (λ (policy : Parts). IsOfFirst policy old.rules.numbers rule) (c.read.ensures.policy ∙ old.of_policy) read in
+    let passes : PassesNumber old.rules.numbers left c.pass.result = subst (λ (numbers : List ℕ). PassesNumber numbers left c.pass.result) c.read.ensures.numbers c.pass.ensures.numbers in
+    rw c.push_line.ensures.policy (line-pushed old.texts rule old.rules.numbers left c.args.buffer.now.items c.push_line.new.buffer.items c.pass.result first passes c.in_ok-push_line.ensures.line)

@@ -1,0 +1,102 @@
+//! Rules of a policy that are read some at a time, each before it is asked for.
+
+ghost use Rattle.std.specs.Prelude.{◌≡◌, ◌<◌, ◌≤◌, ℕ, [], All, IfOk, MatchOption, length};
+ghost use Rattle.std.specs.VecDeque.{deque_capacity};
+ghost use Rattle.pol_rules.specs.StoredRules.{stored_rules};
+ghost use Rattle.rule_text.specs.ReadRules.{AreRead, IsOfFirst, PassesNumber, none_read};
+
+use pol_read::{Policy, Rule};
+use std::alloc::{AllocError, Global};
+use std::collections::VecDeque;
+use std::marker::Model;
+
+// How many rules are read at a time at most.
+const MOST: usize = 32;
+
+/// The stored rules of some numbers, one after the other. Where the next one is read, so are those after it, in one loop that does
+/// nothing else, since rules that are listed stand far apart in the file. Contracts see the policy, the numbers that are left, and how
+/// many of their rules were read.
+#[derive(Drop)]
+pub struct RulesAhead<'q, 'p, 'a> {
+    policy: &'p Policy<'a>,
+    numbers: &'q [u32],
+    // those of the first of the numbers
+    rules: VecDeque<Rule<'a>>,
+}
+
+impl<'q, 'p, 'a> Model for RulesAhead<'q, 'p, 'a> {
+    ghost use Rattle.std.specs.Prelude.{◌≤◌, length};
+    ghost use Rattle.std.specs.VecDeque.{deque_capacity};
+    ghost use Rattle.rule_text.specs.ReadRules.{AreNumbers, AreRead, RulesLeft};
+
+    ghost Value = { RulesLeft };
+
+    ghost view = { λ ahead. record { policy = ahead.policy.now; numbers = ahead.numbers.now; read = length ahead.rules.items } };
+
+    ghost invariant = { λ ahead. AreNumbers ahead.policy.now ahead.numbers.now × AreRead ahead.policy.now ahead.numbers.now ahead.rules.items × (32 ≤ deque_capacity ahead.rules) };
+}
+
+impl<'q, 'p, 'a> RulesAhead<'q, 'p, 'a> {
+    /// Those of these numbers. None is read yet.
+    pub fn new(
+        alloc: Global,
+        policy: &'p Policy<'a>,
+        numbers: &'q [u32],
+    ) -> Result<RulesAhead<'q, 'p, 'a>, AllocError>
+        requires { All (λ number. number < length (stored_rules policy.now)) numbers.now }
+        ensures { IfOk result (λ ahead. ahead ≡ none_read policy.now numbers.now) }
+    {
+        let rules = VecDeque::with_capacity(alloc, MOST)?;
+        Ok(RulesAhead {
+            policy,
+            numbers,
+            rules,
+        })
+    }
+
+    /// Reads the next rules, where the next one is not read yet.
+    pub fn read(&mut self)
+        ensures policy { self.new.policy ≡ self.old.policy }
+        ensures numbers { self.new.numbers ≡ self.old.numbers }
+        ensures some { 0 < length self.new.numbers → 0 < self.new.read }
+    {
+        if self.rules.is_empty() {
+            let count = MOST.min(self.numbers.len());
+            read_rules(self.policy, &self.numbers[..count], &mut self.rules);
+        }
+    }
+
+    /// The next rule, where it was read. What it names is declared.
+    pub fn front(&self) -> Option<&Rule<'a>>
+        ensures { MatchOption result (self.now.read ≡ 0) (λ rule. IsOfFirst self.now.policy self.now.numbers rule.now) }
+    {
+        self.rules.front()
+    }
+
+    /// Passes over the next rule, and answers whether there was one. A rule that was not read is passed over unread.
+    pub fn pass(&mut self) -> bool
+        ensures policy { self.new.policy ≡ self.old.policy }
+        ensures numbers { PassesNumber self.old.numbers self.new.numbers result }
+    {
+        let Some((_number, others)) = self.numbers.split_first() else {
+            return false;
+        };
+        self.numbers = others;
+        let _ = self.rules.pop_front();
+        true
+    }
+}
+
+// Reads the rules of these numbers. No memory is taken.
+fn read_rules<'a>(policy: &Policy<'a>, numbers: &[u32], rules: &mut VecDeque<Rule<'a>>)
+    requires numbers { All (λ number. number < length (stored_rules policy.now)) numbers.now }
+    requires none { rules.old.items ≡ [] }
+    requires room { length numbers.now ≤ deque_capacity rules.old }
+    ensures rules { AreRead policy.now numbers.now rules.new.items }
+    ensures length { length rules.new.items ≡ length numbers.now }
+    ensures room { deque_capacity rules.new ≡ deque_capacity rules.old }
+{
+    for number in numbers {
+        rules.push_back_reserved(policy.rule(*number));
+    }
+}
