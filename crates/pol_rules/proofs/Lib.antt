@@ -1,4 +1,5 @@
 pub mod EndLists
+pub mod FirstLists
 pub mod RuleSums
 pub mod RuleRanks
 pub mod RuleRooms
