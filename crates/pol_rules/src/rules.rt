@@ -50,7 +50,7 @@ pub fn ends_at(parts: &Parts<'_>, index: &RuleIndex, n: u32) -> RuleEnds
     }
 }
 
-/// The kind of that rule. It is found in the same way, and nothing else of the rule is read.
+/// The kind of that rule. Its section tells it, and an access vector is found in the same way. Nothing else of the rule is read.
 #[inline(always)]
 pub fn kind_at(parts: &Parts<'_>, index: &RuleIndex, n: u32) -> RuleKind
     requires index { IsIndexOf parts.now index.now }
@@ -60,7 +60,7 @@ pub fn kind_at(parts: &Parts<'_>, index: &RuleIndex, n: u32) -> RuleKind
     if n < parts.rules.table.len() {
         vector_kind(&vector_at(parts, n))
     } else {
-        record_at(parts, index, n).ends().kind
+        section_kind(parts, index, n)
     }
 }
 
@@ -72,6 +72,27 @@ fn vector_at<'a>(parts: &Parts<'a>, n: u32) -> AvView<'a>
     ensures { slice_get (stored_rules parts.now) n ≡ Some (av_rule None result) }
 {
     parts.rules.table.view(n)
+}
+
+// The kind of the rule of that number.
+#[tactic(auto, using(crate::proofs::RuleSums::total_is, crate::proofs::RuleSums::found, crate::proofs::RuleSums::found_length))]
+#[inline(never)]
+fn section_kind(parts: &Parts<'_>, index: &RuleIndex, n: u32) -> RuleKind
+    requires index { IsIndexOf parts.now index.now }
+    requires rule { n < length (stored_rules parts.now) }
+    ensures { option_map (λ rule. rule.kind) (slice_get (stored_rules parts.now) n) ≡ Some result }
+{
+    let (section, i) = index.sections.find(n);
+    match section {
+        0 => table_record(&parts.rules.table, i).ends().kind,
+        1 => conditional_record(&parts.rules.conditionals, &index.nodes, i)
+            .ends()
+            .kind,
+        2 => RuleKind::RoleTransition,
+        3 => RuleKind::RoleAllow,
+        4 => RuleKind::TypeTransition,
+        _ => RuleKind::RangeTransition,
+    }
 }
 
 // What the rule of that number is read from.
@@ -106,6 +127,7 @@ fn table_record<'a>(table: &AvTable<'a>, i: u32) -> RuleRecord<'a>
 
 // That of the rule of that number of those under conditions.
 #[tactic(auto, using(crate::proofs::RuleSums::total_is, crate::proofs::RuleSums::found_node))]
+#[inline(always)]
 fn conditional_record<'a>(nodes: &Conditionals<'a>, lengths: &Sums, i: u32) -> RuleRecord<'a>
     requires lengths { lengths.now ≡ node_lengths nodes.now }
     requires rule { i < length (rules_of_nodes nodes.now) }

@@ -5,6 +5,7 @@ pub mod NodeTests
 pub mod TestsRight
 pub mod AskedEnds
 pub mod Passing
+pub mod TestOrder
 pub mod NumberedRules
 pub mod Resolvings
 pub mod Asking

@@ -16,7 +16,7 @@ use Rattle.rule_query.specs.Given.{Given, in_word_order, source_given, target_gi
 use Rattle.rule_query.specs.Meeting.{is_kind_asked, meeting, meets, meets_found, meets_given, meets_rule}
 use Rattle.rule_query.specs.NumberedRules.{rule_at}
 use Rattle.rule_query.specs.Tests.{first_of, passes, rule_test, sources_of, targets_of}
-use Rattle.rule_query.specs.Resolved.{AreTypesOf, IsQueryOf, Gains}
+use Rattle.rule_query.specs.Resolved.{AreSameTests, AreTypesOf, IsQueryOf, Gains}
 use Rattle.rule_query.proofs.AskedEnds.{asked_more, source_in_order, target_in_order}
 use Rattle.rule_query.proofs.NumberedRules.{is_declared, is_there, kind_is}
 
@@ -40,6 +40,14 @@ one_test policy done given old new alike gains = record {
       ∙ sym (list_all-append q done (given ∷ []));
   sources = rw (gains.added) (asked_more policy source_given sources_of done old given gains.test alike.sources gains.right.sources);
   targets = rw (gains.added) (asked_more policy target_given targets_of done old given gains.test alike.targets gains.right.targets);
+}
+
+-- the same tests in another order
+pub put_alike : (policy : Parts) (done : List Given) (these those : List Test) → PassAlike policy done these → AreSameTests these those → PassAlike policy done those
+put_alike policy done these those alike same = record {
+  tells = λ rule declared. same.pass (rule_test policy.symbols rule) ∙ alike.tells rule declared;
+  sources = rw same.sources alike.sources;
+  targets = rw same.targets alike.targets;
 }
 
 -- all of them

@@ -16,9 +16,9 @@ use Rattle.rule_query.specs.declared.given.GivenCriterion.{GivenCriterion}
 use Rattle.rule_query.specs.Given.{Given, in_word_order, shown}
 use Rattle.rule_tests.proofs.ClassPermissions.{take_get}
 use Rattle.rule_query.specs.Refusals.{is_pattern_word, pattern_texts}
-use Rattle.rule_query.specs.Resolved.{Gains}
+use Rattle.rule_query.specs.Resolved.{AreSameTests, Gains}
 use Rattle.rule_query.specs.Resolving.{Passes, Stops, AskedFor, IsFaulty, Ends, Resolves, AskEnds, Asks}
-use Rattle.rule_query.proofs.Passing.{PassAlike, no_tests, one_test, query_is}
+use Rattle.rule_query.proofs.Passing.{PassAlike, no_tests, one_test, put_alike, query_is}
 
 -- ---- texts that are asked for
 
@@ -111,16 +111,24 @@ no_order policy criteria old past = record {
 }
 
 -- all words passed
-pub all_words : (policy : Parts) (criteria : Criteria) (old new : Option (List (List ℕ))) (past now : ℕ) (done : List Given) (query : Query) → LookedUp policy criteria old new past now done query.tests.items → done ≡ in_word_order criteria → query.kinds ≡ criteria.kinds
-    → Resolves policy criteria old new past now (Ok query)
-all_words policy criteria old new past now done query so_far is kinds = record {
-  later = so_far.later;
-  query = query_is policy criteria query kinds (subst (λ (xs : List Given). PassAlike policy xs query.tests.items) is so_far.alike);
-  ends = record {
-    passed = subst (λ (xs : List Given). All (Passes policy criteria) xs) is so_far.passed;
-    asked = subst (λ (xs : List Given). AskedFor old new (pattern_texts xs)) is so_far.asked;
-  };
-}
+module _ (policy : Parts) (criteria : Criteria) (old new : Option (List (List ℕ))) (past now : ℕ) (done : List Given) (tests : List Test) (so_far : LookedUp policy criteria old new past now done tests) (is : done ≡ in_word_order criteria) where
+  pub all_words : (query : Query) → AreSameTests tests query.tests.items → query.kinds ≡ criteria.kinds → Resolves policy criteria old new past now (Ok query)
+  all_words query same kinds = record {
+    later = so_far.later;
+    query = query_is policy criteria query kinds (put_alike policy (in_word_order criteria) tests query.tests.items (subst (λ (xs : List Given). PassAlike policy xs tests) is so_far.alike) same);
+    ends = record {
+      passed = subst (λ (xs : List Given). All (Passes policy criteria) xs) is so_far.passed;
+      asked = subst (λ (xs : List Given). AskedFor old new (pattern_texts xs)) is so_far.asked;
+    };
+  }
+
+  -- no memory to put their tests in order
+  pub no_place : Resolves policy criteria old new past now (Err Memory)
+  no_place = record {
+    later = so_far.later;
+    query = tt;
+    ends = record { before = done; after = []; order = sym is ∙ sym (append-nil done); asked = so_far.asked };
+  }
 
 -- ---- the words of a list
 

@@ -1,5 +1,6 @@
 -- What criteria were looked up to, in a policy.
-use Rattle.std.specs.Prelude.{◌≡◌, ℕ, Option, Some, None, List, [], ◌∷◌, ◌++◌}
+use Rattle.std.specs.Prelude.{◌≡◌, ℕ, Bool, Option, Some, None, List, [], ◌∷◌, ◌++◌}
+use Rattle.std.specs.List.{list_all}
 use Rattle.pol_cursor.specs.declared.TableKind.TheVariants.{Types}
 use Rattle.pol_bitmap.specs.declared.Node.{Node}
 use Rattle.pol_bitmap.specs.Nodes.{has_bit}
@@ -13,7 +14,7 @@ use Rattle.rule_query.specs.declared.query.Query.{Query}
 use Rattle.rule_query.specs.Given.{Given, source_given, target_given}
 use Rattle.rule_query.specs.Ends.{meets_type}
 use Rattle.rule_query.specs.Meeting.{meets_given, meets_rule}
-use Rattle.rule_query.specs.Tests.{passes, rule_test, source_types, sources_of, target_types, targets_of}
+use Rattle.rule_query.specs.Tests.{first_of, passes, rule_test, source_types, sources_of, target_types, targets_of}
 
 -- Where a criterion of an end is given there is a set, and of the types and attributes that the policy declares it has those that meet it.
 abbrev pub AreTypesOf : Parts → Option Criterion → Option (List Node) → Type 0
@@ -34,6 +35,12 @@ pub record Gains (policy : Parts) (given : Given) (old new : List Test) : Type 0
   pub test : Test
   pub added : new ≡ old ++ test ∷ []
   pub right : IsTestOf policy given test
+
+-- The same tests, whichever comes first: what passes all of these passes all of those, and they ask for the same types.
+pub record AreSameTests (these those : List Test) : Type 0 where
+  pub pass : (p : Test → Bool) → list_all p those ≡ list_all p these
+  pub sources : first_of sources_of those ≡ first_of sources_of these
+  pub targets : first_of targets_of those ≡ first_of targets_of these
 
 -- It passes the whole query exactly where it meets all that is asked. The query has the types that the criteria of the ends ask for.
 pub record IsQueryOf (policy : Parts) (criteria : Criteria) (query : Query) : Type 0 where

@@ -102,6 +102,16 @@ rule_test symbols rule (tests.Numbers test) = numbers_test test rule.part
 rule_test symbols rule (tests.Default ends) = default_test ends rule.kind rule.part
 rule_test symbols rule (tests.Condition nodes) = condition_test nodes rule.condition
 
+-- a test looks at the whole rule, and not at its ends and its class alone
+abbrev pub reads_rule : Test → Bool
+reads_rule (tests.Source ends) = false
+reads_rule (tests.Target ends) = false
+reads_rule (tests.Class classes) = false
+reads_rule (tests.Permissions test) = true
+reads_rule (tests.Numbers test) = true
+reads_rule (tests.Default ends) = true
+reads_rule (tests.Condition nodes) = true
+
 -- a rule is of a kind that is asked, and passes all tests
 abbrev pub passes : Symbols → Query → StoredRule → Bool
 passes symbols query rule = is_kind_asked query.kinds rule.kind && list_all (rule_test symbols rule) query.tests.items

@@ -1,6 +1,6 @@
 ghost use Rattle.std.specs.Prelude.{◌≡◌, OnOk};
 ghost use Rattle.rule_query.specs.Given.{shown};
-ghost use Rattle.rule_query.specs.Resolved.{Gains};
+ghost use Rattle.rule_query.specs.Resolved.{AreSameTests, Gains};
 ghost use Rattle.rule_query.specs.Resolving.{Asks, BuildsWord, Resolves};
 ghost use Rattle.rule_query.specs.Tests.{HasPatternWord, IsMapIfMade};
 
@@ -59,10 +59,18 @@ pub fn resolve<P: Patterns>(
         let pattern = ask(alloc, policy.symbols(), &criteria.kinds, given, patterns)?;
         add_test(alloc, policy, &mut types, given, &pattern, &mut tests)?;
     }
+    put_ends_first(&mut tests)?;
     Ok(Query {
         kinds: criteria.kinds,
         tests,
     })
+}
+
+// Puts the tests of ends and classes before those that a rule is read whole for, which take longer.
+fn put_ends_first(tests: &mut Vec<Test>) -> Result<(), AllocError>
+    ensures { AreSameTests tests.old.items tests.new.items }
+{
+    tests.sort_by_key(|test| test.reads_rule())
 }
 
 // Adds the test of a criterion.

@@ -1,7 +1,7 @@
 // What a rule is compared with, criterion by criterion.
 ghost use Rattle.std.specs.Prelude.{◌≡◌};
 ghost use Rattle.pol_rules.specs.DeclaredRules.{default_table};
-ghost use Rattle.rule_query.specs.Tests.{class_test, condition_test, default_test, rule_test};
+ghost use Rattle.rule_query.specs.Tests.{class_test, condition_test, default_test, reads_rule, rule_test};
 
 use crate::ends::Ends;
 use crate::marked_set::has_value;
@@ -27,6 +27,13 @@ pub enum Test {
 }
 
 impl Test {
+    /// Whether the rule is read whole for it, and not its ends and its class alone.
+    pub fn reads_rule(&self) -> bool
+        ensures { result ≡ reads_rule self.now }
+    {
+        !matches!(self, Test::Source(_) | Test::Target(_) | Test::Class(_))
+    }
+
     /// Whether a rule passes. Takes no memory.
     pub fn passes(&self, symbols: &Symbols<'_>, rule: &NumberedRule<'_, '_>) -> bool
         ensures { result ≡ rule_test symbols.now rule.now self.now }

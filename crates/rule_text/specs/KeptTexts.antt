@@ -9,9 +9,9 @@ use Rattle.pol_rules.specs.declared.rule.RulePart.{RulePart}
 use Rattle.pol_rules.specs.declared.rule.RulePart.TheVariants as parts
 use Rattle.pol_rules.specs.StoredRules.{StoredRule}
 use Rattle.rule_text.specs.declared.kept_head.KeptHead.{KeptHead}
-use Rattle.rule_text.specs.declared.kept_texts.GivenNumber.{GivenNumber}
-use Rattle.rule_text.specs.declared.kept_texts.GivenNumber.TheVariants.{Perms, Default}
 use Rattle.rule_text.specs.declared.kept_texts.KeptText.{KeptText}
+use Rattle.rule_text.specs.declared.kept_texts.TextKey.{TextKey}
+use Rattle.rule_text.specs.declared.kept_texts.TextKey.TheVariants.{Perms, Default, Under}
 use Rattle.rule_text.specs.RuleFrames.{head_text}
 use Rattle.rule_text.specs.ConditionTexts.{condition_text}
 use Rattle.rule_text.specs.RuleTexts.{class_text, part_text, file_name_text}
@@ -20,25 +20,26 @@ use Rattle.rule_text.specs.RuleTexts.{class_text, part_text, file_name_text}
 unfoldable pub given_text : Symbols → RuleKind → ℕ → RulePart → List ℕ
 given_text symbols kind class part = class_text symbols kind class ++ part_text symbols kind class part
 
--- what stands behind that
-abbrev pub end_text : Parts → StoredRule → List ℕ
-end_text policy rule = file_name_text rule.name ++ codes ";" ++ condition_text (name_in policy.symbols) policy.rules.conditionals rule.condition
+-- what stands between that and the condition
+abbrev pub end_text : StoredRule → List ℕ
+end_text rule = file_name_text rule.name ++ codes ";"
 
 -- A kept head is that of its kind and source.
 abbrev pub IsHead : Symbols → KeptHead → Type 0
 IsHead symbols head = head.text.items ≡ head_text symbols head.kind head.source
 
--- what a rule gives by one number
-abbrev pub part_of : GivenNumber → RulePart
-part_of (Perms mask) = parts.Perms mask
-part_of (Default value) = parts.Default value
+-- the text of what a key stands for
+abbrev pub text_of : Parts → TextKey → List ℕ
+text_of policy (Perms kind class mask) = given_text policy.symbols kind class (parts.Perms mask)
+text_of policy (Default kind class value) = given_text policy.symbols kind class (parts.Default value)
+text_of policy (Under condition) = condition_text (name_in policy.symbols) policy.rules.conditionals (Some condition)
 
--- What a slot keeps, if it does, is the text of its kind, its class and what is given.
-abbrev pub IsKept : Symbols → Option KeptText → Type 0
-IsKept symbols None = ⊤
-IsKept symbols (Some kept) = kept.text.items ≡ given_text symbols kept.kind kept.class (part_of kept.given)
+-- What a slot keeps, if it does, is the text of its key.
+abbrev pub IsKept : Parts → Option KeptText → Type 0
+IsKept policy None = ⊤
+IsKept policy (Some kept) = kept.text.items ≡ text_of policy kept.key
 
 -- so in each of 4,096 slots
-pub record AreKept (symbols : Symbols) (slots : List (Option KeptText)) : Type 0 where
+pub record AreKept (policy : Parts) (slots : List (Option KeptText)) : Type 0 where
   pub count : length slots ≡ 4096
-  pub each : All (IsKept symbols) slots
+  pub each : All (IsKept policy) slots

@@ -1,47 +1,182 @@
-//! The texts of classes, with the permissions or the default behind them, that were written last.
+//! The texts that rules have in common, as far as they were written last.
 
 ghost use Rattle.std.specs.Prelude.{◌≡◌, ◌<◌, ◌++◌, OnOk, IfOk, IfSome};
-ghost use Rattle.pol_symbols.specs.declared.Symbols.{Symbols};
-ghost use Rattle.rule_text.specs.KeptTexts.{AreKept, IsKept, given_text, part_of};
+ghost use Rattle.pol_symbols.specs.PolicySymbols.{name_in};
+ghost use Rattle.pol_rules.specs.DeclaredRules.{StandsUnder};
+ghost use Rattle.pol_file.specs.declared.Parts.{Parts};
+ghost use Rattle.rule_text.specs.ConditionTexts.{condition_text};
+ghost use Rattle.rule_text.specs.KeptTexts.{AreKept, IsKept, given_text, text_of};
 
+use crate::condition_texts::push_condition;
 use crate::rule_texts::RuleTexts;
-use pol_read::{Rule, RuleKind};
+use pol_read::{Condition, Policy, Rule, RuleKind, RulePart};
 use std::alloc::{AllocError, Global};
+use std::marker::Model;
 
 // How many texts are kept at most.
 const SLOTS: usize = 4096;
 
-/// What a rule gives by one number.
+// How long a text may be that is kept.
+const LONGEST: usize = 4096;
+
+// What a text is of that rules have in common.
 #[derive(Clone, Copy, PartialEq, Eq)]
-pub(crate) enum GivenNumber {
-    /// Permissions, by a mask.
-    Perms(u32),
-    /// A type or a role, by its value.
-    Default(u32),
+enum TextKey {
+    // A class and permissions of it by a mask, as the rules of a kind give them.
+    Perms {
+        kind: RuleKind,
+        class: u32,
+        mask: u32,
+    },
+    // A class and a default by its value, as the rules of a kind give it.
+    Default {
+        kind: RuleKind,
+        class: u32,
+        value: u32,
+    },
+    // A condition that rules stand under.
+    Under(Condition),
 }
 
-impl GivenNumber {
-    // The number.
-    fn number(self) -> u32 {
-        match self {
-            GivenNumber::Perms(mask) => mask,
-            GivenNumber::Default(value) => value,
+impl TextKey {
+    // What a rule gives, where it does so by one number.
+    fn given(rule: &Rule<'_>) -> Option<TextKey>
+        ensures { (policy : Parts) → IfSome result (λ key. text_of policy key ≡ given_text policy.symbols rule.now.kind rule.now.class rule.now.part) }
+    {
+        let kind = rule.kind;
+        let class = rule.class;
+        match rule.part {
+            RulePart::Perms(mask) => Some(TextKey::Perms { kind, class, mask }),
+            RulePart::Default(value) => Some(TextKey::Default { kind, class, value }),
+            _ => None,
         }
+    }
+
+    // The slot of its text. Any would do: this one spreads those that come together.
+    fn slot(self) -> usize
+        ensures { result < 4096 }
+    {
+        let (group, number) = match self {
+            TextKey::Perms { class, mask, .. } => (class, mask),
+            TextKey::Default { class, value, .. } => (class, value),
+            TextKey::Under(condition) => (u32::from(condition.branch), condition.node),
+        };
+        let mixed = (group.wrapping_mul(0x85EB_CA6B) ^ number).wrapping_mul(0x9E37_79B1);
+        (mixed >> 20) as usize % SLOTS
     }
 }
 
-/// The class and what the rules of a kind give by one number, as they stand behind the ends.
+// A text that is kept.
 #[derive(Drop)]
-pub(crate) struct KeptText {
-    pub(crate) kind: RuleKind,
-    pub(crate) class: u32,
-    pub(crate) given: GivenNumber,
-    pub(crate) text: Vec<u8>,
+struct KeptText {
+    key: TextKey,
+    text: Vec<u8>,
 }
 
-/// Slots that keep no text.
-pub(crate) fn empty_slots(alloc: Global) -> Result<Vec<Option<KeptText>>, AllocError>
-    ensures { (symbols : Symbols) → IfOk result (λ slots. AreKept symbols slots.items) }
+/// The texts of a policy's rules, of which those that rules have in common are kept: so many at most, and none that is long. A text
+/// takes the place of another. Contracts see the policy.
+#[derive(Drop)]
+pub(crate) struct KeptTexts<'p, 'a> {
+    texts: RuleTexts<'p, 'a>,
+    slots: Vec<Option<KeptText>>,
+}
+
+impl<'p, 'a> Model for KeptTexts<'p, 'a> {
+    ghost use Rattle.pol_file.specs.declared.Parts.{Parts};
+    ghost use Rattle.rule_text.specs.KeptTexts.{AreKept};
+
+    ghost Value = { Parts };
+
+    ghost view = { λ kept. kept.texts };
+
+    ghost invariant = { λ kept. AreKept kept.texts kept.slots.items };
+}
+
+impl<'p, 'a> KeptTexts<'p, 'a> {
+    /// None is kept yet.
+    pub(crate) fn none(
+        alloc: Global,
+        texts: RuleTexts<'p, 'a>,
+    ) -> Result<KeptTexts<'p, 'a>, AllocError>
+        ensures { IfOk result (λ kept. kept ≡ texts.entry) }
+    {
+        let slots = empty_slots(alloc)?;
+        Ok(KeptTexts { texts, slots })
+    }
+
+    /// The policy.
+    pub(crate) fn policy(&self) -> &'p Policy<'a>
+        ensures { result.now ≡ self.now }
+    {
+        self.texts.policy()
+    }
+
+    /// Adds the class of a rule and what the rule gives.
+    pub(crate) fn push_given(
+        &mut self,
+        rule: &Rule<'a>,
+        buffer: &mut Vec<u8>,
+    ) -> Result<(), AllocError>
+        ensures policy { self.new ≡ self.old }
+        ensures text { OnOk result (buffer.new.items ≡ buffer.old.items ++ given_text self.old.symbols rule.now.kind rule.now.class rule.now.part) }
+    {
+        let Some(key) = TextKey::given(rule) else {
+            return self.texts.push_given(buffer, rule);
+        };
+        if let Some(text) = self.text(key) {
+            return buffer.extend_from_slice(text);
+        }
+        let start = buffer.len();
+        self.texts.push_given(buffer, rule)?;
+        self.keep(key, &buffer[start..])
+    }
+
+    /// Adds the condition behind a rule, or nothing where it stands under none.
+    #[tactic(auto, unfolding(crate::specs::ConditionTexts::condition_text))]
+    pub(crate) fn push_condition(
+        &mut self,
+        condition: Option<Condition>,
+        buffer: &mut Vec<u8>,
+    ) -> Result<(), AllocError>
+        requires { StandsUnder self.old.rules.conditionals condition }
+        ensures policy { self.new ≡ self.old }
+        ensures text { OnOk result (buffer.new.items ≡ buffer.old.items ++ condition_text (name_in self.old.symbols) self.old.rules.conditionals condition) }
+    {
+        let Some(condition) = condition else {
+            return Ok(());
+        };
+        let key = TextKey::Under(condition);
+        if let Some(text) = self.text(key) {
+            return buffer.extend_from_slice(text);
+        }
+        let start = buffer.len();
+        push_condition(buffer, self.policy(), Some(condition))?;
+        self.keep(key, &buffer[start..])
+    }
+
+    // The text of a key, where it is kept.
+    fn text(&self, key: TextKey) -> Option<&[u8]>
+        ensures { IfSome result (λ text. text.now ≡ text_of self.now key) }
+    {
+        text_in(&self.slots[key.slot()], key)
+    }
+
+    // Keeps the text of a key, unless it is long.
+    fn keep(&mut self, key: TextKey, text: &[u8]) -> Result<(), AllocError>
+        requires { text.now ≡ text_of self.old key }
+        ensures { self.new ≡ self.old }
+    {
+        if text.len() <= LONGEST {
+            let text = Vec::from_slice(*self.slots.allocator(), text)?;
+            self.slots[key.slot()] = Some(KeptText { key, text });
+        }
+        Ok(())
+    }
+}
+
+// Slots that keep no text.
+fn empty_slots(alloc: Global) -> Result<Vec<Option<KeptText>>, AllocError>
+    ensures { (policy : Parts) → IfOk result (λ slots. AreKept policy slots.items) }
 {
     let mut slots = Vec::new(alloc);
     'slots: for _number in 0..SLOTS {
@@ -50,56 +185,12 @@ pub(crate) fn empty_slots(alloc: Global) -> Result<Vec<Option<KeptText>>, AllocE
     Ok(slots)
 }
 
-/// Adds the class of a rule and what it gives, which is this, and keeps the text in the slot that it goes to, in the place of another.
-pub(crate) fn push_kept<'a>(
-    buffer: &mut Vec<u8>,
-    texts: &RuleTexts<'_, 'a>,
-    slots: &mut Vec<Option<KeptText>>,
-    rule: &Rule<'a>,
-    given: GivenNumber,
-) -> Result<(), AllocError>
-    requires kept { AreKept texts.now.symbols slots.old.items }
-    requires part { rule.now.part ≡ part_of given }
-    ensures kept { AreKept texts.now.symbols slots.new.items }
-    ensures text { OnOk result (buffer.new.items ≡ buffer.old.items ++ given_text texts.now.symbols rule.now.kind rule.now.class rule.now.part) }
-{
-    let slot = slot_of(rule.class, given.number());
-    if let Some(text) = text_in(&slots[slot], rule.kind, rule.class, given) {
-        return buffer.extend_from_slice(text);
-    }
-    let mut text = Vec::new(*buffer.allocator());
-    texts.push_given(&mut text, rule)?;
-    buffer.extend_from_slice(&text)?;
-    slots[slot] = Some(KeptText {
-        kind: rule.kind,
-        class: rule.class,
-        given,
-        text,
-    });
-    Ok(())
-}
-
-// The slot of the texts of a class and a number. Any would do: this one spreads those that come together.
-fn slot_of(class: u32, number: u32) -> usize
-    ensures { result < 4096 }
-{
-    let mixed = (class.wrapping_mul(0x85EB_CA6B) ^ number).wrapping_mul(0x9E37_79B1);
-    (mixed >> 20) as usize % SLOTS
-}
-
-// The text in a slot, where it is that of a kind, a class and what is given.
-fn text_in<'s>(
-    slot: &'s Option<KeptText>,
-    kind: RuleKind,
-    class: u32,
-    given: GivenNumber,
-) -> Option<&'s [u8]>
-    ensures { (symbols : Symbols) → IsKept symbols slot.now → IfSome result (λ text. text.now ≡ given_text symbols kind class (part_of given)) }
+// The text in a slot, where it is that of a key.
+fn text_in(slot: &Option<KeptText>, key: TextKey) -> Option<&[u8]>
+    ensures { (policy : Parts) → IsKept policy slot.now → IfSome result (λ text. text.now ≡ text_of policy key) }
 {
     match slot {
-        Some(kept) if kept.kind == kind && kept.class == class && kept.given == given => {
-            Some(&kept.text)
-        }
+        Some(kept) if kept.key == key => Some(&kept.text),
         _ => None,
     }
 }

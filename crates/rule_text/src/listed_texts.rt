@@ -3,39 +3,37 @@
 ghost use Rattle.std.specs.Prelude.{◌≡◌, ◌++◌, OnOk, IfOk};
 ghost use Rattle.pol_rules.specs.StoredRules.{stored};
 ghost use Rattle.pol_rules.specs.DeclaredRules.{IsDeclaredRule, StandsUnder};
-ghost use Rattle.rule_text.specs.KeptTexts.{AreKept, given_text};
 ghost use Rattle.rule_text.specs.RuleTexts.{rest_text, rule_text};
 
 use crate::kept_head::KeptHead;
-use crate::kept_texts::{GivenNumber, KeptText, empty_slots, push_kept};
+use crate::kept_texts::KeptTexts;
 use crate::rule_texts::RuleTexts;
 use crate::type_names::TypeNames;
 use crate::whole_rule::push_end;
-use pol_read::{Policy, Rule, RulePart};
+use pol_read::{Policy, Rule};
 use std::alloc::{AllocError, Global};
 use std::marker::Model;
 
 /// The texts of whole rules of a policy, where many are written one after the other: what stands before the targets of a source is
 /// made once where its rules come together, and so is most of what stands behind the ends of rules that give the same permissions or the
-/// same default. The names of targets are looked up once. Contracts see the policy.
+/// same default, and of those that stand under the same condition. The names of targets are looked up once. Contracts see the policy.
 #[derive(Drop)]
 pub struct ListedTexts<'p, 'a> {
-    texts: RuleTexts<'p, 'a>,
+    texts: KeptTexts<'p, 'a>,
     head: KeptHead,
     names: TypeNames<'a>,
-    slots: Vec<Option<KeptText>>,
 }
 
 impl<'p, 'a> Model for ListedTexts<'p, 'a> {
     ghost use Rattle.pol_file.specs.declared.Parts.{Parts};
-    ghost use Rattle.rule_text.specs.KeptTexts.{AreKept, IsHead};
+    ghost use Rattle.rule_text.specs.KeptTexts.{IsHead};
     ghost use Rattle.rule_text.specs.TypeNames.{AreNamesOf};
 
     ghost Value = { Parts };
 
     ghost view = { λ listed. listed.texts };
 
-    ghost invariant = { λ listed. IsHead listed.texts.symbols listed.head × AreNamesOf listed.texts.symbols listed.names × AreKept listed.texts.symbols listed.slots.items };
+    ghost invariant = { λ listed. IsHead listed.texts.symbols listed.head × AreNamesOf listed.texts.symbols listed.names };
 }
 
 impl<'p, 'a> ListedTexts<'p, 'a> {
@@ -45,10 +43,9 @@ impl<'p, 'a> ListedTexts<'p, 'a> {
     {
         let symbols = policy.symbols();
         Ok(ListedTexts {
-            texts: RuleTexts::new(alloc, policy)?,
+            texts: KeptTexts::none(alloc, RuleTexts::new(alloc, policy)?)?,
             head: KeptHead::none(alloc, symbols)?,
             names: TypeNames::new(alloc, symbols)?,
-            slots: empty_slots(alloc)?,
         })
     }
 
@@ -70,47 +67,22 @@ impl<'p, 'a> ListedTexts<'p, 'a> {
         self.head.push(symbols, rule.kind, rule.source, buffer)?;
         self.names
             .push_target(symbols, rule.kind, rule.target, buffer)?;
-        push_rest(buffer, &self.texts, &mut self.slots, rule)
+        push_rest(&mut self.texts, rule, buffer)
     }
 }
 
 // Adds what stands behind the ends of a rule.
 #[tactic(auto, unfolding(crate::specs::RuleTexts::rest_text, crate::specs::KeptTexts::given_text))]
 fn push_rest<'a>(
-    buffer: &mut Vec<u8>,
-    texts: &RuleTexts<'_, 'a>,
-    slots: &mut Vec<Option<KeptText>>,
+    texts: &mut KeptTexts<'_, 'a>,
     rule: &Rule<'a>,
-) -> Result<(), AllocError>
-    requires kept { AreKept texts.now.symbols slots.old.items }
-    requires under { StandsUnder texts.now.rules.conditionals rule.now.condition }
-    ensures kept { AreKept texts.now.symbols slots.new.items }
-    ensures text { OnOk result (buffer.new.items ≡ buffer.old.items ++ rest_text texts.now (stored rule.now)) }
-{
-    push_given(buffer, texts, slots, rule)?;
-    push_end(buffer, texts.policy(), rule)
-}
-
-// Adds the class of a rule and what the rule gives. The text of what it gives by one number is kept.
-fn push_given<'a>(
     buffer: &mut Vec<u8>,
-    texts: &RuleTexts<'_, 'a>,
-    slots: &mut Vec<Option<KeptText>>,
-    rule: &Rule<'a>,
 ) -> Result<(), AllocError>
-    requires { AreKept texts.now.symbols slots.old.items }
-    ensures kept { AreKept texts.now.symbols slots.new.items }
-    ensures text { OnOk result (buffer.new.items ≡ buffer.old.items ++ given_text texts.now.symbols rule.now.kind rule.now.class rule.now.part) }
+    requires { StandsUnder texts.old.rules.conditionals rule.now.condition }
+    ensures policy { texts.new ≡ texts.old }
+    ensures text { OnOk result (buffer.new.items ≡ buffer.old.items ++ rest_text texts.old (stored rule.now)) }
 {
-    match rule.part {
-        RulePart::Perms(mask) => push_kept(buffer, texts, slots, rule, GivenNumber::Perms(mask)),
-        RulePart::Default(value) => push_kept(
-            buffer,
-            texts,
-            slots,
-            rule,
-            GivenNumber::Default(value),
-        ),
-        _ => texts.push_given(buffer, rule),
-    }
+    texts.push_given(rule, buffer)?;
+    push_end(buffer, rule)?;
+    texts.push_condition(rule.condition, buffer)
 }

@@ -62,7 +62,8 @@ pub(crate) fn push_rest(
     ensures { OnOk result (buffer.new.items ≡ buffer.old.items ++ rest_text policy.now (stored rule.now)) }
 {
     push_given(buffer, policy.symbols(), rule, permissions)?;
-    push_end(buffer, policy, rule)
+    push_end(buffer, rule)?;
+    push_condition(buffer, policy, rule.condition)
 }
 
 /// Adds the class of a rule and what the rule gives.
@@ -80,16 +81,10 @@ pub(crate) fn push_given(
     push_part(buffer, symbols, rule, permissions)
 }
 
-/// Adds what stands behind that: the name of the new object, the end and the condition.
-pub(crate) fn push_end(
-    buffer: &mut Vec<u8>,
-    policy: &Policy<'_>,
-    rule: &Rule<'_>,
-) -> Result<(), AllocError>
-    requires { StandsUnder policy.now.rules.conditionals rule.now.condition }
-    ensures { OnOk result (buffer.new.items ≡ buffer.old.items ++ end_text policy.now (stored rule.now)) }
+/// Adds what stands between that and the condition: the name of the new object, where it has one, and the end.
+pub(crate) fn push_end(buffer: &mut Vec<u8>, rule: &Rule<'_>) -> Result<(), AllocError>
+    ensures { OnOk result (buffer.new.items ≡ buffer.old.items ++ end_text (stored rule.now)) }
 {
     push_file_name(buffer, rule.name)?;
-    buffer.push(b';')?;
-    push_condition(buffer, policy, rule.condition)
+    Ok(buffer.push(b';')?)
 }

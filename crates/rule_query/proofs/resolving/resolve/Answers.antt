@@ -1,7 +1,7 @@
 use Rattle.std.proofs.Common.{◌+◌, ◌∙◌, List, map, take, drop, refl, sym, ap, subst}
 use Rattle.std.proofs.lemmas.Result.{err_from_is_err_and}
 use Rattle.rule_query.specs.Given.{Given, in_word_order, shown}
-use Rattle.rule_query.proofs.Resolvings.{LookedUp, nothing_yet, one_more, stopped, no_room, all_words, split_at, one_taken, all_taken}
+use Rattle.rule_query.proofs.Resolvings.{LookedUp, nothing_yet, one_more, stopped, no_place, no_room, all_words, split_at, one_taken, all_taken}
 use Rattle.rule_query.proofs.resolving.resolve.Goals as goal
 
 pub loop-given-init : goal.loop-given-init
@@ -44,5 +44,13 @@ loop-given-preserved g c = record {
 
 pub returns : goal.returns
 returns g c = all_words c.args.policy.now c.args.criteria.now (g.P.Patterns.asked c.args.patterns.now) (g.P.Patterns.asked c.loop-given.patterns) (g.P.Patterns.refusals c.args.patterns.now) (g.P.Patterns.refusals c.loop-given.patterns)
-    (map shown (take c.loop-given.given-index c.deref-given-items.result.now)) (record { kinds = c.args.criteria.now.kinds; tests = c.loop-given.tests }) c.loop-given.invariant.are_looked_up
-    (all_taken c.deref-given-items.result.now c.loop-given.given-index (in_word_order c.args.criteria.now) c.loop-given-test.false (ap (map shown) c.deref-given-items.ensures.value ∙ c.in_ok-order.ensures)) refl
+    (map shown (take c.loop-given.given-index c.deref-given-items.result.now)) c.loop-given.tests.items c.loop-given.invariant.are_looked_up
+    (all_taken c.deref-given-items.result.now c.loop-given.given-index (in_word_order c.args.criteria.now) c.loop-given-test.false (ap (map shown) c.deref-given-items.ensures.value ∙ c.in_ok-order.ensures))
+    (record { kinds = c.args.criteria.now.kinds; tests = c.put_ends_first.new.tests }) c.put_ends_first.ensures refl
+
+pub returns-in_err-put_ends_first : goal.returns-in_err-put_ends_first
+returns-in_err-put_ends_first g c =
+    let p = err_from_is_err_and c.from_residual-in_err-put_ends_first.result c.from_residual-in_err-put_ends_first.ensures.1 in
+    rw (p.1, p.2) (no_place c.args.policy.now c.args.criteria.now (g.P.Patterns.asked c.args.patterns.now) (g.P.Patterns.asked c.loop-given.patterns) (g.P.Patterns.refusals c.args.patterns.now) (g.P.Patterns.refusals c.loop-given.patterns)
+    (map shown (take c.loop-given.given-index c.deref-given-items.result.now)) c.loop-given.tests.items c.loop-given.invariant.are_looked_up
+    (all_taken c.deref-given-items.result.now c.loop-given.given-index (in_word_order c.args.criteria.now) c.loop-given-test.false (ap (map shown) c.deref-given-items.ensures.value ∙ c.in_ok-order.ensures)))

@@ -1,11 +1,11 @@
 use Rattle.std.proofs.Common.{◌∙◌, ap, subst, sym}
 use Rattle.pol_symbols.specs.declared.Symbols.{Symbols}
 use Rattle.pol_file.specs.declared.Parts.{Parts}
-use Rattle.rule_text.specs.KeptTexts.{AreKept, IsHead}
+use Rattle.rule_text.specs.KeptTexts.{IsHead}
 use Rattle.rule_text.specs.TypeNames.{AreNamesOf}
 use Rattle.rule_text.proofs.listed_texts.ListedTexts.new.Goals as goal
 
 pub invariant_of-result : goal.invariant_of-result
 invariant_of-result c =
-    let P : Symbols → Type 0 = λ symbols. IsHead symbols c.in_ok-none.field-0 × AreNamesOf symbols c.in_ok-new-2.field-0 × AreKept symbols c.in_ok-empty_slots.field-0.items in
-    subst P (c.symbols-symbols.ensures ∙ sym (ap (λ (policy : Parts). policy.symbols) c.in_ok-new.ensures)) (c.in_ok-none.ensures, c.in_ok-new-2.ensures, c.in_ok-empty_slots.ensures c.symbols-symbols.result.now)
+    let P : Symbols → Type 0 = λ symbols. IsHead symbols c.in_ok-none-2.field-0 × AreNamesOf symbols c.in_ok-new-2.field-0 in
+    subst P (c.symbols-symbols.ensures ∙ sym (ap (λ (policy : Parts). policy.symbols) (c.in_ok-none.ensures ∙ c.in_ok-new.ensures))) (c.in_ok-none-2.ensures, c.in_ok-new-2.ensures)
