@@ -3,7 +3,8 @@ use Rattle.std.proofs.Common.{◌≡◌, ⊎_elim, ℕ, ◌+◌, ◌≤◌, Opti
 use Rattle.std.specs.Prelude.{◌||◌, ◌==◌, nat_le, option_map, if◌then◌else◌}
 use Rattle.std.proofs.lemmas.Bool.{false≢true, le-ltb, eqb-true, or_cases, or_right}
 use Rattle.pol_cursor.specs.declared.field.Field.{Field}
-use Rattle.pol_cursor.specs.Outcome.{Position, Reader, Got, field}
+use Rattle.pol_cursor.specs.declared.fields.TheConstants.{AV_SOURCE, AV_TARGET, AV_CLASS, AV_SPECIFIED, AV_XKIND, AV_DRIVER, AV_BITS, AV_DATA}
+use Rattle.pol_cursor.specs.Outcome.{Position, Reader, Got}
 use Rattle.pol_cursor.specs.Parts.{num, number, string}
 use Rattle.pol_cursor.proofs.Facts.{number_is, string_is}
 use Rattle.pol_cursor.proofs.Lists.{Gave}
@@ -18,13 +19,13 @@ use Rattle.pol_avtab.specs.InnerKeys.{IsFirst}
 extended_is : (a b : ℕ) (bits : List ℕ) (a' b' : ℕ) (bits' : List ℕ) → a ≡ a' → b ≡ b' → bits ≡ bits' → Extended a b bits ≡ Extended a' b' bits'
 extended_is a b bits a' b' bits' p q r = rw (p, q, r) refl
 
-pub extended_read : (bytes : List ℕ) (place second third next xkind driver : ℕ) (bits : List ℕ) → number (field 16 5) 1 bytes place ≡ Got xkind second → xkind_test xkind ≡ None → number (field 16 6) 1 bytes second ≡ Got driver third
-    → string (field 16 7) 32 bytes third ≡ Got bits next → extended_at bytes place ≡ Got (Extended (num bytes place 1) (num bytes (place + 1) 1) (take 32 (drop (place + 2) bytes))) next
+pub extended_read : (bytes : List ℕ) (place second third next xkind driver : ℕ) (bits : List ℕ) → number AV_XKIND 1 bytes place ≡ Got xkind second → xkind_test xkind ≡ None → number AV_DRIVER 1 bytes second ≡ Got driver third
+    → string AV_BITS 32 bytes third ≡ Got bits next → extended_at bytes place ≡ Got (Extended (num bytes place 1) (num bytes (place + 1) 1) (take 32 (drop (place + 2) bytes))) next
 unfolding extended_at
 extended_read bytes place second third next xkind driver bits e test f g =
-    let p = number_is (field 16 5) 1 bytes place xkind second e in
-    let q = number_is (field 16 6) 1 bytes second driver third f in
-    let r = string_is (field 16 7) 32 bytes third bits next g in
+    let p = number_is AV_XKIND 1 bytes place xkind second e in
+    let q = number_is AV_DRIVER 1 bytes second driver third f in
+    let r = string_is AV_BITS 32 bytes third bits next g in
     let behind : third ≡ place + 2 = omega (arith, p.1, q.1) in
     let is = extended_is xkind driver bits (num bytes place 1) (num bytes (place + 1) 1) (take 32 (drop (place + 2) bytes)) p.0 (q.0 ∙ ap (λ (i : ℕ). num bytes i 1) p.1) (r.0 ∙ ap (λ (i : ℕ). take 32 (drop i bytes)) behind) in
     rw (e, test, f, g) (ap (λ (part : AvPart). Got part next) is)
@@ -36,8 +37,8 @@ behind_part true place third next e f = omega (arith, e, f)
 behind_part false place third next e f = omega (arith, e, f)
 
 module _ (bytes : List ℕ) (place second third fourth fifth next source target class specified : ℕ)
-    (e : number (field 16 1) 2 bytes place ≡ Got source second) (f : number (field 16 2) 2 bytes second ≡ Got target third) (g : number (field 16 3) 2 bytes third ≡ Got class fourth)
-    (h : number (field 16 4) 2 bytes fourth ≡ Got specified fifth) where
+    (e : number AV_SOURCE 2 bytes place ≡ Got source second) (f : number AV_TARGET 2 bytes second ≡ Got target third) (g : number AV_CLASS 2 bytes third ≡ Got class fourth)
+    (h : number AV_SPECIFIED 2 bytes fourth ≡ Got specified fifth) where
   record IsHead : Type 0 where
     source_is : source ≡ num bytes place 2
     target_is : target ≡ num bytes (place + 2) 2
@@ -47,10 +48,10 @@ module _ (bytes : List ℕ) (place second third fourth fifth next source target 
 
   head : IsHead
   head =
-      let p = number_is (field 16 1) 2 bytes place source second e in
-      let q = number_is (field 16 2) 2 bytes second target third f in
-      let r = number_is (field 16 3) 2 bytes third class fourth g in
-      let s = number_is (field 16 4) 2 bytes fourth specified fifth h in
+      let p = number_is AV_SOURCE 2 bytes place source second e in
+      let q = number_is AV_TARGET 2 bytes second target third f in
+      let r = number_is AV_CLASS 2 bytes third class fourth g in
+      let s = number_is AV_SPECIFIED 2 bytes fourth specified fifth h in
       record {
         source_is = p.0;
         target_is = q.0 ∙ ap (λ (i : ℕ). num bytes i 2) p.1;
@@ -81,7 +82,7 @@ pub record IsAvRead (version : ℕ) (earlier : Option (List AvKey)) (old new : P
 
 -- the parts, one after the other
 pub av_read : (version : ℕ) (earlier : Option (List AvKey)) (old second third fourth fifth new : Position) (source target class specified : ℕ)
-    → Gave (number (field 16 1) 2) source old second → Gave (number (field 16 2) 2) target second third → Gave (number (field 16 3) 2) class third fourth → Gave (number (field 16 4) 2) specified fourth fifth
+    → Gave (number AV_SOURCE 2) source old second → Gave (number AV_TARGET 2) target second third → Gave (number AV_CLASS 2) class third fourth → Gave (number AV_SPECIFIED 2) specified fourth fifth
     → specified_test version earlier (record { source = source; target = target; class = class; specified = kind_of specified }) ≡ None
     → Gave (part_at (is_extended specified)) (part_in (is_extended specified) fifth.bytes fifth.place) fifth new → new.place ≡ fifth.place + (if is_extended specified then 34 else 4) → new.place ≤ length fifth.bytes → IsAvRead version earlier old new
 av_read version earlier old second third fourth fifth new source target class specified e f g h test part end long =
@@ -89,10 +90,10 @@ av_read version earlier old second third fourth fifth new source target class sp
     let third_same : third.bytes ≡ bytes = f.1 ∙ e.1 in
     let fourth_same : fourth.bytes ≡ bytes = g.1 ∙ third_same in
     let same : fifth.bytes ≡ bytes = h.1 ∙ fourth_same in
-    let e' = in_buffer (number (field 16 1) 2) source bytes old second refl e in
-    let f' = in_buffer (number (field 16 2) 2) target bytes second third e.1 f in
-    let g' = in_buffer (number (field 16 3) 2) class bytes third fourth third_same g in
-    let h' = in_buffer (number (field 16 4) 2) specified bytes fourth fifth fourth_same h in
+    let e' = in_buffer (number AV_SOURCE 2) source bytes old second refl e in
+    let f' = in_buffer (number AV_TARGET 2) target bytes second third e.1 f in
+    let g' = in_buffer (number AV_CLASS 2) class bytes third fourth third_same g in
+    let h' = in_buffer (number AV_SPECIFIED 2) specified bytes fourth fifth fourth_same h in
     let part' : part_at (is_extended specified) bytes fifth.place ≡ Got (part_in (is_extended specified) bytes fifth.place) new.place = subst (λ (b : List ℕ). part_at (is_extended specified) b fifth.place ≡ Got (part_in (is_extended specified) b fifth.place) new.place) same part.0 in
     let ends = av_ends bytes old.place second.place third.place fourth.place fifth.place new.place source target class specified e' f' g' h' end in
     record {
@@ -136,7 +137,7 @@ stands_well version earlier first key kind e = rw kind (standing version earlier
 
 plain_part : (bytes : List ℕ) (place : ℕ) (extended : Bool) → extended ≡ false → place + 4 ≤ length bytes → part_at extended bytes place ≡ Got (part_in extended bytes place) (place + 4)
 unfolding part_at data_at
-plain_part bytes place extended e long = rw (e, number_there (field 16 8) 4 bytes place long) refl
+plain_part bytes place extended e long = rw (e, number_there AV_DATA 4 bytes place long) refl
 
 pub plain_end : (bytes : List ℕ) (place : ℕ) → is_kind 0 (specified_in bytes place) ≡ true → av_end bytes place ≡ place + 12
 plain_end bytes place kind = rw (plain 0 (specified_in bytes place) kind).2 refl
@@ -148,7 +149,7 @@ plain_read version earlier first bytes place long kind =
     let is = plain version specified (subst (λ (n : ℕ). is_kind 0 n ≡ true) same kind) in
     let key : AvKey = record { source = num bytes place 2; target = num bytes (place + 2) 2; class = num bytes (place + 2 + 2) 2; specified = kind_of specified } in
     let got = av_got bytes place (place + 2) (place + 2 + 2) (place + 2 + 2 + 2) (place + 2 + 2 + 2 + 2) (place + 2 + 2 + 2 + 2 + 4) key.source key.target key.class specified
-    (number_there (field 16 1) 2 bytes place (omega (arith, long))) (number_there (field 16 2) 2 bytes (place + 2) (omega (arith, long))) (number_there (field 16 3) 2 bytes (place + 2 + 2) (omega (arith, long)))
-    (number_there (field 16 4) 2 bytes (place + 2 + 2 + 2) (omega (arith, long)))
+    (number_there AV_SOURCE 2 bytes place (omega (arith, long))) (number_there AV_TARGET 2 bytes (place + 2) (omega (arith, long))) (number_there AV_CLASS 2 bytes (place + 2 + 2) (omega (arith, long)))
+    (number_there AV_SPECIFIED 2 bytes (place + 2 + 2 + 2) (omega (arith, long)))
     version earlier (stands_well version earlier first key is.0 is.1) (plain_part bytes (place + 2 + 2 + 2 + 2) (is_extended specified) is.2 (omega (arith, long))) in
     subst (λ (i : ℕ). av_at version earlier bytes place ≡ Got (av_in bytes place) i) (omega arith) got

@@ -13,7 +13,8 @@ use Rattle.std.proofs.lemmas.Map.Keys.{IsDistinct-from_apart, IsDistinct-IsPermu
 use Rattle.pol_cursor.specs.declared.field.Field.{Field}
 use Rattle.pol_cursor.specs.declared.fault.Cause.{Cause}
 use Rattle.pol_cursor.specs.declared.fault.Cause.TheVariants.{BadSpecified, DuplicateRule}
-use Rattle.pol_cursor.specs.Outcome.{Outcome, Got, Bad, and_then, judged, field}
+use Rattle.pol_cursor.specs.declared.fields.TheConstants.{AV_SOURCE, AV_TARGET, AV_CLASS, AV_SPECIFIED}
+use Rattle.pol_cursor.specs.Outcome.{Outcome, Got, Bad, and_then, judged}
 use Rattle.pol_cursor.specs.Parts.{number, list_of, unless}
 use Rattle.pol_cursor.specs.References.{Placed, placed}
 use Rattle.pol_cursor.specs.Contexts.{records_after}
@@ -64,11 +65,11 @@ rule_same : (version : ℕ) (keys : List AvKey) (bytes : List ℕ) (place : ℕ)
     → av_at version (Some []) bytes place ≡ Got av end → av_at version (Some keys) bytes place ≡ Got av end
 unfolding av_at
 rule_same version keys bytes place av end differs =
-    then_same (number (field 16 1) 2 bytes place) _ _ av end λ source second.
-    then_same (number (field 16 2) 2 bytes second) _ _ av end λ target third.
-    then_same (number (field 16 3) 2 bytes third) _ _ av end λ class fourth.
+    then_same (number AV_SOURCE 2 bytes place) _ _ av end λ source second.
+    then_same (number AV_TARGET 2 bytes second) _ _ av end λ target third.
+    then_same (number AV_CLASS 2 bytes third) _ _ av end λ class fourth.
     let key : ℕ → AvKey = λ specified. record { source = source; target = target; class = class; specified = kind_of specified } in
-    checked_same (number (field 16 4) 2 bytes fourth) (λ specified. specified_test version (Some []) (key specified)) (λ specified. specified_test version (Some keys) (key specified)) (field 16 4) fourth _ av end λ specified fifth e.
+    checked_same (number AV_SPECIFIED 2 bytes fourth) (λ specified. specified_test version (Some []) (key specified)) (λ specified. specified_test version (Some keys) (key specified)) AV_SPECIFIED fourth _ av end λ specified fifth e.
     let same = part_key (part_at (is_extended specified) bytes fifth) source target class specified av end e in
     let other : is_extended (kind_of specified) ≡ false → has_key keys (key specified) ≡ false = subst (λ (k : AvKey). is_extended k.specified ≡ false → has_key keys k ≡ false) (sym same) differs in
     plain_same (is_kind version (kind_of specified)) (is_extended (kind_of specified)) (has_key keys (key specified)) DuplicateRule BadSpecified other

@@ -3,7 +3,8 @@ use Rattle.std.specs.Prelude.{◌≡◌, ℕ, ◌+◌, ◌^◌, ◌<◌, ◌≤�
 use Rattle.pol_cursor.specs.declared.fault.Cause.{Cause}
 use Rattle.pol_cursor.specs.declared.fault.Cause.TheVariants.{BadSpecified, BadExtendedKind, ExtendedInCondition, DuplicateRule}
 use Rattle.pol_cursor.specs.declared.table_kind.TableKind.TheVariants.{Types, Classes}
-use Rattle.pol_cursor.specs.Outcome.{Reader, field, ◌>>=◌, done}
+use Rattle.pol_cursor.specs.declared.fields.TheConstants.{AV_SOURCE, AV_TARGET, AV_CLASS, AV_SPECIFIED, AV_XKIND, AV_DRIVER, AV_BITS, AV_DATA}
+use Rattle.pol_cursor.specs.Outcome.{Reader, ◌>>=◌, done}
 use Rattle.pol_cursor.specs.Parts.{num, number, number_if, string, unless}
 use Rattle.pol_cursor.specs.References.{Placed, Reference}
 use Rattle.pol_cursor.specs.Spelling.{bytes_of}
@@ -61,14 +62,14 @@ xkind_test xkind = unless (xkind == 1 || xkind == 2) BadExtendedKind
 
 unfoldable pub extended_at : Reader AvPart
 extended_at = do
-  xkind ← number_if (field 16 5) 1 xkind_test
-  driver ← number (field 16 6) 1
-  bits ← string (field 16 7) 32
+  xkind ← number_if AV_XKIND 1 xkind_test
+  driver ← number AV_DRIVER 1
+  bits ← string AV_BITS 32
   done (Extended xkind driver bits)
 
 unfoldable pub data_at : Reader AvPart
 data_at = do
-  mask ← number (field 16 8) 4
+  mask ← number AV_DATA 4
   done (Data mask)
 
 unfoldable pub part_at : Bool → Reader AvPart
@@ -77,10 +78,10 @@ part_at extended = if extended then extended_at else data_at
 -- a rule of the table, behind rules with these keys, or, with none, one under a condition
 unfoldable pub av_at : ℕ → Option (List AvKey) → Reader AvRec
 av_at version earlier = do
-  source ← number (field 16 1) 2
-  target ← number (field 16 2) 2
-  class ← number (field 16 3) 2
-  specified ← number_if (field 16 4) 2 (λ specified. specified_test version earlier (record { source = source; target = target; class = class; specified = kind_of specified }))
+  source ← number AV_SOURCE 2
+  target ← number AV_TARGET 2
+  class ← number AV_CLASS 2
+  specified ← number_if AV_SPECIFIED 2 (λ specified. specified_test version earlier (record { source = source; target = target; class = class; specified = kind_of specified }))
   part ← part_at (is_extended specified)
   done (record { source = source; target = target; class = class; specified = specified; part = part })
 
@@ -137,13 +138,13 @@ HasAv bytes place = (av_end bytes place ≤ length bytes) × (length bytes ≤ 6
 
 -- the default type, where the data is one
 abbrev pub part_references : ℕ → Bool → AvPart → List Reference
-part_references place default (Data mask) = if default then record { place = place; field = field 16 8; table = Types; value = mask } ∷ [] else []
+part_references place default (Data mask) = if default then record { place = place; field = AV_DATA; table = Types; value = mask } ∷ [] else []
 part_references place default (Extended xkind driver bits) = []
 
 -- source, target, class, and a default type
 abbrev pub av_references : Placed AvRec → List Reference
 av_references av =
-    record { place = av.place; field = field 16 1; table = Types; value = av.value.source } ∷
-    record { place = av.place + 2; field = field 16 2; table = Types; value = av.value.target } ∷
-    record { place = av.place + 4; field = field 16 3; table = Classes; value = av.value.class } ∷
+    record { place = av.place; field = AV_SOURCE; table = Types; value = av.value.source } ∷
+    record { place = av.place + 2; field = AV_TARGET; table = Types; value = av.value.target } ∷
+    record { place = av.place + 4; field = AV_CLASS; table = Classes; value = av.value.class } ∷
     part_references (av.place + 8) (is_default av.value.specified) av.value.part

@@ -1,6 +1,7 @@
 -- Record 17: the table of access vectors (libsepol's avtab_read).
 use Rattle.std.specs.Prelude.{ℕ, Some, List, []}
-use Rattle.pol_cursor.specs.Outcome.{Reader, field}
+use Rattle.pol_cursor.specs.declared.fields.TheConstants.{AVTAB_NEL}
+use Rattle.pol_cursor.specs.Outcome.{Reader}
 use Rattle.pol_cursor.specs.Parts.{list_of, counted, spell_counted, CountedFits}
 use Rattle.pol_cursor.specs.Contexts.{records_after}
 use Rattle.pol_cursor.specs.References.{Placed}
@@ -31,14 +32,14 @@ unfoldable pub placed_rules_at : ℕ → ℕ → Reader (List (Placed AvRec))
 placed_rules_at version n = records_after rule_at after_rule n (no_rules version)
 
 unfoldable pub table_at : ℕ → Reader (List (Placed AvRec))
-table_at version = counted (field 17 1) (placed_rules_at version)
+table_at version = counted AVTAB_NEL (placed_rules_at version)
 
 -- the same without the places
 unfoldable pub rules_at : ℕ → ℕ → Reader (List AvRec)
 rules_at version n = list_of (λ left context. rule_at context) after_rule n (no_rules version)
 
 unfoldable pub plain_table_at : ℕ → Reader (List AvRec)
-plain_table_at version = counted (field 17 1) (rules_at version)
+plain_table_at version = counted AVTAB_NEL (rules_at version)
 
 abbrev pub spell_table : List AvRec → List ℕ
 spell_table rules = spell_counted spell_av rules

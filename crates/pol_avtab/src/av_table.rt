@@ -9,7 +9,8 @@ use crate::av_keys::AvKeys;
 use crate::av_kind::{Av, AvContext};
 use crate::causes::is_extended;
 use crate::word_marks::WordMarks;
-use pol_cursor::{Cursor, Field, ReadError, Records, read_records_after};
+use pol_cursor::fields::AVTAB_NEL;
+use pol_cursor::{Cursor, ReadError, Records, read_records_after};
 use std::alloc::{AllocError, Global};
 
 // How many rules are looked at together: their marks lie far apart, and the processor fetches those of one loop side by side.
@@ -29,7 +30,7 @@ pub fn read_table<'a>(
 ) -> Result<AvTable<'a>, ReadError>
     ensures { Yields (λ table. table) result (table_at version) c.old c.new }
 {
-    let n = c.u32(Field { row: 17, part: 1 })?;
+    let n = c.u32(AVTAB_NEL)?;
     let mut ahead = Cursor::at(c.bytes(), c.place());
     if let Some(table) = read_distinct(alloc, &mut ahead, version, n)? {
         *c = ahead;

@@ -13,15 +13,15 @@ use crate::av_rec::{AvPart, AvRec};
 use crate::causes::{is_default, is_extended, is_kind, kind_cause, kind_of, xkind_cause};
 use crate::parts::u8_in;
 use crate::xperms::XPerms;
+use pol_cursor::fields::{
+    AV_BITS, AV_CLASS, AV_DATA, AV_DRIVER, AV_SOURCE, AV_SPECIFIED, AV_TARGET, AV_XKIND,
+};
 use pol_cursor::{
-    Cursor, Fault, Field, Mention, Names, TableKind, array_in, dangling, first_dangling, refuse,
-    u16_in, u32_in,
+    Cursor, Fault, Mention, Names, TableKind, array_in, dangling, first_dangling, refuse, u16_in,
+    u32_in,
 };
 use std::alloc::{AllocError, Global};
 use std::marker::Model;
-
-// The code of an access vector's record.
-const AV: u8 = 16;
 
 /// An access vector in the buffer. Contracts see it with its place.
 #[derive(Drop)]
@@ -165,9 +165,9 @@ impl<'a> AvView<'a> {
         }
         let place = self.place;
         let mentions = [
-            Mention::new(AV, 1, place, TableKind::Types, self.source() as u32),
-            Mention::new(AV, 2, place + 2, TableKind::Types, self.target() as u32),
-            Mention::new(AV, 3, place + 4, TableKind::Classes, self.class() as u32),
+            Mention::new(AV_SOURCE, place, TableKind::Types, self.source() as u32),
+            Mention::new(AV_TARGET, place + 2, TableKind::Types, self.target() as u32),
+            Mention::new(AV_CLASS, place + 4, TableKind::Classes, self.class() as u32),
         ];
         match first_dangling(names, &mentions) {
             Some(fault) => Some(fault),
@@ -190,8 +190,7 @@ impl<'a> AvView<'a> {
     {
         match self.mask() {
             Some(mask) if is_default(self.specified()) => {
-                let field = Field { row: AV, part: 8 };
-                dangling(names, self.place + 8, field, TableKind::Types, mask)
+                dangling(names, self.place + 8, AV_DATA, TableKind::Types, mask)
             }
             _ => None,
         }
@@ -298,19 +297,22 @@ fn pass_parts(c: &mut Cursor<'_>, version: u32, earlier: Option<&AvKeys>) -> Res
     ensures next { OnOk result (c.new.place ≡ av_end c.old.bytes c.old.place) }
     ensures long { OnOk result (c.new.place ≤ length c.old.bytes) }
 {
-    let source = c.u16(Field { row: AV, part: 1 })?;
-    let target = c.u16(Field { row: AV, part: 2 })?;
-    let class = c.u16(Field { row: AV, part: 3 })?;
+    let source = c.u16(AV_SOURCE)?;
+    let target = c.u16(AV_TARGET)?;
+    let class = c.u16(AV_CLASS)?;
     let place = c.place();
-    let field = Field { row: AV, part: 4 };
-    let specified = c.u16(field)?;
+    let specified = c.u16(AV_SPECIFIED)?;
     let key = AvKey {
         source,
         target,
         class,
         specified: kind_of(specified),
     };
-    refuse(kind_cause(version, among(earlier, key), key), place, field)?;
+    refuse(
+        kind_cause(version, among(earlier, key), key),
+        place,
+        AV_SPECIFIED,
+    )?;
     pass_part(c, is_extended(specified))?;
     Ok(())
 }
@@ -332,7 +334,7 @@ fn pass_part(c: &mut Cursor<'_>, extended: bool) -> Result<(), Fault>
     if extended {
         return pass_extended(c);
     }
-    c.u32(Field { row: AV, part: 8 })?;
+    c.u32(AV_DATA)?;
     Ok(())
 }
 
@@ -344,10 +346,9 @@ fn pass_extended(c: &mut Cursor<'_>) -> Result<(), Fault>
     ensures long { OnOk result (c.new.place ≤ length c.old.bytes) }
 {
     let place = c.place();
-    let field = Field { row: AV, part: 5 };
-    let xkind = c.u8(field)?;
-    refuse(xkind_cause(xkind), place, field)?;
-    c.u8(Field { row: AV, part: 6 })?;
-    c.take(32, Field { row: AV, part: 7 })?;
+    let xkind = c.u8(AV_XKIND)?;
+    refuse(xkind_cause(xkind), place, AV_XKIND)?;
+    c.u8(AV_DRIVER)?;
+    c.take(32, AV_BITS)?;
     Ok(())
 }

@@ -7,7 +7,7 @@ use Rattle.std.proofs.lemmas.List.{append-nil}
 use Rattle.std.proofs.lemmas.List.Concat.{flat_map-cons}
 use Rattle.std.proofs.lemmas.Bool.{and_parts, eqb-true}
 use Rattle.pol_cursor.specs.declared.fault.Cause.TheVariants.{BadStart, BadCount, BadMapUnit}
-use Rattle.pol_cursor.specs.Outcome.{field}
+use Rattle.pol_cursor.specs.declared.fields.TheConstants.{BITMAP_UNIT, BITMAP_HIGHBIT, BITMAP_COUNT, BITMAP_STARTBIT, BITMAP_MAP}
 use Rattle.pol_cursor.specs.Parts.{num, list_of}
 use Rattle.pol_cursor.specs.Spelling.{bytes_of, AreBytes}
 use Rattle.pol_cursor.specs.Laws.{Reads, Again, IsSpelling, IsReadAgain, IsReadFromSpelling}
@@ -30,14 +30,14 @@ last_ends highbit floor (suc left) start e z = absurd cc
 node_spelled : (limit : Option ℕ) (highbit left floor : ℕ) → Reads (node_at limit highbit left floor) (IsSpelling spell_node (EndsAt highbit left))
 unfolding node_at
 node_spelled limit highbit left floor =
-    Reads-part (Reads-number_if (field 2 4) 4) λ start start-fits.
-    Reads-part (Reads-number_if (field 2 5) 8) λ map map-fits.
+    Reads-part (Reads-number_if BITMAP_STARTBIT 4) λ start start-fits.
+    Reads-part (Reads-number_if BITMAP_MAP 8) λ map map-fits.
     Reads-done _ (record { start = start; map = map }) (record { same = simp append-nil; fitting = ((start-fits.0, map-fits.0), last_ends highbit floor left start start-fits.1) })
 
 node_again : (limit : Option ℕ) (highbit left floor : ℕ) (n : Node) → NodeFits n → Again (node_at limit highbit left floor) n (spell_node n)
 unfolding node_at
 node_again limit highbit left floor n fits =
-    Again-as (Again-part _ (Again-number_if (field 2 4) 4 n.start _ fits.0) (Again-part _ (Again-number_if (field 2 5) 8 n.map _ fits.1) (Again-done n))) (simp append-nil)
+    Again-as (Again-part _ (Again-number_if BITMAP_STARTBIT 4 n.start _ fits.0) (Again-part _ (Again-number_if BITMAP_MAP 8 n.map _ fits.1) (Again-done n))) (simp append-nil)
 
 -- nodes that fit, the last of them ending at highbit
 abbrev AllEnd : ℕ → ℕ → List Node → Type 0
@@ -65,9 +65,9 @@ high_is highbit (suc count) ns e len h = h count refl
 bitmap_read : (limit : Option ℕ) → IsReadFromSpelling (bitmap_at limit) spell_bitmap (λ ns. BitmapFits ns × (high_of ns < 2 ^ 32))
 unfolding bitmap_at nodes_at
 bitmap_read limit =
-    Reads-part (Reads-number_if (field 2 1) 4) λ unit unit-fits.
-    Reads-part (Reads-number_if (field 2 2) 4) λ highbit highbit-fits.
-    Reads-part (Reads-number_if (field 2 3) 4) λ count count-fits.
+    Reads-part (Reads-number_if BITMAP_UNIT 4) λ unit unit-fits.
+    Reads-part (Reads-number_if BITMAP_HIGHBIT 4) λ highbit highbit-fits.
+    Reads-part (Reads-number_if BITMAP_COUNT 4) λ count count-fits.
     Reads-as (nodes_spelled limit highbit count 0) λ text ns h.
     let high = high_is highbit count ns count-fits.1 h.fitting.0 h.fitting.2 in
     let is-unit : unit ≡ 64 = eqb-true _ _ (unless_none _ BadMapUnit unit-fits.1) in
@@ -112,5 +112,5 @@ pub bitmap_again : (limit : Option ℕ) → IsReadAgain (bitmap_at limit) spell_
 unfolding bitmap_at nodes_at
 bitmap_again limit ns fits =
     let highbit = field_of (high_of ns) in
-    Again-as (Again-part _ (Again-number_if (field 2 1) 4 64 _ (omega arith)) (Again-part _ (Again-number_if (field 2 2) 4 highbit _ (num-lt (bytes_of 4 (high_of ns)) 0 4 (field_of-are (high_of ns)))) (Again-part _ (Again-number_if (field 2 3) 4 (length ns) _ fits.count)
+    Again-as (Again-part _ (Again-number_if BITMAP_UNIT 4 64 _ (omega arith)) (Again-part _ (Again-number_if BITMAP_HIGHBIT 4 highbit _ (num-lt (bytes_of 4 (high_of ns)) 0 4 (field_of-are (high_of ns)))) (Again-part _ (Again-number_if BITMAP_COUNT 4 (length ns) _ fits.count)
     (Again-list_of (node_at limit highbit) floor_after spell_node NodeFits (node_again limit highbit) ns 0 fits.nodes)))) (rw (bytes_of-field_of (high_of ns)) (simp append_assoc))

@@ -5,7 +5,8 @@ use Rattle.std.proofs.Common.{Option, Bool, true, false, ◌%◌, None}
 use Rattle.std.proofs.lemmas.Bool.{and_parts, eqb-true, leb-true}
 use Rattle.pol_cursor.specs.declared.fault.Cause.{Cause}
 use Rattle.pol_cursor.specs.declared.fault.Cause.TheVariants.{BadStart}
-use Rattle.pol_cursor.specs.Outcome.{Got, and_then, field}
+use Rattle.pol_cursor.specs.declared.fields.TheConstants.{BITMAP_STARTBIT, BITMAP_MAP}
+use Rattle.pol_cursor.specs.Outcome.{Got, and_then}
 use Rattle.pol_cursor.specs.Parts.{num, list_of, number_if, unless}
 use Rattle.pol_cursor.proofs.Laws.{and_then_got}
 use Rattle.pol_cursor.proofs.Facts.{number_if_is}
@@ -24,12 +25,12 @@ pub record Placed (bytes : List ℕ) (place : ℕ) (n : Node) (next : ℕ) : Typ
 node_placed : (limit : Option ℕ) (highbit left floor : ℕ) (bytes : List ℕ) (place : ℕ) (n : Node) (next : ℕ) → node_at limit highbit left floor bytes place ≡ Got n next → Placed bytes place n next
 unfolding node_at
 node_placed limit highbit left floor bytes place n next e =
-    let a = and_then_got (number_if (field 2 4) 4 (start_test highbit floor (left == 0)) bytes place) (λ start m. and_then (number_if (field 2 5) 8 (map_test limit start) bytes m) (λ map k. Got (record { start = start; map = map }) k)) n next e in
-    let b = and_then_got (number_if (field 2 5) 8 (map_test limit a.0) bytes a.1) (λ map k. Got (record { start = a.0; map = map }) k) n next a.3 in
+    let a = and_then_got (number_if BITMAP_STARTBIT 4 (start_test highbit floor (left == 0)) bytes place) (λ start m. and_then (number_if BITMAP_MAP 8 (map_test limit start) bytes m) (λ map k. Got (record { start = start; map = map }) k)) n next e in
+    let b = and_then_got (number_if BITMAP_MAP 8 (map_test limit a.0) bytes a.1) (λ map k. Got (record { start = a.0; map = map }) k) n next a.3 in
     let made : Node = record { start = a.0; map = b.0 } in
     let g = got_is made b.1 n next b.3 in
-    let p = number_if_is (field 2 4) 4 (start_test highbit floor (left == 0)) bytes place a.0 a.1 a.2 in
-    let q = number_if_is (field 2 5) 8 (map_test limit a.0) bytes a.1 b.0 b.1 b.2 in
+    let p = number_if_is BITMAP_STARTBIT 4 (start_test highbit floor (left == 0)) bytes place a.0 a.1 a.2 in
+    let q = number_if_is BITMAP_MAP 8 (map_test limit a.0) bytes a.1 b.0 b.1 b.2 in
     record {
       is = sym g.0 ∙ ap (λ (x : ℕ). record { start = x; map = b.0 }) p.0 ∙ ap (λ (x : ℕ). record { start = num bytes place 4; map = x }) (q.0 ∙ ap (λ (i : ℕ). num bytes i 8) p.1);
       ends = omega (arith, g.1, p.1, q.1);
@@ -75,12 +76,12 @@ map_full limit start (suc map) e = omega arith
 pub node_tests : (limit : Option ℕ) (highbit left floor : ℕ) (bytes : List ℕ) (place : ℕ) (n : Node) (next : ℕ) → node_at limit highbit left floor bytes place ≡ Got n next → (n.start % 64 ≡ 0) × (floor ≤ n.start) × (0 < n.map)
 unfolding node_at
 node_tests limit highbit left floor bytes place n next e =
-    let a = and_then_got (number_if (field 2 4) 4 (start_test highbit floor (left == 0)) bytes place) (λ start m. and_then (number_if (field 2 5) 8 (map_test limit start) bytes m) (λ map k. Got (record { start = start; map = map }) k)) n next e in
-    let b = and_then_got (number_if (field 2 5) 8 (map_test limit a.0) bytes a.1) (λ map k. Got (record { start = a.0; map = map }) k) n next a.3 in
+    let a = and_then_got (number_if BITMAP_STARTBIT 4 (start_test highbit floor (left == 0)) bytes place) (λ start m. and_then (number_if BITMAP_MAP 8 (map_test limit start) bytes m) (λ map k. Got (record { start = start; map = map }) k)) n next e in
+    let b = and_then_got (number_if BITMAP_MAP 8 (map_test limit a.0) bytes a.1) (λ map k. Got (record { start = a.0; map = map }) k) n next a.3 in
     let made : Node = record { start = a.0; map = b.0 } in
     let g = got_is made b.1 n next b.3 in
-    let p = number_if_is (field 2 4) 4 (start_test highbit floor (left == 0)) bytes place a.0 a.1 a.2 in
-    let q = number_if_is (field 2 5) 8 (map_test limit a.0) bytes a.1 b.0 b.1 b.2 in
+    let p = number_if_is BITMAP_STARTBIT 4 (start_test highbit floor (left == 0)) bytes place a.0 a.1 a.2 in
+    let q = number_if_is BITMAP_MAP 8 (map_test limit a.0) bytes a.1 b.0 b.1 b.2 in
     let t = and_parts _ _ (unless_none _ BadStart p.3) in
     let u = and_parts _ _ t.0 in
     let above : floor ≤ a.0 = leb-true _ _ u.1 in

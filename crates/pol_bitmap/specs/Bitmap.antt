@@ -4,7 +4,8 @@ use Rattle.std.specs.Prelude.{Some, None, not, false, ℕ, ◌+◌, ◌%◌, ◌
 use Rattle.std.specs.List.{flat_map, list_any, AllByRecursion}
 use Rattle.pol_cursor.specs.declared.fault.Cause.{Cause}
 use Rattle.pol_cursor.specs.declared.fault.Cause.TheVariants.{BadMapUnit, BadHighbit, BadCount, BadStart, ZeroMap, MapBitOut}
-use Rattle.pol_cursor.specs.Outcome.{Reader, field, ◌>>=◌, done}
+use Rattle.pol_cursor.specs.declared.fields.TheConstants.{BITMAP_UNIT, BITMAP_HIGHBIT, BITMAP_COUNT, BITMAP_STARTBIT, BITMAP_MAP}
+use Rattle.pol_cursor.specs.Outcome.{Reader, ◌>>=◌, done}
 use Rattle.pol_cursor.specs.Parts.{number_if, list_of, unless}
 use Rattle.pol_cursor.specs.Spelling.{bytes_of}
 use Rattle.pol_bitmap.specs.declared.node.Node.{Node}
@@ -40,8 +41,8 @@ map_test limit start map = if map == 0 then Some ZeroMap else unless (not (is_ou
 -- a node before which no bit may start below the floor, and after which this many are left
 unfoldable pub node_at : Option ℕ → ℕ → ℕ → ℕ → Reader Node
 node_at limit highbit left floor = do
-  start ← number_if (field 2 4) 4 (start_test highbit floor (left == 0))
-  map ← number_if (field 2 5) 8 (map_test limit start)
+  start ← number_if BITMAP_STARTBIT 4 (start_test highbit floor (left == 0))
+  map ← number_if BITMAP_MAP 8 (map_test limit start)
   done (record { start = start; map = map })
 
 -- A start lies above the one before.
@@ -54,9 +55,9 @@ nodes_at limit highbit count = list_of (node_at limit highbit) floor_after count
 -- a bitmap whose bits have a limit or none
 unfoldable pub bitmap_at : Option ℕ → Reader (List Node)
 bitmap_at limit = do
-  unit ← number_if (field 2 1) 4 unit_test
-  highbit ← number_if (field 2 2) 4 highbit_test
-  count ← number_if (field 2 3) 4 (count_test highbit)
+  unit ← number_if BITMAP_UNIT 4 unit_test
+  highbit ← number_if BITMAP_HIGHBIT 4 highbit_test
+  count ← number_if BITMAP_COUNT 4 (count_test highbit)
   nodes_at limit highbit count
 
 -- ---- spelling

@@ -5,7 +5,8 @@ ghost use Rattle.pol_bitmap.specs.Bitmap.{node_at, nodes_at};
 
 use crate::causes::{map_cause, start_cause};
 use crate::node::Node;
-use pol_cursor::{Cursor, Fault, Field, refuse};
+use pol_cursor::fields::{BITMAP_MAP, BITMAP_STARTBIT};
+use pol_cursor::{Cursor, Fault, refuse};
 
 /// Reads a node that starts at or above the floor, and after which this many are left.
 #[tactic(auto, unfolding(crate::specs::Bitmap::node_at))]
@@ -20,13 +21,15 @@ pub fn read_node(
     ensures below { IfOk result (λ n. n.start + 64 ≤ highbit) }
 {
     let place = c.place();
-    let field = Field { row: 2, part: 4 };
-    let start = c.u32(field)?;
-    refuse(start_cause(highbit, floor, left == 0, start), place, field)?;
+    let start = c.u32(BITMAP_STARTBIT)?;
+    refuse(
+        start_cause(highbit, floor, left == 0, start),
+        place,
+        BITMAP_STARTBIT,
+    )?;
     let place = c.place();
-    let field = Field { row: 2, part: 5 };
-    let map = c.u64(field)?;
-    refuse(map_cause(limit, start, map), place, field)?;
+    let map = c.u64(BITMAP_MAP)?;
+    refuse(map_cause(limit, start, map), place, BITMAP_MAP)?;
     Ok(Node { start, map })
 }
 

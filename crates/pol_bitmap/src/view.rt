@@ -8,7 +8,8 @@ use crate::bits::Bits;
 use crate::causes::{count_cause, highbit_cause, unit_cause};
 use crate::node::{Node, has_bit_of, next_in};
 use crate::reading::pass_nodes;
-use pol_cursor::{Cursor, Fault, Field, refuse, u32_in, u64_in};
+use pol_cursor::fields::{BITMAP_COUNT, BITMAP_HIGHBIT, BITMAP_UNIT};
+use pol_cursor::{Cursor, Fault, refuse, u32_in, u64_in};
 use std::marker::Model;
 
 /// A bitmap as it stands in the buffer of a policy. Contracts see the list of its nodes, and by `bits_of` the rising list of
@@ -166,17 +167,14 @@ fn read_bitmap<'a>(c: &mut Cursor<'a>, limit: Option<u32>) -> Result<BitmapView<
 {
     let bytes = c.bytes();
     let first = c.place();
-    let field = Field { row: 2, part: 1 };
-    let unit = c.u32(field)?;
-    refuse(unit_cause(unit), first, field)?;
+    let unit = c.u32(BITMAP_UNIT)?;
+    refuse(unit_cause(unit), first, BITMAP_UNIT)?;
     let place = c.place();
-    let field = Field { row: 2, part: 2 };
-    let highbit = c.u32(field)?;
-    refuse(highbit_cause(highbit), place, field)?;
+    let highbit = c.u32(BITMAP_HIGHBIT)?;
+    refuse(highbit_cause(highbit), place, BITMAP_HIGHBIT)?;
     let place = c.place();
-    let field = Field { row: 2, part: 3 };
-    let count = c.u32(field)?;
-    refuse(count_cause(highbit, count), place, field)?;
+    let count = c.u32(BITMAP_COUNT)?;
+    refuse(count_cause(highbit, count), place, BITMAP_COUNT)?;
     pass_nodes(c, limit, highbit, count)?;
     Ok(BitmapView {
         bytes,

@@ -1,7 +1,8 @@
 -- A class is read alike at all versions whose constraints have type sets, and at all others.
 use Rattle.std.proofs.Common.{◌≡◌, ℕ, Bool, true, false, None, ap, ◌∙◌, ◌≤◌, ◌<◌, rules, arith}
 use Rattle.std.specs.Prelude.{◌==◌, ◌&&◌, Option, List}
-use Rattle.pol_cursor.specs.Outcome.{Reader, field, ◌>>=◌, done}
+use Rattle.pol_cursor.specs.declared.fields.TheConstants.{CLASS_NVALID, CLASS_DEFAULT_USER, CLASS_DEFAULT_ROLE, CLASS_DEFAULT_RANGE, CLASS_DEFAULT_TYPE, CONSTRAINT_PERMISSIONS, CONSTRAINT_NEXPR, CONSTRAINT_KIND, CONSTRAINT_ATTR, CONSTRAINT_OP}
+use Rattle.pol_cursor.specs.Outcome.{Reader, ◌>>=◌, done}
 use Rattle.pol_cursor.specs.Parts.{number, number_if, list_of, optional, records_at, counted}
 use Rattle.pol_bitmap.specs.Bitmap.{bitmap_at}
 use Rattle.pol_constraints.specs.declared.constraint_rec.ConstraintItem.{ConstraintItem}
@@ -34,9 +35,9 @@ module _ (v w : ℕ) (same : has_type_sets v ≡ has_type_sets w) where
   unfolding item_at
   item_alike xtarget =
       let of_sets : (ℕ → Reader (Option (List Node) × Option TypeSet)) → ℕ → ℕ → Reader ConstraintItem = λ sets_at left values.
-      number_if (field 7 3) 4 (kind_test left values) >>= λ kind.
-      number_if (field 7 4) 4 (attr_test xtarget kind) >>= λ attr.
-      number_if (field 7 5) 4 (op_test kind) >>= λ op.
+      number_if CONSTRAINT_KIND 4 (kind_test left values) >>= λ kind.
+      number_if CONSTRAINT_ATTR 4 (attr_test xtarget kind) >>= λ attr.
+      number_if CONSTRAINT_OP 4 (op_test kind) >>= λ op.
       sets_at kind >>= λ sets.
       done (record { kind = kind; attr = attr; op = op; names = sets.0; type_set = sets.1 }) in
       ap of_sets sets_alike
@@ -45,8 +46,8 @@ module _ (v w : ℕ) (same : has_type_sets v ≡ has_type_sets w) where
   unfolding constraint_at items_at
   constraint_alike xtarget =
       let of_items : (ℕ → ℕ → Reader ConstraintItem) → Reader ConstraintRec = λ item_at.
-      number (field 7 1) 4 >>= λ permissions.
-      number_if (field 7 2) 4 item_count_test >>= λ count.
+      number CONSTRAINT_PERMISSIONS 4 >>= λ permissions.
+      number_if CONSTRAINT_NEXPR 4 item_count_test >>= λ count.
       list_of item_at values_after_item count 0 >>= λ items.
       done (record { permissions = permissions; items = items }) in
       ap of_items (item_alike xtarget)
@@ -58,11 +59,11 @@ module _ (v w : ℕ) (same : has_type_sets v ≡ has_type_sets w) where
       head_at taken nprim commons >>= λ head.
       permissions_at (inherited_from commons head.common) head.nel >>= λ permissions.
       records_at constraint_at head.ncons >>= λ constraints.
-      counted (field 6 9) (records_at transition_at) >>= λ validatetrans.
-      default_at 10 2 >>= λ default_user.
-      default_at 11 2 >>= λ default_role.
-      default_at 12 7 >>= λ default_range.
-      default_at 13 2 >>= λ default_type.
+      counted CLASS_NVALID (records_at transition_at) >>= λ validatetrans.
+      default_at CLASS_DEFAULT_USER 2 >>= λ default_user.
+      default_at CLASS_DEFAULT_ROLE 2 >>= λ default_role.
+      default_at CLASS_DEFAULT_RANGE 7 >>= λ default_range.
+      default_at CLASS_DEFAULT_TYPE 2 >>= λ default_type.
       done (record {
         name = head.name;
         common = head.common;

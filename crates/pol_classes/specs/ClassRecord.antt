@@ -3,7 +3,9 @@ use Rattle.std.specs.Prelude.{ℕ, ◌+◌, ◌^◌, ◌<◌, ◌≤◌, ◌==�
 use Rattle.std.specs.List.{flat_map, AllByRecursion}
 use Rattle.pol_cursor.specs.declared.fault.Cause.{Cause}
 use Rattle.pol_cursor.specs.declared.fault.Cause.TheVariants.{UnknownCommon, BadDefault}
-use Rattle.pol_cursor.specs.Outcome.{Reader, field, ◌>>=◌, done}
+use Rattle.pol_cursor.specs.declared.field.Field.{Field}
+use Rattle.pol_cursor.specs.declared.fields.TheConstants.{CLASS_LEN, CLASS_LEN2, CLASS_VALUE, CLASS_NPRIM, CLASS_NEL, CLASS_NCONS, CLASS_NAME, CLASS_COMMON, CLASS_NVALID, CLASS_DEFAULT_USER, CLASS_DEFAULT_ROLE, CLASS_DEFAULT_RANGE, CLASS_DEFAULT_TYPE}
+use Rattle.pol_cursor.specs.Outcome.{Reader, ◌>>=◌, done}
 use Rattle.pol_cursor.specs.Parts.{num, number, number_if, string_if, unless, counted, spell_counted, CountedFits}
 use Rattle.pol_cursor.specs.Spelling.{bytes_of}
 use Rattle.pol_symtab.specs.Claims.{Claims, with_claim}
@@ -43,17 +45,17 @@ pub record Head : Type 0 where
 
 -- the name of a common, or no byte
 unfoldable pub common_name_at : Table CommonRec → ℕ → Reader (List ℕ)
-common_name_at commons len = string_if (field 6 8) len (common_test commons)
+common_name_at commons len = string_if CLASS_COMMON len (common_test commons)
 
 unfoldable pub head_at : Claims → ℕ → Table CommonRec → Reader Head
 head_at taken nprim commons = do
-  len ← symbol_length_at 6 1
-  common_len ← number (field 6 2) 4
-  value ← number_if (field 6 3) 4 (new_value_test nprim taken)
-  own_nprim ← number_if (field 6 4) 4 permission_count_test
-  nel ← number (field 6 5) 4
-  ncons ← number (field 6 6) 4
-  name ← symbol_name_at 6 7 taken len
+  len ← symbol_length_at CLASS_LEN
+  common_len ← number CLASS_LEN2 4
+  value ← number_if CLASS_VALUE 4 (new_value_test nprim taken)
+  own_nprim ← number_if CLASS_NPRIM 4 permission_count_test
+  nel ← number CLASS_NEL 4
+  ncons ← number CLASS_NCONS 4
+  name ← symbol_name_at CLASS_NAME taken len
   common ← common_name_at commons common_len
   done (record { name = name; common = common; value = value; nprim = own_nprim; nel = nel; ncons = ncons })
 
@@ -68,8 +70,8 @@ spell_head head = spell_numbers head ++ head.name ++ head.common
 
 -- ---- reading and spelling
 
-unfoldable pub default_at : ℕ → ℕ → Reader ℕ
-default_at part most = number_if (field 6 part) 4 (default_test most)
+unfoldable pub default_at : Field → ℕ → Reader ℕ
+default_at field most = number_if field 4 (default_test most)
 
 -- A third context is allowed in the second list of constraints: those on a change of context (validatetrans of the policy language).
 unfoldable pub class_at : ℕ → Claims → ℕ → Table CommonRec → Reader ClassRec
@@ -77,11 +79,11 @@ class_at version taken nprim commons = do
   head ← head_at taken nprim commons
   permissions ← permissions_at (inherited_from commons head.common) head.nel
   constraints ← constraints_at version false head.ncons
-  validatetrans ← counted (field 6 9) (constraints_at version true)
-  default_user ← default_at 10 2
-  default_role ← default_at 11 2
-  default_range ← default_at 12 7
-  default_type ← default_at 13 2
+  validatetrans ← counted CLASS_NVALID (constraints_at version true)
+  default_user ← default_at CLASS_DEFAULT_USER 2
+  default_role ← default_at CLASS_DEFAULT_ROLE 2
+  default_range ← default_at CLASS_DEFAULT_RANGE 7
+  default_type ← default_at CLASS_DEFAULT_TYPE 2
   done (record {
     name = head.name;
     common = head.common;

@@ -6,12 +6,13 @@ ghost use Rattle.pol_classes.specs.ClassRecord.{common_name_at, head_at, head_in
 
 use crate::causes::common_cause;
 use pol_commons::{CommonList, permission_count_cause};
-use pol_cursor::{Cursor, Fault, Field, refuse, string_in, u32_in};
+use pol_cursor::fields::{
+    CLASS_COMMON, CLASS_LEN, CLASS_LEN2, CLASS_NAME, CLASS_NCONS, CLASS_NEL, CLASS_NPRIM,
+    CLASS_VALUE,
+};
+use pol_cursor::{Cursor, Fault, refuse, string_in, u32_in};
 use pol_symtab::{Taken, new_value_cause, read_symbol_length, read_symbol_name};
 use std::marker::Model;
-
-/// The code of a class's record.
-pub const CLASS: u8 = 6;
 
 /// The head of a class in the buffer.
 #[derive(Drop)]
@@ -110,34 +111,17 @@ pub fn read_head<'a>(
 {
     let bytes = c.bytes();
     let first = c.place();
-    let len = read_symbol_length(c, CLASS, 1)?;
-    let common_len = c.u32(Field {
-        row: CLASS,
-        part: 2,
-    })?;
+    let len = read_symbol_length(c, CLASS_LEN)?;
+    let common_len = c.u32(CLASS_LEN2)?;
     let place = c.place();
-    let field = Field {
-        row: CLASS,
-        part: 3,
-    };
-    let value = c.u32(field)?;
-    refuse(new_value_cause(nprim, taken, value), place, field)?;
+    let value = c.u32(CLASS_VALUE)?;
+    refuse(new_value_cause(nprim, taken, value), place, CLASS_VALUE)?;
     let place = c.place();
-    let field = Field {
-        row: CLASS,
-        part: 4,
-    };
-    let own_nprim = c.u32(field)?;
-    refuse(permission_count_cause(own_nprim), place, field)?;
-    c.u32(Field {
-        row: CLASS,
-        part: 5,
-    })?;
-    c.u32(Field {
-        row: CLASS,
-        part: 6,
-    })?;
-    read_symbol_name(c, CLASS, 7, len, taken)?;
+    let own_nprim = c.u32(CLASS_NPRIM)?;
+    refuse(permission_count_cause(own_nprim), place, CLASS_NPRIM)?;
+    c.u32(CLASS_NEL)?;
+    c.u32(CLASS_NCONS)?;
+    read_symbol_name(c, CLASS_NAME, len, taken)?;
     read_common_name(c, common_len, commons)?;
     Ok(HeadView {
         bytes,
@@ -157,11 +141,7 @@ fn read_common_name<'a>(
     ensures next { OnOk result ((c.new.place ≡ c.old.place + len) × (c.new.place ≤ length c.old.bytes)) }
 {
     let place = c.place();
-    let field = Field {
-        row: CLASS,
-        part: 8,
-    };
-    let name = c.take(len, field)?;
-    refuse(common_cause(commons, name), place, field)?;
+    let name = c.take(len, CLASS_COMMON)?;
+    refuse(common_cause(commons, name), place, CLASS_COMMON)?;
     Ok(name)
 }

@@ -4,11 +4,14 @@ ghost use Rattle.pol_cursor.specs.Parts.{num};
 ghost use Rattle.pol_classes.specs.ClassRecord.{default_at, class_at, class_in, constraints_place, validatetrans_place, defaults_place, HasClass};
 
 use crate::causes::default_cause;
-use crate::class_head::{CLASS, HeadView, head_end, read_head};
+use crate::class_head::{HeadView, head_end, read_head};
 use crate::class_kind::Class;
 use crate::class_rec::ClassRec;
 use crate::constraint_list::{ConstraintList, constraints_end, pass_constraints};
 use pol_commons::{CommonList, PermissionList, inherited_from, permissions_end, read_permissions};
+use pol_cursor::fields::{
+    CLASS_DEFAULT_RANGE, CLASS_DEFAULT_ROLE, CLASS_DEFAULT_TYPE, CLASS_DEFAULT_USER, CLASS_NVALID,
+};
 use pol_cursor::{ByteList, Copied, Cursor, Fault, Field, refuse, u32_in};
 use pol_symtab::Taken;
 use std::alloc::{AllocError, Global};
@@ -231,15 +234,12 @@ pub fn read_class<'a>(
     let head = read_head(c, taken, nprim, commons)?;
     read_permissions(c, head.nel(), &inherited_from(commons, head.common()))?;
     pass_constraints(c, version, false, head.ncons())?;
-    let nvalid = c.u32(Field {
-        row: CLASS,
-        part: 9,
-    })?;
+    let nvalid = c.u32(CLASS_NVALID)?;
     pass_constraints(c, version, true, nvalid)?;
-    pass_default(c, 10, 2)?;
-    pass_default(c, 11, 2)?;
-    pass_default(c, 12, 7)?;
-    pass_default(c, 13, 2)?;
+    pass_default(c, CLASS_DEFAULT_USER, 2)?;
+    pass_default(c, CLASS_DEFAULT_ROLE, 2)?;
+    pass_default(c, CLASS_DEFAULT_RANGE, 7)?;
+    pass_default(c, CLASS_DEFAULT_TYPE, 2)?;
     Ok(ClassView {
         bytes,
         place,
@@ -247,14 +247,13 @@ pub fn read_class<'a>(
     })
 }
 
-// Passes over the default of that part, which is at most the last of those known.
+// Passes over the default at that field, which is at most the last of those known.
 #[tactic(auto, unfolding(crate::specs::ClassRecord::default_at), using(pol_cursor::proofs::Facts::number_is))]
-fn pass_default(c: &mut Cursor<'_>, part: u8, most: u32) -> Result<(), Fault>
-    ensures exact { Answers (λ _. num c.old.bytes c.old.place 4) result (default_at part most) c.old c.new }
+fn pass_default(c: &mut Cursor<'_>, field: Field, most: u32) -> Result<(), Fault>
+    ensures exact { Answers (λ _. num c.old.bytes c.old.place 4) result (default_at field most) c.old c.new }
     ensures next { OnOk result ((c.new.place ≡ c.old.place + 4) × (c.new.place ≤ length c.old.bytes)) }
 {
     let place = c.place();
-    let field = Field { row: CLASS, part };
     let default = c.u32(field)?;
     refuse(default_cause(most, default), place, field)
 }

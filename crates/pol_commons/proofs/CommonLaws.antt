@@ -2,7 +2,7 @@
 use Rattle.std.proofs.Common.{◌≡◌, ℕ, List, [], length, append_assoc}
 use Rattle.std.specs.List.{flat_map, AllByRecursion}
 use Rattle.std.proofs.lemmas.List.{append-nil}
-use Rattle.pol_cursor.specs.Outcome.{field}
+use Rattle.pol_cursor.specs.declared.fields.TheConstants.{PERMISSION_LEN, PERMISSION_VALUE, PERMISSION_NAME, COMMON_LEN, COMMON_VALUE, COMMON_NPRIM, COMMON_NEL, COMMON_NAME}
 use Rattle.pol_cursor.specs.Laws.{Reads, Again, IsSpelling, IsReadAgain, IsReadFromSpelling}
 use Rattle.pol_cursor.proofs.Laws.{Reads-part, Reads-done, Reads-number, Reads-number_if, Reads-list_of, Again-part, Again-done, Again-as, Again-number, Again-number_if, Again-list_of}
 use Rattle.pol_symtab.specs.Claims.{Claims}
@@ -17,9 +17,9 @@ use Rattle.pol_commons.specs.CommonRecord.{common_at, spell_common, CommonFits}
 pub permission_spelled : (listed inherited : List PermissionRec) → IsReadFromSpelling (permission_at listed inherited) spell_permission PermissionFits
 unfolding permission_at permission_value_at
 permission_spelled listed inherited =
-    Reads-part (Reads-symbol_length 4 1) λ len len-fits.
-    Reads-part (Reads-number_if (field 4 2) 4) λ value value-fits.
-    Reads-part (Reads-symbol_name 4 3 (claims_before listed inherited) len) λ name name-fits.
+    Reads-part (Reads-symbol_length PERMISSION_LEN) λ len len-fits.
+    Reads-part (Reads-number_if PERMISSION_VALUE 4) λ value value-fits.
+    Reads-part (Reads-symbol_name PERMISSION_NAME (claims_before listed inherited) len) λ name name-fits.
     Reads-done _ (record { name = name; value = value }) (record {
       same = rw (name-fits.0) (simp (append_assoc, append-nil));
       fitting = record { len = rw (name-fits.0) len-fits.0; value = value-fits.0 };
@@ -29,9 +29,9 @@ pub permission_again : (listed inherited : List PermissionRec) → IsReadAgain (
 unfolding permission_at permission_value_at
 permission_again listed inherited permission fits =
     Again-as
-    (Again-part _ (Again-symbol_length 4 1 (length permission.name) fits.len)
-    (Again-part _ (Again-number_if (field 4 2) 4 permission.value _ fits.value)
-    (Again-part _ (Again-symbol_name 4 3 (claims_before listed inherited) permission.name)
+    (Again-part _ (Again-symbol_length PERMISSION_LEN (length permission.name) fits.len)
+    (Again-part _ (Again-number_if PERMISSION_VALUE 4 permission.value _ fits.value)
+    (Again-part _ (Again-symbol_name PERMISSION_NAME (claims_before listed inherited) permission.name)
     (Again-done permission))))
     (simp (append_assoc, append-nil))
 
@@ -50,11 +50,11 @@ permissions_again inherited permissions fit = Again-list_of (λ left listed. per
 pub common_spelled : (taken : Claims) (nprim : ℕ) → IsReadFromSpelling (common_at taken nprim) spell_common CommonFits
 unfolding common_at
 common_spelled taken nprim =
-    Reads-part (Reads-symbol_length 5 1) λ len len-fits.
-    Reads-part (Reads-number_if (field 5 2) 4) λ value value-fits.
-    Reads-part (Reads-number_if (field 5 3) 4) λ own_nprim nprim-fits.
-    Reads-part (Reads-number (field 5 4) 4) λ count count-fits.
-    Reads-part (Reads-symbol_name 5 5 taken len) λ name name-fits.
+    Reads-part (Reads-symbol_length COMMON_LEN) λ len len-fits.
+    Reads-part (Reads-number_if COMMON_VALUE 4) λ value value-fits.
+    Reads-part (Reads-number_if COMMON_NPRIM 4) λ own_nprim nprim-fits.
+    Reads-part (Reads-number COMMON_NEL 4) λ count count-fits.
+    Reads-part (Reads-symbol_name COMMON_NAME taken len) λ name name-fits.
     Reads-part (permissions_spelled [] count) λ permissions permissions-fit.
     Reads-done _ (record { name = name; value = value; nprim = own_nprim; permissions = permissions }) (record {
       same = rw (name-fits.0, permissions-fit.0) (simp (append_assoc, append-nil));
@@ -71,11 +71,11 @@ pub common_again : (taken : Claims) (nprim : ℕ) → IsReadAgain (common_at tak
 unfolding common_at
 common_again taken nprim common fits =
     Again-as
-    (Again-part _ (Again-symbol_length 5 1 (length common.name) fits.len)
-    (Again-part _ (Again-number_if (field 5 2) 4 common.value _ fits.value)
-    (Again-part _ (Again-number_if (field 5 3) 4 common.nprim _ fits.nprim)
-    (Again-part _ (Again-number (field 5 4) 4 (length common.permissions) fits.count)
-    (Again-part _ (Again-symbol_name 5 5 taken common.name)
+    (Again-part _ (Again-symbol_length COMMON_LEN (length common.name) fits.len)
+    (Again-part _ (Again-number_if COMMON_VALUE 4 common.value _ fits.value)
+    (Again-part _ (Again-number_if COMMON_NPRIM 4 common.nprim _ fits.nprim)
+    (Again-part _ (Again-number COMMON_NEL 4 (length common.permissions) fits.count)
+    (Again-part _ (Again-symbol_name COMMON_NAME taken common.name)
     (Again-part _ (permissions_again [] common.permissions fits.permissions)
     (Again-done common)))))))
     (simp (append_assoc, append-nil))

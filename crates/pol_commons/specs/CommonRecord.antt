@@ -3,7 +3,8 @@ use Rattle.std.specs.Prelude.{ℕ, ◌+◌, ◌^◌, ◌<◌, ◌≤◌, nat_le,
 use Rattle.std.specs.List.{flat_map, AllByRecursion}
 use Rattle.pol_cursor.specs.declared.fault.Cause.{Cause}
 use Rattle.pol_cursor.specs.declared.fault.Cause.TheVariants.{TableTooLarge}
-use Rattle.pol_cursor.specs.Outcome.{Reader, field, ◌>>=◌, done}
+use Rattle.pol_cursor.specs.declared.fields.TheConstants.{COMMON_LEN, COMMON_VALUE, COMMON_NPRIM, COMMON_NEL, COMMON_NAME}
+use Rattle.pol_cursor.specs.Outcome.{Reader, ◌>>=◌, done}
 use Rattle.pol_cursor.specs.Parts.{num, number, number_if, unless}
 use Rattle.pol_cursor.specs.Spelling.{bytes_of}
 use Rattle.pol_symtab.specs.Claims.{Claims, with_claim}
@@ -20,11 +21,11 @@ permission_count_test nprim = unless (nat_le nprim permission_limit) TableTooLar
 
 unfoldable pub common_at : Claims → ℕ → Reader CommonRec
 common_at taken nprim = do
-  len ← symbol_length_at 5 1
-  value ← number_if (field 5 2) 4 (new_value_test nprim taken)
-  own_nprim ← number_if (field 5 3) 4 permission_count_test
-  count ← number (field 5 4) 4
-  name ← symbol_name_at 5 5 taken len
+  len ← symbol_length_at COMMON_LEN
+  value ← number_if COMMON_VALUE 4 (new_value_test nprim taken)
+  own_nprim ← number_if COMMON_NPRIM 4 permission_count_test
+  count ← number COMMON_NEL 4
+  name ← symbol_name_at COMMON_NAME taken len
   permissions ← permissions_at [] count
   done (record { name = name; value = value; nprim = own_nprim; permissions = permissions })
 

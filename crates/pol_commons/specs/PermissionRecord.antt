@@ -1,6 +1,7 @@
 -- Record 4: a permission of a class or of a common (libsepol's perm_read).
 use Rattle.std.specs.Prelude.{ℕ, ◌+◌, ◌^◌, ◌<◌, ◌≤◌, List, ◌++◌, length, map, take, drop}
-use Rattle.pol_cursor.specs.Outcome.{Reader, field, ◌>>=◌, done}
+use Rattle.pol_cursor.specs.declared.fields.TheConstants.{PERMISSION_LEN, PERMISSION_VALUE, PERMISSION_NAME}
+use Rattle.pol_cursor.specs.Outcome.{Reader, ◌>>=◌, done}
 use Rattle.pol_cursor.specs.Parts.{num, number_if}
 use Rattle.pol_cursor.specs.Spelling.{bytes_of}
 use Rattle.pol_symtab.specs.Claims.{Claims}
@@ -26,13 +27,13 @@ claims_before listed inherited = claims_of (listed ++ inherited)
 
 -- a value that is not taken
 unfoldable pub permission_value_at : Claims → Reader ℕ
-permission_value_at claims = number_if (field 4 2) 4 (new_value_test permission_limit claims)
+permission_value_at claims = number_if PERMISSION_VALUE 4 (new_value_test permission_limit claims)
 
 unfoldable pub permission_at : List PermissionRec → List PermissionRec → Reader PermissionRec
 permission_at listed inherited = do
-  len ← symbol_length_at 4 1
+  len ← symbol_length_at PERMISSION_LEN
   value ← permission_value_at (claims_before listed inherited)
-  name ← symbol_name_at 4 3 (claims_before listed inherited) len
+  name ← symbol_name_at PERMISSION_NAME (claims_before listed inherited) len
   done (record { name = name; value = value })
 
 abbrev pub spell_permission : PermissionRec → List ℕ

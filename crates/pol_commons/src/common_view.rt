@@ -6,13 +6,11 @@ use crate::causes::permission_count_cause;
 use crate::common_rec::CommonRec;
 use crate::kind::Common;
 use crate::permission_list::{PermissionList, read_permissions};
-use pol_cursor::{ByteList, Copied, Cursor, Fault, Field, refuse, string_in, u32_in};
+use pol_cursor::fields::{COMMON_LEN, COMMON_NAME, COMMON_NEL, COMMON_NPRIM, COMMON_VALUE};
+use pol_cursor::{ByteList, Copied, Cursor, Fault, refuse, string_in, u32_in};
 use pol_symtab::{Taken, new_value_cause, read_symbol_length, read_symbol_name};
 use std::alloc::{AllocError, Global};
 use std::marker::Model;
-
-// The code of a common's record.
-const COMMON: u8 = 5;
 
 /// A common in the buffer.
 #[derive(Drop)]
@@ -101,26 +99,15 @@ pub fn read_common<'a>(
 {
     let bytes = c.bytes();
     let first = c.place();
-    let len = read_symbol_length(c, COMMON, 1)?;
+    let len = read_symbol_length(c, COMMON_LEN)?;
     let place = c.place();
-    let field = Field {
-        row: COMMON,
-        part: 2,
-    };
-    let value = c.u32(field)?;
-    refuse(new_value_cause(nprim, taken, value), place, field)?;
+    let value = c.u32(COMMON_VALUE)?;
+    refuse(new_value_cause(nprim, taken, value), place, COMMON_VALUE)?;
     let place = c.place();
-    let field = Field {
-        row: COMMON,
-        part: 3,
-    };
-    let own_nprim = c.u32(field)?;
-    refuse(permission_count_cause(own_nprim), place, field)?;
-    let count = c.u32(Field {
-        row: COMMON,
-        part: 4,
-    })?;
-    read_symbol_name(c, COMMON, 5, len, taken)?;
+    let own_nprim = c.u32(COMMON_NPRIM)?;
+    refuse(permission_count_cause(own_nprim), place, COMMON_NPRIM)?;
+    let count = c.u32(COMMON_NEL)?;
+    read_symbol_name(c, COMMON_NAME, len, taken)?;
     read_permissions(c, count, &PermissionList::empty())?;
     Ok(CommonView {
         bytes,

@@ -7,13 +7,11 @@ ghost use Rattle.pol_symtab.specs.SymbolFields.{symbol_name_at};
 use crate::causes::{name_cause, value_cause};
 use crate::permission_list::PermissionList;
 use crate::permission_rec::PermissionRec;
-use pol_cursor::{ByteList, Cursor, Fault, Field, refuse, string_in, u32_in};
+use pol_cursor::fields::{PERMISSION_LEN, PERMISSION_NAME, PERMISSION_VALUE};
+use pol_cursor::{ByteList, Cursor, Fault, refuse, string_in, u32_in};
 use pol_symtab::read_symbol_length;
 use std::alloc::{AllocError, Global};
 use std::marker::Model;
-
-// The code of a permission's record.
-const PERMISSION: u8 = 4;
 
 /// A permission in the buffer.
 #[derive(Drop)]
@@ -102,7 +100,7 @@ pub fn read_permission<'a>(
 {
     let bytes = c.bytes();
     let first = c.place();
-    let len = read_symbol_length(c, PERMISSION, 1)?;
+    let len = read_symbol_length(c, PERMISSION_LEN)?;
     read_value(c, listed, inherited)?;
     read_name(c, len, listed, inherited)?;
     Ok(PermissionView {
@@ -123,12 +121,12 @@ fn read_value(
     ensures next { OnOk result ((c.new.place ≡ c.old.place + 4) × (c.new.place ≤ length c.old.bytes)) }
 {
     let place = c.place();
-    let field = Field {
-        row: PERMISSION,
-        part: 2,
-    };
-    let value = c.u32(field)?;
-    refuse(value_cause(listed, inherited, value), place, field)?;
+    let value = c.u32(PERMISSION_VALUE)?;
+    refuse(
+        value_cause(listed, inherited, value),
+        place,
+        PERMISSION_VALUE,
+    )?;
     Ok(value)
 }
 
@@ -140,16 +138,12 @@ fn read_name<'a>(
     listed: &PermissionList<'_>,
     inherited: &PermissionList<'_>,
 ) -> Result<&'a [u8], Fault>
-    ensures exact { Answers (λ name. name.now) result (symbol_name_at 4 3 (claims_before listed.now inherited.now) len) c.old c.new }
+    ensures exact { Answers (λ name. name.now) result (symbol_name_at PERMISSION_NAME (claims_before listed.now inherited.now) len) c.old c.new }
     ensures same { IfOk result (λ name. name.now ≡ take len (drop c.old.place c.old.bytes)) }
     ensures next { OnOk result ((c.new.place ≡ c.old.place + len) × (c.new.place ≤ length c.old.bytes)) }
 {
     let place = c.place();
-    let field = Field {
-        row: PERMISSION,
-        part: 3,
-    };
-    let name = c.take(len, field)?;
-    refuse(name_cause(listed, inherited, name), place, field)?;
+    let name = c.take(len, PERMISSION_NAME)?;
+    refuse(name_cause(listed, inherited, name), place, PERMISSION_NAME)?;
     Ok(name)
 }

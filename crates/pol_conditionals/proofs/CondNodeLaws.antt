@@ -1,7 +1,9 @@
 -- The two laws of conditional nodes and of the list of them.
 use Rattle.std.proofs.Common.{◌≡◌, ℕ, zero, suc, ◌∷◌, None, List, refl, ap, append_assoc}
 use Rattle.std.proofs.lemmas.List.{append-nil}
-use Rattle.pol_cursor.specs.Outcome.{Reader, Outcome, Got, Bad, and_then, field}
+use Rattle.pol_cursor.specs.declared.field.Field.{Field}
+use Rattle.pol_cursor.specs.declared.fields.TheConstants.{CONDLIST_COUNT, CONDNODE_NTRUE, CONDNODE_NFALSE}
+use Rattle.pol_cursor.specs.Outcome.{Reader, Outcome, Got, Bad, and_then}
 use Rattle.pol_cursor.specs.Contexts.{records_after}
 use Rattle.pol_cursor.specs.Parts.{number, list_of, records_at, counted, spell_counted, CountedFits}
 use Rattle.pol_cursor.specs.References.{Placed, placed, without_places}
@@ -16,18 +18,18 @@ use Rattle.pol_conditionals.specs.CondNodeList.{conditionals_at, plain_condition
 
 -- ---- conditional nodes
 
-conditional_rules_spelled : (version part : ℕ) → IsReadFromSpelling (counted (field 19 part) (conditional_rules_at version)) (spell_counted spell_av) (CountedFits AvFits)
-conditional_rules_spelled version part = counted_spelled (field 19 part) (conditional_rules_at version) spell_av AvFits (records_spelled (av_at version None) spell_av AvFits (av_spelled version None))
+conditional_rules_spelled : (version : ℕ) (count : Field) → IsReadFromSpelling (counted count (conditional_rules_at version)) (spell_counted spell_av) (CountedFits AvFits)
+conditional_rules_spelled version count = counted_spelled count (conditional_rules_at version) spell_av AvFits (records_spelled (av_at version None) spell_av AvFits (av_spelled version None))
 
-conditional_rules_again : (version part : ℕ) → IsReadAgain (counted (field 19 part) (conditional_rules_at version)) (spell_counted spell_av) (CountedFits AvFits)
-conditional_rules_again version part = counted_again (field 19 part) (conditional_rules_at version) spell_av AvFits (records_again (av_at version None) spell_av AvFits (av_again version None))
+conditional_rules_again : (version : ℕ) (count : Field) → IsReadAgain (counted count (conditional_rules_at version)) (spell_counted spell_av) (CountedFits AvFits)
+conditional_rules_again version count = counted_again count (conditional_rules_at version) spell_av AvFits (records_again (av_at version None) spell_av AvFits (av_again version None))
 
 pub condnode_spelled : (version : ℕ) → IsReadFromSpelling (condnode_at version) spell_condnode CondNodeFits
 unfolding condnode_at
 condnode_spelled version =
     Reads-part condition_spelled λ condition condition-fits.
-    Reads-part (conditional_rules_spelled version 5) λ true_rules true_rules-fit.
-    Reads-part (conditional_rules_spelled version 6) λ false_rules false_rules-fit.
+    Reads-part (conditional_rules_spelled version CONDNODE_NTRUE) λ true_rules true_rules-fit.
+    Reads-part (conditional_rules_spelled version CONDNODE_NFALSE) λ false_rules false_rules-fit.
     Reads-done _ (record { condition = condition; true_rules = true_rules; false_rules = false_rules }) (record {
       same = simp (append_assoc, append-nil);
       fitting = record { condition = condition-fits; true_rules = true_rules-fit; false_rules = false_rules-fit };
@@ -38,8 +40,8 @@ unfolding condnode_at
 condnode_again version node fits =
     Again-as
     (Again-part _ (condition_again node.condition fits.condition)
-    (Again-part _ (conditional_rules_again version 5 node.true_rules fits.true_rules)
-    (Again-part _ (conditional_rules_again version 6 node.false_rules fits.false_rules)
+    (Again-part _ (conditional_rules_again version CONDNODE_NTRUE node.true_rules fits.true_rules)
+    (Again-part _ (conditional_rules_again version CONDNODE_NFALSE node.false_rules fits.false_rules)
     (Again-done node))))
     (simp (append_assoc, append-nil))
 
@@ -47,16 +49,16 @@ condnode_again version node fits =
 
 pub conditionals_spelled : (version : ℕ) → IsReadFromSpelling (plain_conditionals_at version) spell_conditionals ConditionalsFit
 unfolding plain_conditionals_at
-conditionals_spelled version = counted_spelled (field 18 1) (records_at (condnode_at version)) spell_condnode CondNodeFits (records_spelled (condnode_at version) spell_condnode CondNodeFits (condnode_spelled version))
+conditionals_spelled version = counted_spelled CONDLIST_COUNT (records_at (condnode_at version)) spell_condnode CondNodeFits (records_spelled (condnode_at version) spell_condnode CondNodeFits (condnode_spelled version))
 
 pub conditionals_again : (version : ℕ) → IsReadAgain (plain_conditionals_at version) spell_conditionals ConditionalsFit
 unfolding plain_conditionals_at
-conditionals_again version = counted_again (field 18 1) (records_at (condnode_at version)) spell_condnode CondNodeFits (records_again (condnode_at version) spell_condnode CondNodeFits (condnode_again version))
+conditionals_again version = counted_again CONDLIST_COUNT (records_at (condnode_at version)) spell_condnode CondNodeFits (records_again (condnode_at version) spell_condnode CondNodeFits (condnode_again version))
 
 pub conditionals_unplaced : (version : ℕ) (bytes : List ℕ) (place : ℕ) → without_places (conditionals_at version bytes place) ≡ plain_conditionals_at version bytes place
 unfolding conditionals_at plain_conditionals_at
 conditionals_unplaced version bytes place =
-    unplaced_counted bytes (records_at (placed (condnode_at version))) (records_at (condnode_at version)) (λ n next. records_unplaced (condnode_at version) n bytes next) (number (field 18 1) 4 bytes place)
+    unplaced_counted bytes (records_at (placed (condnode_at version))) (records_at (condnode_at version)) (λ n next. records_unplaced (condnode_at version) n bytes next) (number CONDLIST_COUNT 4 bytes place)
 
 -- ---- a context that stays
 

@@ -2,7 +2,8 @@
 -- cond_read_node).
 use Rattle.std.specs.Prelude.{ℕ, ◌+◌, ◌*◌, ◌≤◌, Bool, true, false, Option, Some, None, List, [], ◌∷◌, ◌++◌, length, slice_get, if◌then◌else◌}
 use Rattle.std.specs.List.{flat_map}
-use Rattle.pol_cursor.specs.Outcome.{Reader, field, ◌>>=◌, done}
+use Rattle.pol_cursor.specs.declared.fields.TheConstants.{CONDNODE_NTRUE, CONDNODE_NFALSE}
+use Rattle.pol_cursor.specs.Outcome.{Reader, ◌>>=◌, done}
 use Rattle.pol_cursor.specs.Parts.{num, counted, records_at, spell_counted, CountedFits}
 use Rattle.pol_cursor.specs.References.{Placed, Reference, values_of}
 use Rattle.pol_cursor.specs.Runs.{run_in, run_end, HasRun}
@@ -21,8 +22,8 @@ conditional_rules_at version n = records_at (av_at version None) n
 unfoldable pub condnode_at : ℕ → Reader CondNodeRec
 condnode_at version = do
   condition ← condition_at
-  true_rules ← counted (field 19 5) (conditional_rules_at version)
-  false_rules ← counted (field 19 6) (conditional_rules_at version)
+  true_rules ← counted CONDNODE_NTRUE (conditional_rules_at version)
+  false_rules ← counted CONDNODE_NFALSE (conditional_rules_at version)
   done (record { condition = condition; true_rules = true_rules; false_rules = false_rules })
 
 abbrev pub spell_condnode : CondNodeRec → List ℕ

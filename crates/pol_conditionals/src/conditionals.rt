@@ -8,9 +8,10 @@ use crate::condnode_rec::CondNodeRec;
 use crate::condnode_view::{CondNodeView, read_condnode};
 use crate::place_groups::PlaceGroups;
 use pol_avtab::AvView;
+use pol_cursor::fields::CONDLIST_COUNT;
 use pol_cursor::{
-    Copied, Cursor, Fault, Field, Names, ReadAfter, ReadError, Record, RecordView, Records,
-    Referring, read_records_after,
+    Copied, Cursor, Fault, Names, ReadAfter, ReadError, Record, RecordView, Records, Referring,
+    read_records_after,
 };
 use pol_expr::ConditionView;
 use std::alloc::{AllocError, Global};
@@ -159,7 +160,7 @@ pub fn read_conditionals<'a>(
 ) -> Result<Conditionals<'a>, ReadError>
     ensures { Yields (λ nodes. nodes) result (conditionals_at version) c.old c.new }
 {
-    let n = c.u32(Field { row: 18, part: 1 })?;
+    let n = c.u32(CONDLIST_COUNT)?;
     let (nodes, _) = read_records_after::<CondNode>(alloc, c, n, version)?;
     Ok(Conditionals {
         true_places: places_of_rules(alloc, &nodes, true)?,

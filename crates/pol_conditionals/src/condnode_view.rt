@@ -8,13 +8,11 @@ ghost use Rattle.pol_conditionals.specs.CondNodeRecord.{conditional_rules_at, co
 
 use crate::condnode_rec::CondNodeRec;
 use pol_avtab::{Av, AvView};
+use pol_cursor::fields::{CONDNODE_NFALSE, CONDNODE_NTRUE};
 use pol_cursor::{Cursor, Fault, Field, Names, Run, end_of_run, read_run, u32_in};
 use pol_expr::{ConditionView, read_condition};
 use std::alloc::{AllocError, Global};
 use std::marker::Model;
-
-// The code of a conditional node's record.
-const NODE: u8 = 19;
 
 /// A conditional node in the buffer. Contracts see it with its place.
 #[derive(Drop)]
@@ -196,19 +194,19 @@ pub fn read_condnode<'a>(c: &mut Cursor<'a>, version: u32) -> Result<CondNodeVie
     let bytes = c.bytes();
     let place = c.place();
     read_condition(c)?;
-    pass_rules(c, version, 5)?;
-    pass_rules(c, version, 6)?;
+    pass_rules(c, version, CONDNODE_NTRUE)?;
+    pass_rules(c, version, CONDNODE_NFALSE)?;
     Ok(CondNodeView { bytes, place })
 }
 
-// Passes over the rules of a list, behind their number.
+// Passes over the rules of a list, behind their number, which has that field.
 #[tactic(auto, using(pol_cursor::proofs::Facts::number_is))]
-fn pass_rules(c: &mut Cursor<'_>, version: u32, part: u8) -> Result<(), Fault>
-    ensures exact { Answers (λ _. values_of (rules_in c.old.bytes c.old.place)) result (counted (record { row = 19; part = part }) (conditional_rules_at version)) c.old c.new }
+fn pass_rules(c: &mut Cursor<'_>, version: u32, count: Field) -> Result<(), Fault>
+    ensures exact { Answers (λ _. values_of (rules_in c.old.bytes c.old.place)) result (counted count (conditional_rules_at version)) c.old c.new }
     ensures stand { OnOk result (HasRules c.old.bytes c.old.place) }
     ensures next { OnOk result (c.new.place ≡ rules_end c.old.bytes c.old.place) }
 {
-    let n = c.u32(Field { row: NODE, part })?;
+    let n = c.u32(count)?;
     read_run::<Av>(c, n, &version)?;
     Ok(())
 }

@@ -2,7 +2,7 @@
 use Rattle.std.proofs.Common.{◌≡◌, ℕ, Bool, Option, None, List, ◌++◌, length, append_assoc}
 use Rattle.std.specs.List.{flat_map, AllByRecursion}
 use Rattle.std.proofs.lemmas.List.{append-nil}
-use Rattle.pol_cursor.specs.Outcome.{field}
+use Rattle.pol_cursor.specs.declared.fields.TheConstants.{CONSTRAINT_PERMISSIONS, CONSTRAINT_NEXPR, CONSTRAINT_KIND, CONSTRAINT_ATTR, CONSTRAINT_OP, CONSTRAINT_FLAGS}
 use Rattle.pol_cursor.specs.Parts.{spell_optional, OptionFits}
 use Rattle.pol_bitmap.specs.declared.node.Node.{Node}
 use Rattle.pol_bitmap.specs.Bitmap.{spell_bitmap, BitmapFits}
@@ -18,7 +18,7 @@ unfolding type_set_at
 type_set_spelled =
     Reads-part (bitmap_spelled None) λ types types-fits.
     Reads-part (bitmap_spelled None) λ negated negated-fits.
-    Reads-part (Reads-number (field 7 6) 4) λ flags flags-fits.
+    Reads-part (Reads-number CONSTRAINT_FLAGS 4) λ flags flags-fits.
     Reads-done _ (record { types = types; negated = negated; flags = flags }) (record {
       same = simp (append_assoc, append-nil);
       fitting = record { types = types-fits; negated = negated-fits; flags = flags-fits };
@@ -30,7 +30,7 @@ type_set_again set fits =
     Again-as
     (Again-part _ (bitmap_again None set.types fits.types)
     (Again-part _ (bitmap_again None set.negated fits.negated)
-    (Again-part _ (Again-number (field 7 6) 4 set.flags fits.flags)
+    (Again-part _ (Again-number CONSTRAINT_FLAGS 4 set.flags fits.flags)
     (Again-done set))))
     (simp (append_assoc, append-nil))
 
@@ -65,9 +65,9 @@ module _ (version : ℕ) (xtarget : Bool) where
   item_spelled : (left values : ℕ) → IsReadFromSpelling (item_at version xtarget left values) spell_item (ItemFits version)
   unfolding item_at
   item_spelled left values =
-      Reads-part (Reads-number_if (field 7 3) 4) λ kind kind-fits.
-      Reads-part (Reads-number_if (field 7 4) 4) λ attr attr-fits.
-      Reads-part (Reads-number_if (field 7 5) 4) λ op op-fits.
+      Reads-part (Reads-number_if CONSTRAINT_KIND 4) λ kind kind-fits.
+      Reads-part (Reads-number_if CONSTRAINT_ATTR 4) λ attr attr-fits.
+      Reads-part (Reads-number_if CONSTRAINT_OP 4) λ op op-fits.
       Reads-part (sets_spelled version kind) λ sets sets-fit.
       Reads-done _ (record { kind = kind; attr = attr; op = op; names = sets.0; type_set = sets.1 }) (record {
         same = simp (append_assoc, append-nil);
@@ -78,9 +78,9 @@ module _ (version : ℕ) (xtarget : Bool) where
   unfolding item_at
   item_again left values item fits =
       Again-as
-      (Again-part _ (Again-number_if (field 7 3) 4 item.kind _ fits.kind)
-      (Again-part _ (Again-number_if (field 7 4) 4 item.attr _ fits.attr)
-      (Again-part _ (Again-number_if (field 7 5) 4 item.op _ fits.op)
+      (Again-part _ (Again-number_if CONSTRAINT_KIND 4 item.kind _ fits.kind)
+      (Again-part _ (Again-number_if CONSTRAINT_ATTR 4 item.attr _ fits.attr)
+      (Again-part _ (Again-number_if CONSTRAINT_OP 4 item.op _ fits.op)
       (Again-part _ (sets_again version item.kind (item.names, item.type_set) (record { names = fits.names; type_set = fits.type_set }))
       (Again-done item)))))
       (simp (append_assoc, append-nil))
@@ -97,8 +97,8 @@ module _ (version : ℕ) (xtarget : Bool) where
   pub constraint_spelled : IsReadFromSpelling (constraint_at version xtarget) spell_constraint (ConstraintFits version)
   unfolding constraint_at
   constraint_spelled =
-      Reads-part (Reads-number (field 7 1) 4) λ permissions permissions-fits.
-      Reads-part (Reads-number_if (field 7 2) 4) λ count count-fits.
+      Reads-part (Reads-number CONSTRAINT_PERMISSIONS 4) λ permissions permissions-fits.
+      Reads-part (Reads-number_if CONSTRAINT_NEXPR 4) λ count count-fits.
       Reads-part (items_spelled count) λ items items-fits.
       Reads-done _ (record { permissions = permissions; items = items }) (record {
         same = rw (items-fits.0) (simp (append_assoc, append-nil));
@@ -110,8 +110,8 @@ module _ (version : ℕ) (xtarget : Bool) where
   unfolding constraint_at
   constraint_again constraint fits =
       Again-as
-      (Again-part _ (Again-number (field 7 1) 4 constraint.permissions fits.permissions)
-      (Again-part _ (Again-number_if (field 7 2) 4 (length constraint.items) _ fits.count)
+      (Again-part _ (Again-number CONSTRAINT_PERMISSIONS 4 constraint.permissions fits.permissions)
+      (Again-part _ (Again-number_if CONSTRAINT_NEXPR 4 (length constraint.items) _ fits.count)
       (Again-part _ (items_again constraint.items fits.items)
       (Again-done constraint))))
       (simp (append_assoc, append-nil))

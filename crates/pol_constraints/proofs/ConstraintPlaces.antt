@@ -2,7 +2,8 @@
 use Rattle.std.proofs.Common.{◌≡◌, ℕ, zero, suc, ◌+◌, ◌-◌, ◌<◌, Bool, ◌&&◌, Option, List, [], ◌∷◌, ◌++◌, length, refl, sym, ap, subst, ◌∙◌, ◌≤◌, add-one, arith}
 use Rattle.std.specs.Prelude.{nat_le}
 use Rattle.pol_cursor.specs.declared.fault.Cause.TheVariants.{BadKind}
-use Rattle.pol_cursor.specs.Outcome.{Position, Got, and_then, field}
+use Rattle.pol_cursor.specs.declared.fields.TheConstants.{CONSTRAINT_KIND, CONSTRAINT_ATTR, CONSTRAINT_OP}
+use Rattle.pol_cursor.specs.Outcome.{Position, Got, and_then}
 use Rattle.pol_cursor.specs.Parts.{num, number_if}
 use Rattle.pol_cursor.proofs.Laws.{and_then_got}
 use Rattle.pol_cursor.proofs.Facts.{number_if_is}
@@ -18,12 +19,12 @@ pub item_has_operands : (version : ℕ) (xtarget : Bool) (left values : ℕ) (by
 unfolding item_at
 item_has_operands version xtarget left values bytes place x next e =
     let made : ℕ → ℕ → ℕ → Option (List Node) × Option TypeSet → ConstraintItem = λ kind attr op sets. record { kind = kind; attr = attr; op = op; names = sets.0; type_set = sets.1 } in
-    let a = and_then_got (number_if (field 7 3) 4 (kind_test left values) bytes place) (λ kind m. and_then (number_if (field 7 4) 4 (attr_test xtarget kind) bytes m) (λ attr n. and_then (number_if (field 7 5) 4 (op_test kind) bytes n) (λ op o. and_then (sets_at version kind bytes o) (λ set p. Got (made kind attr op set) p)))) x next e in
-    let b = and_then_got (number_if (field 7 4) 4 (attr_test xtarget a.0) bytes a.1) (λ attr n. and_then (number_if (field 7 5) 4 (op_test a.0) bytes n) (λ op o. and_then (sets_at version a.0 bytes o) (λ set p. Got (made a.0 attr op set) p))) x next a.3 in
-    let d = and_then_got (number_if (field 7 5) 4 (op_test a.0) bytes b.1) (λ op o. and_then (sets_at version a.0 bytes o) (λ set p. Got (made a.0 b.0 op set) p)) x next b.3 in
+    let a = and_then_got (number_if CONSTRAINT_KIND 4 (kind_test left values) bytes place) (λ kind m. and_then (number_if CONSTRAINT_ATTR 4 (attr_test xtarget kind) bytes m) (λ attr n. and_then (number_if CONSTRAINT_OP 4 (op_test kind) bytes n) (λ op o. and_then (sets_at version kind bytes o) (λ set p. Got (made kind attr op set) p)))) x next e in
+    let b = and_then_got (number_if CONSTRAINT_ATTR 4 (attr_test xtarget a.0) bytes a.1) (λ attr n. and_then (number_if CONSTRAINT_OP 4 (op_test a.0) bytes n) (λ op o. and_then (sets_at version a.0 bytes o) (λ set p. Got (made a.0 attr op set) p))) x next a.3 in
+    let d = and_then_got (number_if CONSTRAINT_OP 4 (op_test a.0) bytes b.1) (λ op o. and_then (sets_at version a.0 bytes o) (λ set p. Got (made a.0 b.0 op set) p)) x next b.3 in
     let f = and_then_got (sets_at version a.0 bytes d.1) (λ set p. Got (made a.0 b.0 d.0 set) p) x next d.3 in
     let g = got_is (made a.0 b.0 d.0 f.0) f.1 x next f.3 in
-    let k = number_if_is (field 7 3) 4 (kind_test left values) bytes place a.0 a.1 a.2 in
+    let k = number_if_is CONSTRAINT_KIND 4 (kind_test left values) bytes place a.0 a.1 a.2 in
     let t = guard_none (nat_le 1 a.0 && nat_le a.0 5) (operands_test constraint_limit left values (kind_operands a.0)) BadKind k.3 in
     subst (λ (y : ConstraintItem). HasOperands constraint_limit left values (item_operands y)) g.0 (has_operands constraint_limit left values (kind_operands a.0) t.1)
 

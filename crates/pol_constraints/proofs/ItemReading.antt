@@ -2,7 +2,8 @@
 use Rattle.std.proofs.Common.{◌≡◌, ℕ, ◌+◌, ◌≤◌, Bool, Option, None, List, length, sym, ap, subst, ◌∙◌, arith}
 use Rattle.std.specs.Prelude.{◌&&◌, nat_le}
 use Rattle.std.proofs.lemmas.Bool.Decides.{nat_tests}
-use Rattle.pol_cursor.specs.Outcome.{Position, Outcome, Got, and_then, field, judged}
+use Rattle.pol_cursor.specs.declared.fields.TheConstants.{CONSTRAINT_KIND, CONSTRAINT_ATTR, CONSTRAINT_OP}
+use Rattle.pol_cursor.specs.Outcome.{Position, Outcome, Got, and_then, judged}
 use Rattle.pol_cursor.specs.Parts.{num, number}
 use Rattle.pol_cursor.specs.declared.field.Field.{Field}
 use Rattle.pol_cursor.specs.declared.fault.Cause.{Cause}
@@ -30,9 +31,9 @@ pub record IsItemRead (version : ℕ) (xtarget : Bool) (left values : ℕ) (firs
   pub kind_is : kind ≡ num first.bytes first.place 4
 
 pub item_read : (version : ℕ) (xtarget : Bool) (left values : ℕ) (q0 q1 q2 q3 q4 : Position) (kind attr op : ℕ)
-    → Gave (number (field 7 3) 4) kind q0 q1 → kind_test left values kind ≡ None
-    → Gave (number (field 7 4) 4) attr q1 q2 → attr_test xtarget kind attr ≡ None
-    → Gave (number (field 7 5) 4) op q2 q3 → op_test kind op ≡ None
+    → Gave (number CONSTRAINT_KIND 4) kind q0 q1 → kind_test left values kind ≡ None
+    → Gave (number CONSTRAINT_ATTR 4) attr q1 q2 → attr_test xtarget kind attr ≡ None
+    → Gave (number CONSTRAINT_OP 4) op q2 q3 → op_test kind op ≡ None
     → Gave (sets_at version kind) (names_in kind q3.bytes q3.place, types_in version kind q3.bytes q3.place) q3 q4
     → q4.place ≡ sets_end version kind q3.bytes q3.place → (q3.place ≤ length q3.bytes → q4.place ≤ length q3.bytes) → HasSets version kind q3.bytes q3.place
     → IsItemRead version xtarget left values q0 q4 kind
@@ -41,11 +42,11 @@ item_read version xtarget left values q0 q1 q2 q3 q4 kind attr op e1 t1 e2 t2 e3
     let bytes = q0.bytes in
     let b2 : q2.bytes ≡ bytes = e2.1 ∙ e1.1 in
     let b3 : q3.bytes ≡ bytes = e3.1 ∙ b2 in
-    let r2 : number (field 7 4) 4 bytes q1.place ≡ Got attr q2.place = rw (← e1.1) e2.0 in
-    let r3 : number (field 7 5) 4 bytes q2.place ≡ Got op q3.place = rw (← b2) e3.0 in
-    let n1 = number_is (field 7 3) 4 bytes q0.place kind q1.place e1.0 in
-    let n2 = number_is (field 7 4) 4 bytes q1.place attr q2.place r2 in
-    let n3 = number_is (field 7 5) 4 bytes q2.place op q3.place r3 in
+    let r2 : number CONSTRAINT_ATTR 4 bytes q1.place ≡ Got attr q2.place = rw (← e1.1) e2.0 in
+    let r3 : number CONSTRAINT_OP 4 bytes q2.place ≡ Got op q3.place = rw (← b2) e3.0 in
+    let n1 = number_is CONSTRAINT_KIND 4 bytes q0.place kind q1.place e1.0 in
+    let n2 = number_is CONSTRAINT_ATTR 4 bytes q1.place attr q2.place r2 in
+    let n3 = number_is CONSTRAINT_OP 4 bytes q2.place op q3.place r3 in
     let place : q3.place ≡ q0.place + 12 = omega (arith, n1.1, n2.1, n3.1) in
     let here : q3 ≡ record { bytes = bytes; place = q0.place + 12 } = ap (λ (b : List ℕ). record { bytes = b; place = q3.place }) b3 ∙ ap (λ (p : ℕ). record { bytes = bytes; place = p }) place in
     let attr-is : attr ≡ num bytes (q0.place + 4) 4 = n2.0 ∙ ap (λ (p : ℕ). num bytes p 4) n1.1 in
@@ -57,9 +58,9 @@ item_read version xtarget left values q0 q1 q2 q3 q4 kind attr op e1 t1 e2 t2 e3
     ∙ ap (λ (q : Position). record { kind = num bytes q0.place 4; attr = num bytes (q0.place + 4) 4; op = num bytes (q0.place + 8) 4; names = names_in (num bytes q0.place 4) q.bytes q.place; type_set = types_in version (num bytes q0.place 4) q.bytes q.place }) here in
     let rest : ℕ → ℕ → ℕ → ℕ → Outcome ConstraintItem = λ kind attr op p. and_then (sets_at version kind bytes p) (λ sets k. Got (record { kind = kind; attr = attr; op = op; names = sets.0; type_set = sets.1 }) k) in
     let whole =
-    ap (λ (o : Outcome ℕ). and_then o (λ kind m. and_then (and_then (number (field 7 4) 4 bytes m) (λ x k. judged (attr_test xtarget kind x) (field 7 4) x m k)) (λ attr n. and_then (and_then (number (field 7 5) 4 bytes n) (λ x k. judged (op_test kind x) (field 7 5) x n k)) (λ op p. rest kind attr op p)))) (kept (field 7 3) (kind_test left values) (number (field 7 3) 4 bytes q0.place) q0.place kind q1.place e1.0 t1)
-    ∙ ap (λ (o : Outcome ℕ). and_then o (λ attr n. and_then (and_then (number (field 7 5) 4 bytes n) (λ x k. judged (op_test kind x) (field 7 5) x n k)) (λ op p. rest kind attr op p))) (kept (field 7 4) (attr_test xtarget kind) (number (field 7 4) 4 bytes q1.place) q1.place attr q2.place r2 t2)
-    ∙ ap (λ (o : Outcome ℕ). and_then o (λ op p. rest kind attr op p)) (kept (field 7 5) (op_test kind) (number (field 7 5) 4 bytes q2.place) q2.place op q3.place r3 t3)
+    ap (λ (o : Outcome ℕ). and_then o (λ kind m. and_then (and_then (number CONSTRAINT_ATTR 4 bytes m) (λ x k. judged (attr_test xtarget kind x) CONSTRAINT_ATTR x m k)) (λ attr n. and_then (and_then (number CONSTRAINT_OP 4 bytes n) (λ x k. judged (op_test kind x) CONSTRAINT_OP x n k)) (λ op p. rest kind attr op p)))) (kept CONSTRAINT_KIND (kind_test left values) (number CONSTRAINT_KIND 4 bytes q0.place) q0.place kind q1.place e1.0 t1)
+    ∙ ap (λ (o : Outcome ℕ). and_then o (λ attr n. and_then (and_then (number CONSTRAINT_OP 4 bytes n) (λ x k. judged (op_test kind x) CONSTRAINT_OP x n k)) (λ op p. rest kind attr op p))) (kept CONSTRAINT_ATTR (attr_test xtarget kind) (number CONSTRAINT_ATTR 4 bytes q1.place) q1.place attr q2.place r2 t2)
+    ∙ ap (λ (o : Outcome ℕ). and_then o (λ op p. rest kind attr op p)) (kept CONSTRAINT_OP (op_test kind) (number CONSTRAINT_OP 4 bytes q2.place) q2.place op q3.place r3 t3)
     ∙ ap (λ (b : List ℕ). and_then (sets_at version kind b q3.place) (λ sets k. Got (record { kind = kind; attr = attr; op = op; names = sets.0; type_set = sets.1 }) k)) (sym b3)
     ∙ ap (λ (o : Outcome (Option (List Node) × Option TypeSet)). and_then o (λ sets k. Got (record { kind = kind; attr = attr; op = op; names = sets.0; type_set = sets.1 }) k)) e4.0
     ∙ ap (λ (x : ConstraintItem). Got x q4.place) same in

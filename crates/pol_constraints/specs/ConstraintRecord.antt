@@ -3,7 +3,8 @@ use Rattle.std.specs.Prelude.{◌≡◌, ℕ, zero, suc, ◌+◌, ◌^◌, ◌<�
 use Rattle.std.specs.List.{flat_map, list_any, AllByRecursion}
 use Rattle.pol_cursor.specs.declared.fault.Cause.{Cause}
 use Rattle.pol_cursor.specs.declared.fault.Cause.TheVariants.{BadKind, BadAttr, BadOp}
-use Rattle.pol_cursor.specs.Outcome.{Reader, field, ◌>>=◌, done}
+use Rattle.pol_cursor.specs.declared.fields.TheConstants.{CONSTRAINT_PERMISSIONS, CONSTRAINT_NEXPR, CONSTRAINT_KIND, CONSTRAINT_ATTR, CONSTRAINT_OP, CONSTRAINT_FLAGS}
+use Rattle.pol_cursor.specs.Outcome.{Reader, ◌>>=◌, done}
 use Rattle.pol_cursor.specs.Parts.{num, number, number_if, list_of, optional, spell_optional, OptionFits, unless}
 use Rattle.pol_cursor.specs.Spelling.{bytes_of}
 use Rattle.pol_bitmap.specs.Bitmap.{bitmap_at, spell_bitmap, BitmapFits}
@@ -60,7 +61,7 @@ unfoldable pub type_set_at : Reader TypeSet
 type_set_at = do
   types ← bitmap_at None
   negated ← bitmap_at None
-  flags ← number (field 7 6) 4
+  flags ← number CONSTRAINT_FLAGS 4
   done (record { types = types; negated = negated; flags = flags })
 
 -- the names of an item of a kind, and its type set
@@ -73,9 +74,9 @@ sets_at version kind = do
 -- an item before which so many values stand, and after which so many items are left
 unfoldable pub item_at : ℕ → Bool → ℕ → ℕ → Reader ConstraintItem
 item_at version xtarget left values = do
-  kind ← number_if (field 7 3) 4 (kind_test left values)
-  attr ← number_if (field 7 4) 4 (attr_test xtarget kind)
-  op ← number_if (field 7 5) 4 (op_test kind)
+  kind ← number_if CONSTRAINT_KIND 4 (kind_test left values)
+  attr ← number_if CONSTRAINT_ATTR 4 (attr_test xtarget kind)
+  op ← number_if CONSTRAINT_OP 4 (op_test kind)
   sets ← sets_at version kind
   done (record { kind = kind; attr = attr; op = op; names = sets.0; type_set = sets.1 })
 
@@ -87,8 +88,8 @@ items_at version xtarget count = list_of (item_at version xtarget) values_after_
 
 unfoldable pub constraint_at : ℕ → Bool → Reader ConstraintRec
 constraint_at version xtarget = do
-  permissions ← number (field 7 1) 4
-  count ← number_if (field 7 2) 4 item_count_test
+  permissions ← number CONSTRAINT_PERMISSIONS 4
+  count ← number_if CONSTRAINT_NEXPR 4 item_count_test
   items ← items_at version xtarget count
   done (record { permissions = permissions; items = items })
 

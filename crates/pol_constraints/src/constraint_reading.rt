@@ -6,10 +6,8 @@ ghost use Rattle.pol_constraints.specs.ConstraintRecord.{type_set_at, type_set_i
 
 use crate::constraint_causes::{attr_cause, kind_cause, kind_operands, op_cause};
 use pol_bitmap::BitmapView;
-use pol_cursor::{Cursor, Fault, Field, refuse};
-
-// The code of a constraint's record.
-pub const CONSTRAINT: u8 = 7;
+use pol_cursor::fields::{CONSTRAINT_ATTR, CONSTRAINT_FLAGS, CONSTRAINT_KIND, CONSTRAINT_OP};
+use pol_cursor::{Cursor, Fault, refuse};
 
 // The first version whose names have a type set beside them.
 pub const TYPE_SETS: u32 = 29;
@@ -23,11 +21,7 @@ fn pass_type_set(c: &mut Cursor<'_>) -> Result<(), Fault>
 {
     BitmapView::read(c)?;
     BitmapView::read(c)?;
-    let field = Field {
-        row: CONSTRAINT,
-        part: 6,
-    };
-    c.u32(field)?;
+    c.u32(CONSTRAINT_FLAGS)?;
     Ok(())
 }
 
@@ -65,26 +59,14 @@ pub fn pass_item(
     ensures values { IfOk result (λ after. (after ≡ values_after values (kind_operands (num c.old.bytes c.old.place 4))) × (after ≤ 5)) }
 {
     let place = c.place();
-    let field = Field {
-        row: CONSTRAINT,
-        part: 3,
-    };
-    let kind = c.u32(field)?;
-    refuse(kind_cause(left, values, kind), place, field)?;
+    let kind = c.u32(CONSTRAINT_KIND)?;
+    refuse(kind_cause(left, values, kind), place, CONSTRAINT_KIND)?;
     let place = c.place();
-    let field = Field {
-        row: CONSTRAINT,
-        part: 4,
-    };
-    let attr = c.u32(field)?;
-    refuse(attr_cause(xtarget, kind, attr), place, field)?;
+    let attr = c.u32(CONSTRAINT_ATTR)?;
+    refuse(attr_cause(xtarget, kind, attr), place, CONSTRAINT_ATTR)?;
     let place = c.place();
-    let field = Field {
-        row: CONSTRAINT,
-        part: 5,
-    };
-    let op = c.u32(field)?;
-    refuse(op_cause(kind, op), place, field)?;
+    let op = c.u32(CONSTRAINT_OP)?;
+    refuse(op_cause(kind, op), place, CONSTRAINT_OP)?;
     let after = values + 1 - kind_operands(kind);
     pass_sets(c, version, kind)?;
     Ok(after)

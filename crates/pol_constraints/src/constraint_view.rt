@@ -3,10 +3,11 @@ ghost use Rattle.pol_cursor.specs.Outcome.{Answers};
 ghost use Rattle.pol_constraints.specs.ConstraintRecord.{constraint_at, constraint_in, constraint_end, HasConstraint, IsExpression};
 
 use crate::constraint_item::{ConstraintItemView, ConstraintItems};
-use crate::constraint_reading::{CONSTRAINT, pass_items};
+use crate::constraint_reading::pass_items;
 use crate::constraint_rec::ConstraintRec;
 use pol_bitmap::BitmapView;
-use pol_cursor::{Cursor, Fault, Field, OwnedList, refuse, u32_in};
+use pol_cursor::fields::{CONSTRAINT_NEXPR, CONSTRAINT_PERMISSIONS};
+use pol_cursor::{Cursor, Fault, OwnedList, refuse, u32_in};
 use pol_expr::item_count_cause;
 use std::alloc::{AllocError, Global};
 use std::marker::Model;
@@ -170,18 +171,10 @@ pub fn read_constraint<'a>(
 {
     let bytes = c.bytes();
     let first = c.place();
-    let field = Field {
-        row: CONSTRAINT,
-        part: 1,
-    };
-    c.u32(field)?;
+    c.u32(CONSTRAINT_PERMISSIONS)?;
     let place = c.place();
-    let field = Field {
-        row: CONSTRAINT,
-        part: 2,
-    };
-    let count = c.u32(field)?;
-    refuse(item_count_cause(count), place, field)?;
+    let count = c.u32(CONSTRAINT_NEXPR)?;
+    refuse(item_count_cause(count), place, CONSTRAINT_NEXPR)?;
     pass_items(c, version, xtarget, count)?;
     Ok(ConstraintView {
         bytes,

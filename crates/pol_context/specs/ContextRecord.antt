@@ -1,7 +1,8 @@
 -- Record 24: a security context, which is a user, a role, a type and a range (libsepol's context_read_and_validate).
 use Rattle.std.specs.Prelude.{ℕ, ◌+◌, ◌^◌, ◌<◌, List, ◌∷◌, ◌++◌}
 use Rattle.pol_cursor.specs.declared.table_kind.TableKind.TheVariants.{Users, Roles, Types}
-use Rattle.pol_cursor.specs.Outcome.{Reader, field, ◌>>=◌, done}
+use Rattle.pol_cursor.specs.declared.fields.TheConstants.{CONTEXT_USER, CONTEXT_ROLE, CONTEXT_TYPE}
+use Rattle.pol_cursor.specs.Outcome.{Reader, ◌>>=◌, done}
 use Rattle.pol_cursor.specs.Parts.{num, number}
 use Rattle.pol_cursor.specs.References.{Placed, Reference}
 use Rattle.pol_cursor.specs.Spelling.{bytes_of}
@@ -12,9 +13,9 @@ use Rattle.pol_context.specs.declared.context_rec.ContextRec.{ContextRec}
 
 unfoldable pub context_at : Reader ContextRec
 context_at = do
-  user ← number (field 24 1) 4
-  role ← number (field 24 2) 4
-  type_value ← number (field 24 3) 4
+  user ← number CONTEXT_USER 4
+  role ← number CONTEXT_ROLE 4
+  type_value ← number CONTEXT_TYPE 4
   range ← range_at
   done (record { user = user; role = role; type_value = type_value; range = range })
 
@@ -55,7 +56,7 @@ HasContext bytes place = HasRange bytes (place + 12)
 -- the user, the role and the type, and then the sensitivities
 abbrev pub context_references : Placed ContextRec → List Reference
 context_references context =
-    record { place = context.place; field = field 24 1; table = Users; value = context.value.user } ∷
-    record { place = context.place + 4; field = field 24 2; table = Roles; value = context.value.role } ∷
-    record { place = context.place + 8; field = field 24 3; table = Types; value = context.value.type_value } ∷
+    record { place = context.place; field = CONTEXT_USER; table = Users; value = context.value.user } ∷
+    record { place = context.place + 4; field = CONTEXT_ROLE; table = Roles; value = context.value.role } ∷
+    record { place = context.place + 8; field = CONTEXT_TYPE; table = Types; value = context.value.type_value } ∷
     range_references (record { place = context.place + 12; value = context.value.range })

@@ -1,21 +1,15 @@
 ghost use Rattle.std.specs.Prelude.{◌≡◌, ◌+◌, IfOk, OnOk};
-ghost use Rattle.pol_cursor.specs.Outcome.{Answers, field};
+ghost use Rattle.pol_cursor.specs.Outcome.{Answers};
 ghost use Rattle.pol_cursor.specs.References.{dangling_of};
 ghost use Rattle.pol_context.specs.ContextRecord.{context_at, context_in, context_end, HasContext, context_references};
 
 use crate::context_rec::ContextRec;
 use pol_cursor::TableKind::{Roles, Types, Users};
-use pol_cursor::{Cursor, Fault, Field, Mention, Names, first_dangling, u32_in};
+use pol_cursor::fields::{CONTEXT_ROLE, CONTEXT_TYPE, CONTEXT_USER};
+use pol_cursor::{Cursor, Fault, Mention, Names, first_dangling, u32_in};
 use pol_mls::{RangeView, read_range};
 use std::alloc::{AllocError, Global};
 use std::marker::Model;
-
-// The field of that number.
-fn part(part: u8) -> Field
-    ensures { result ≡ field 24 part }
-{
-    Field { row: 24, part }
-}
 
 /// A security context in the buffer.
 #[derive(Drop)]
@@ -80,9 +74,9 @@ impl<'a> ContextView<'a> {
         let own = first_dangling(
             names,
             &[
-                Mention::new(24, 1, self.place, Users, self.user()),
-                Mention::new(24, 2, self.place + 4, Roles, self.role()),
-                Mention::new(24, 3, self.place + 8, Types, self.type_value()),
+                Mention::new(CONTEXT_USER, self.place, Users, self.user()),
+                Mention::new(CONTEXT_ROLE, self.place + 4, Roles, self.role()),
+                Mention::new(CONTEXT_TYPE, self.place + 8, Types, self.type_value()),
             ],
         );
         match own {
@@ -113,9 +107,9 @@ pub fn read_context<'a>(c: &mut Cursor<'a>) -> Result<ContextView<'a>, Fault>
 {
     let bytes = c.bytes();
     let place = c.place();
-    c.u32(part(1))?;
-    c.u32(part(2))?;
-    c.u32(part(3))?;
+    c.u32(CONTEXT_USER)?;
+    c.u32(CONTEXT_ROLE)?;
+    c.u32(CONTEXT_TYPE)?;
     read_range(c)?;
     Ok(ContextView { bytes, place })
 }

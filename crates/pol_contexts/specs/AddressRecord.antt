@@ -1,6 +1,7 @@
 -- Record 29 and 31: the context of IPv4 addresses, and in the same form that of IPv6 addresses (libsepol's ocontext_read_selinux).
 use Rattle.std.specs.Prelude.{ℕ, ◌+◌, ◌≡◌, List, ◌++◌, length, take, drop}
-use Rattle.pol_cursor.specs.Outcome.{Reader, field, ◌>>=◌, done}
+use Rattle.pol_cursor.specs.declared.field.Field.{Field}
+use Rattle.pol_cursor.specs.Outcome.{Reader, ◌>>=◌, done}
 use Rattle.pol_cursor.specs.Parts.{string}
 use Rattle.pol_cursor.specs.References.{Placed, Reference}
 use Rattle.pol_context.specs.ContextRecord.{context_at, spell_context, ContextFits, context_in, HasContext, context_references}
@@ -8,11 +9,11 @@ use Rattle.pol_contexts.specs.declared.address_rec.AddressRec.{AddressRec}
 
 -- ---- reading and spelling
 
--- an entry of the table of that code, whose addresses have so many bytes
-unfoldable pub address_at : ℕ → (width : ℕ) → Reader (AddressRec width)
-address_at row width = do
-  address ← string (field row 2) width
-  mask ← string (field row 3) width
+-- an entry of one of the two tables, by the fields of its address and its mask, which have so many bytes
+unfoldable pub address_at : Field → Field → (width : ℕ) → Reader (AddressRec width)
+address_at address_field mask_field width = do
+  address ← string address_field width
+  mask ← string mask_field width
   context ← context_at
   done (record { address = address; mask = mask; context = context })
 

@@ -1,5 +1,6 @@
 -- Records 25 to 33: the tables that hold contexts (libsepol's ocontext_read_selinux).
 use Rattle.std.specs.Prelude.{ℕ, Bool, true, false, List, [], nat_le}
+use Rattle.pol_cursor.specs.declared.fields.TheConstants.{SID_COUNT, FS_COUNT, FS_LEN, FS_NAME, PORT_COUNT, NETIF_COUNT, NETIF_LEN, NETIF_NAME, NODE_COUNT, NODE_ADDRESS, NODE_MASK, FSUSE_COUNT, NODE6_COUNT, NODE6_ADDRESS, NODE6_MASK, IBPKEY_COUNT, IBENDPORT_COUNT}
 use Rattle.pol_cursor.specs.Outcome.{Reader, ◌>>=◌, done}
 use Rattle.pol_context.specs.EntryLists.{table_at}
 use Rattle.pol_contexts.specs.SidRecord.{sid_at}
@@ -22,13 +23,13 @@ has_infiniband version = nat_le 31 version
 
 unfoldable pub contexts_at : ℕ → Reader Contexts
 contexts_at version = do
-  sid ← table_at 25 sid_at
-  fs ← table_at 26 (named_at 26)
-  port ← table_at 27 port_at
-  netif ← table_at 28 (named_at 28)
-  node ← table_at 29 (address_at 29 4)
-  fsuse ← table_at 30 fsuse_at
-  node6 ← table_at 31 (address_at 31 16)
-  ibpkey ← table_if (has_infiniband version) (table_at 32 ibpkey_at)
-  ibendport ← table_if (has_infiniband version) (table_at 33 ibendport_at)
+  sid ← table_at SID_COUNT sid_at
+  fs ← table_at FS_COUNT (named_at FS_LEN FS_NAME)
+  port ← table_at PORT_COUNT port_at
+  netif ← table_at NETIF_COUNT (named_at NETIF_LEN NETIF_NAME)
+  node ← table_at NODE_COUNT (address_at NODE_ADDRESS NODE_MASK 4)
+  fsuse ← table_at FSUSE_COUNT fsuse_at
+  node6 ← table_at NODE6_COUNT (address_at NODE6_ADDRESS NODE6_MASK 16)
+  ibpkey ← table_if (has_infiniband version) (table_at IBPKEY_COUNT ibpkey_at)
+  ibendport ← table_if (has_infiniband version) (table_at IBENDPORT_COUNT ibendport_at)
   done (record { sid = sid; fs = fs; port = port; netif = netif; node = node; fsuse = fsuse; node6 = node6; ibpkey = ibpkey; ibendport = ibendport })

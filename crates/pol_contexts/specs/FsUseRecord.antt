@@ -1,6 +1,7 @@
 -- Record 30: how the files of a file system get their contexts (libsepol's ocontext_read_selinux).
 use Rattle.std.specs.Prelude.{ℕ, ◌+◌, ◌^◌, ◌<◌, ◌&&◌, Option, List, ◌++◌, length, nat_le}
-use Rattle.pol_cursor.specs.Outcome.{Reader, field, ◌>>=◌, done}
+use Rattle.pol_cursor.specs.declared.fields.TheConstants.{FSUSE_BEHAVIOUR, FSUSE_LEN, FSUSE_NAME}
+use Rattle.pol_cursor.specs.Outcome.{Reader, ◌>>=◌, done}
 use Rattle.pol_cursor.specs.Parts.{num, number_if, unless}
 use Rattle.pol_cursor.specs.References.{Placed, Reference}
 use Rattle.pol_cursor.specs.Spelling.{bytes_of}
@@ -17,12 +18,12 @@ abbrev pub behaviour_test : ℕ → Option Cause
 behaviour_test behaviour = unless (nat_le 1 behaviour && nat_le behaviour 3) BadBehaviour
 
 unfoldable pub behaviour_at : Reader ℕ
-behaviour_at = number_if (field 30 2) 4 behaviour_test
+behaviour_at = number_if FSUSE_BEHAVIOUR 4 behaviour_test
 
 unfoldable pub fsuse_at : Reader FsUseRec
 fsuse_at = do
   behaviour ← behaviour_at
-  name ← name_at 30 3
+  name ← name_at FSUSE_LEN FSUSE_NAME
   context ← context_at
   done (record { behaviour = behaviour; name = name; context = context })
 

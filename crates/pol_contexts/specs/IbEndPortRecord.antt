@@ -1,6 +1,7 @@
 -- Record 33: the context of an InfiniBand device at a port (libsepol's ocontext_read_selinux).
 use Rattle.std.specs.Prelude.{ℕ, ◌+◌, ◌^◌, ◌<◌, List, ◌++◌, length, take, drop}
-use Rattle.pol_cursor.specs.Outcome.{Reader, field, ◌>>=◌, done}
+use Rattle.pol_cursor.specs.declared.fields.TheConstants.{IBENDPORT_LEN, IBENDPORT_PORT, IBENDPORT_NAME}
+use Rattle.pol_cursor.specs.Outcome.{Reader, ◌>>=◌, done}
 use Rattle.pol_cursor.specs.Parts.{num, number}
 use Rattle.pol_cursor.specs.References.{Placed, Reference}
 use Rattle.pol_cursor.specs.Spelling.{bytes_of}
@@ -13,9 +14,9 @@ use Rattle.pol_contexts.specs.declared.ibendport_rec.IbEndPortRec.{IbEndPortRec}
 -- The port stands between the length of the name and the name.
 unfoldable pub ibendport_at : Reader IbEndPortRec
 ibendport_at = do
-  len ← name_length_at 33 2
-  port ← number (field 33 3) 4
-  name ← name_bytes_at 33 4 len
+  len ← name_length_at IBENDPORT_LEN
+  port ← number IBENDPORT_PORT 4
+  name ← name_bytes_at IBENDPORT_NAME len
   context ← context_at
   done (record { port = port; name = name; context = context })
 

@@ -1,6 +1,7 @@
 -- Record 32: the context of a range of InfiniBand partition keys (libsepol's ocontext_read_selinux).
 use Rattle.std.specs.Prelude.{ℕ, ◌+◌, ◌^◌, ◌<◌, ◌≡◌, List, ◌++◌, length, take, drop}
-use Rattle.pol_cursor.specs.Outcome.{Reader, field, ◌>>=◌, done}
+use Rattle.pol_cursor.specs.declared.fields.TheConstants.{IBPKEY_PREFIX, IBPKEY_LOW, IBPKEY_HIGH}
+use Rattle.pol_cursor.specs.Outcome.{Reader, ◌>>=◌, done}
 use Rattle.pol_cursor.specs.Parts.{num, number, string}
 use Rattle.pol_cursor.specs.References.{Placed, Reference}
 use Rattle.pol_cursor.specs.Spelling.{bytes_of}
@@ -11,9 +12,9 @@ use Rattle.pol_contexts.specs.declared.ibpkey_rec.IbPkeyRec.{IbPkeyRec}
 
 unfoldable pub ibpkey_at : Reader IbPkeyRec
 ibpkey_at = do
-  prefix ← string (field 32 2) 8
-  low ← number (field 32 3) 4
-  high ← number (field 32 4) 4
+  prefix ← string IBPKEY_PREFIX 8
+  low ← number IBPKEY_LOW 4
+  high ← number IBPKEY_HIGH 4
   context ← context_at
   done (record { prefix = prefix; low = low; high = high; context = context })
 

@@ -1,5 +1,6 @@
 -- Record 26 and 28: the two contexts of a file system, and in the same form those of a network interface (libsepol's ocontext_read_selinux).
 use Rattle.std.specs.Prelude.{ℕ, ◌+◌, List, ◌++◌, length}
+use Rattle.pol_cursor.specs.declared.field.Field.{Field}
 use Rattle.pol_cursor.specs.Outcome.{Reader, ◌>>=◌, done}
 use Rattle.pol_cursor.specs.References.{Placed, Reference}
 use Rattle.pol_cursor.specs.FileNames.{name_at, spell_name, NameFits, name_in, name_end}
@@ -8,10 +9,10 @@ use Rattle.pol_contexts.specs.declared.named_rec.NamedRec.{NamedRec}
 
 -- ---- reading and spelling
 
--- an entry of the table of that code
-unfoldable pub named_at : ℕ → Reader NamedRec
-named_at row = do
-  name ← name_at row 2
+-- an entry of one of the two tables, by the fields of its name
+unfoldable pub named_at : Field → Field → Reader NamedRec
+named_at len_field name_field = do
+  name ← name_at len_field name_field
   context ← context_at
   second_context ← context_at
   done (record { name = name; context = context; second_context = second_context })

@@ -1,6 +1,7 @@
 -- Record 27: the context of a range of ports (libsepol's ocontext_read_selinux).
 use Rattle.std.specs.Prelude.{ℕ, ◌+◌, ◌^◌, ◌<◌, List, ◌++◌}
-use Rattle.pol_cursor.specs.Outcome.{Reader, field, ◌>>=◌, done}
+use Rattle.pol_cursor.specs.declared.fields.TheConstants.{PORT_PROTOCOL, PORT_LOW, PORT_HIGH}
+use Rattle.pol_cursor.specs.Outcome.{Reader, ◌>>=◌, done}
 use Rattle.pol_cursor.specs.Parts.{num, number}
 use Rattle.pol_cursor.specs.References.{Placed, Reference}
 use Rattle.pol_cursor.specs.Spelling.{bytes_of}
@@ -11,9 +12,9 @@ use Rattle.pol_contexts.specs.declared.port_rec.PortRec.{PortRec}
 
 unfoldable pub port_at : Reader PortRec
 port_at = do
-  protocol ← number (field 27 2) 4
-  low ← number (field 27 3) 4
-  high ← number (field 27 4) 4
+  protocol ← number PORT_PROTOCOL 4
+  low ← number PORT_LOW 4
+  high ← number PORT_HIGH 4
   context ← context_at
   done (record { protocol = protocol; low = low; high = high; context = context })
 

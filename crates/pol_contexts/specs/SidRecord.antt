@@ -1,6 +1,7 @@
 -- Record 25: the context of an initial SID (libsepol's ocontext_read_selinux).
 use Rattle.std.specs.Prelude.{ℕ, ◌+◌, ◌^◌, ◌<◌, List, ◌++◌}
-use Rattle.pol_cursor.specs.Outcome.{Reader, field, ◌>>=◌, done}
+use Rattle.pol_cursor.specs.declared.fields.TheConstants.{SID_SID}
+use Rattle.pol_cursor.specs.Outcome.{Reader, ◌>>=◌, done}
 use Rattle.pol_cursor.specs.Parts.{num, number}
 use Rattle.pol_cursor.specs.References.{Placed, Reference}
 use Rattle.pol_cursor.specs.Spelling.{bytes_of}
@@ -11,7 +12,7 @@ use Rattle.pol_contexts.specs.declared.sid_rec.SidRec.{SidRec}
 
 unfoldable pub sid_at : Reader SidRec
 sid_at = do
-  sid ← number (field 25 2) 4
+  sid ← number SID_SID 4
   context ← context_at
   done (record { sid = sid; context = context })
 

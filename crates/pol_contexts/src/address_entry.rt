@@ -1,4 +1,5 @@
 ghost use Rattle.std.specs.Prelude.{◌≡◌, ◌+◌, ◌≤◌, OnOk};
+ghost use Rattle.pol_cursor.specs.declared.fields.TheConstants.{NODE_ADDRESS, NODE_MASK, NODE6_ADDRESS, NODE6_MASK};
 ghost use Rattle.pol_cursor.specs.Outcome.{Answers};
 ghost use Rattle.pol_contexts.specs.AddressRecord.{address_at, address_in, spell_address, HasAddress, address_references};
 
@@ -6,6 +7,7 @@ use crate::address_rec::AddressRec;
 use crate::entry::{Entry, Standing};
 use crate::kinds::{AddressView, Node, Node6};
 use pol_context::{ContextView, read_context};
+use pol_cursor::fields::{NODE_ADDRESS, NODE_MASK, NODE6_ADDRESS, NODE6_MASK};
 use pol_cursor::{Cursor, Fault, Field, Names, Part, ReadAlone, Written, array_in};
 use std::alloc::{AllocError, Global};
 
@@ -58,30 +60,34 @@ impl<const WIDTH: usize> Entry for AddressRec<WIDTH> {
 }
 
 impl ReadAlone for Node {
-    ghost reads = { address_at 29 4 };
+    ghost reads = { address_at NODE_ADDRESS NODE_MASK 4 };
 
     fn pass(c: &mut Cursor<'_>) -> Result<(), Fault> {
-        pass_address::<4>(c, 29)
+        pass_address::<4>(c, NODE_ADDRESS, NODE_MASK)
     }
 }
 
 impl ReadAlone for Node6 {
-    ghost reads = { address_at 31 16 };
+    ghost reads = { address_at NODE6_ADDRESS NODE6_MASK 16 };
 
     fn pass(c: &mut Cursor<'_>) -> Result<(), Fault> {
-        pass_address::<16>(c, 31)
+        pass_address::<16>(c, NODE6_ADDRESS, NODE6_MASK)
     }
 }
 
-// Passes over the entry at the cursor, of the table of that code.
+// Passes over the entry at the cursor, whose address and mask have those fields.
 #[tactic(auto, unfolding(crate::specs::AddressRecord::address_at), using(pol_cursor::proofs::Facts::number_is, pol_cursor::proofs::Facts::string_is))]
-fn pass_address<const WIDTH: usize>(c: &mut Cursor<'_>, row: u8) -> Result<(), Fault>
+fn pass_address<const WIDTH: usize>(
+    c: &mut Cursor<'_>,
+    address: Field,
+    mask: Field,
+) -> Result<(), Fault>
     requires { WIDTH ≤ 16 }
-    ensures exact { Answers (λ _. address_in WIDTH c.old.bytes c.old.place) result (address_at row WIDTH) c.old c.new }
+    ensures exact { Answers (λ _. address_in WIDTH c.old.bytes c.old.place) result (address_at address mask WIDTH) c.old c.new }
     ensures stands { OnOk result (HasAddress WIDTH c.old.bytes c.old.place) }
 {
-    c.take(WIDTH as u32, Field { row, part: 2 })?;
-    c.take(WIDTH as u32, Field { row, part: 3 })?;
+    c.take(WIDTH as u32, address)?;
+    c.take(WIDTH as u32, mask)?;
     read_context(c)?;
     Ok(())
 }

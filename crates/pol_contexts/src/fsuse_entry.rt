@@ -8,8 +8,9 @@ use crate::entry::{Entry, Standing};
 use crate::fsuse_rec::FsUseRec;
 use crate::kinds::{FsUse, FsUseView};
 use pol_context::{ContextView, name_end, name_standing, read_context};
+use pol_cursor::fields::{FSUSE_BEHAVIOUR, FSUSE_LEN, FSUSE_NAME};
 use pol_cursor::{
-    ByteList, Cursor, Fault, Field, Names, Part, ReadAlone, Written, read_name, refuse, u32_in,
+    ByteList, Cursor, Fault, Names, Part, ReadAlone, Written, read_name, refuse, u32_in,
 };
 use std::alloc::{AllocError, Global};
 
@@ -66,7 +67,7 @@ impl ReadAlone for FsUse {
     #[tactic(auto, unfolding(crate::specs::FsUseRecord::fsuse_at))]
     fn pass(c: &mut Cursor<'_>) -> Result<(), Fault> {
         read_behaviour(c)?;
-        read_name(c, 30, 3)?;
+        read_name(c, FSUSE_LEN, FSUSE_NAME)?;
         read_context(c)?;
         Ok(())
     }
@@ -80,9 +81,8 @@ fn read_behaviour(c: &mut Cursor<'_>) -> Result<u32, Fault>
     ensures next { OnOk result (c.new.place ≡ c.old.place + 4) }
 {
     let place = c.place();
-    let field = Field { row: 30, part: 2 };
-    let behaviour = c.u32(field)?;
-    refuse(behaviour_cause(behaviour), place, field)?;
+    let behaviour = c.u32(FSUSE_BEHAVIOUR)?;
+    refuse(behaviour_cause(behaviour), place, FSUSE_BEHAVIOUR)?;
     Ok(behaviour)
 }
 

@@ -1,5 +1,5 @@
 ghost use Rattle.std.specs.Prelude.{◌≡◌, ◌+◌, IfOk, OnOk, length};
-ghost use Rattle.pol_cursor.specs.Outcome.{Answers, field};
+ghost use Rattle.pol_cursor.specs.Outcome.{Answers};
 ghost use Rattle.pol_cursor.specs.Parts.{num, number};
 ghost use Rattle.pol_contexts.specs.IbEndPortRecord.{ibendport_at, ibendport_in, spell_ibendport, HasIbEndPort, ibendport_references};
 
@@ -7,9 +7,10 @@ use crate::entry::{Entry, Standing};
 use crate::ibendport_rec::IbEndPortRec;
 use crate::kinds::{IbEndPort, IbEndPortView};
 use pol_context::{ContextView, read_context};
+use pol_cursor::fields::{IBENDPORT_LEN, IBENDPORT_NAME, IBENDPORT_PORT};
 use pol_cursor::{
-    ByteList, Cursor, Fault, Field, Names, Part, ReadAlone, Written, read_name_bytes,
-    read_name_length, string_in, u32_in,
+    ByteList, Cursor, Fault, Names, Part, ReadAlone, Written, read_name_bytes, read_name_length,
+    string_in, u32_in,
 };
 use std::alloc::{AllocError, Global};
 
@@ -66,9 +67,9 @@ impl ReadAlone for IbEndPort {
 
     #[tactic(auto, unfolding(crate::specs::IbEndPortRecord::ibendport_at))]
     fn pass(c: &mut Cursor<'_>) -> Result<(), Fault> {
-        let len = read_name_length(c, 33, 2)?;
+        let len = read_name_length(c, IBENDPORT_LEN)?;
         read_port(c)?;
-        read_name_bytes(c, 33, 4, len)?;
+        read_name_bytes(c, IBENDPORT_NAME, len)?;
         read_context(c)?;
         Ok(())
     }
@@ -77,11 +78,11 @@ impl ReadAlone for IbEndPort {
 // Reads the number of the port, which stands before the name.
 #[tactic(auto, using(pol_cursor::proofs::Facts::number_is))]
 fn read_port(c: &mut Cursor<'_>) -> Result<u32, Fault>
-    ensures exact { Answers (λ port. port) result (number (field 33 3) 4) c.old c.new }
+    ensures exact { Answers (λ port. port) result (number IBENDPORT_PORT 4) c.old c.new }
     ensures next { OnOk result (c.new.place ≡ c.old.place + 4) }
     ensures same { IfOk result (λ port. port ≡ num c.old.bytes c.old.place 4) }
 {
-    c.u32(Field { row: 33, part: 3 })
+    c.u32(IBENDPORT_PORT)
 }
 
 impl Written for IbEndPortRec {

@@ -5,7 +5,8 @@ use crate::entry::{Entry, Standing};
 use crate::ibpkey_rec::IbPkeyRec;
 use crate::kinds::{IbPkey, IbPkeyView};
 use pol_context::{ContextView, read_context};
-use pol_cursor::{Cursor, Fault, Field, Names, Part, ReadAlone, Written, array_in, u32_in};
+use pol_cursor::fields::{IBPKEY_HIGH, IBPKEY_LOW, IBPKEY_PREFIX};
+use pol_cursor::{Cursor, Fault, Names, Part, ReadAlone, Written, array_in, u32_in};
 use std::alloc::{AllocError, Global};
 
 impl Standing for IbPkeyRec {
@@ -66,9 +67,9 @@ impl ReadAlone for IbPkey {
 
     #[tactic(auto, unfolding(crate::specs::IbPkeyRecord::ibpkey_at), using(pol_cursor::proofs::Facts::number_is, pol_cursor::proofs::Facts::string_is))]
     fn pass(c: &mut Cursor<'_>) -> Result<(), Fault> {
-        c.take(8, Field { row: 32, part: 2 })?;
-        c.u32(Field { row: 32, part: 3 })?;
-        c.u32(Field { row: 32, part: 4 })?;
+        c.take(8, IBPKEY_PREFIX)?;
+        c.u32(IBPKEY_LOW)?;
+        c.u32(IBPKEY_HIGH)?;
         read_context(c)?;
         Ok(())
     }

@@ -1,11 +1,12 @@
 ghost use Rattle.std.specs.Prelude.{◌≡◌};
+ghost use Rattle.pol_cursor.specs.Outcome.{field};
 ghost use Rattle.pol_contexts.specs.NamedRecord.{named_at, named_in, spell_named, HasNamed, named_references, context_place, second_place};
 
 use crate::entry::{Entry, EntryKind, Standing};
 use crate::kinds::NamedView;
 use crate::named_rec::NamedRec;
 use pol_context::{ContextView, context_end, name_end, name_standing, read_context};
-use pol_cursor::{ByteList, Cursor, Fault, Names, Part, ReadAlone, Written, read_name};
+use pol_cursor::{ByteList, Cursor, Fault, Field, Names, Part, ReadAlone, Written, read_name};
 use std::alloc::{AllocError, Global};
 
 impl Standing for NamedRec {
@@ -61,11 +62,11 @@ impl Entry for NamedRec {
 }
 
 impl<const ROW: u8> ReadAlone for EntryKind<NamedRec, ROW> {
-    ghost reads = { named_at ROW };
+    ghost reads = { named_at (field ROW 2) (field ROW 3) };
 
     #[tactic(auto, unfolding(crate::specs::NamedRecord::named_at), using(pol_cursor::proofs::Facts::number_is))]
     fn pass(c: &mut Cursor<'_>) -> Result<(), Fault> {
-        read_name(c, ROW, 2)?;
+        read_name(c, Field { row: ROW, part: 2 }, Field { row: ROW, part: 3 })?;
         read_context(c)?;
         read_context(c)?;
         Ok(())

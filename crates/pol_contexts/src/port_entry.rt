@@ -5,7 +5,8 @@ use crate::entry::{Entry, Standing};
 use crate::kinds::{Port, PortView};
 use crate::port_rec::PortRec;
 use pol_context::{ContextView, read_context};
-use pol_cursor::{Cursor, Fault, Field, Names, Part, ReadAlone, Written, u32_in};
+use pol_cursor::fields::{PORT_HIGH, PORT_LOW, PORT_PROTOCOL};
+use pol_cursor::{Cursor, Fault, Names, Part, ReadAlone, Written, u32_in};
 use std::alloc::{AllocError, Global};
 
 impl Standing for PortRec {
@@ -66,9 +67,9 @@ impl ReadAlone for Port {
 
     #[tactic(auto, unfolding(crate::specs::PortRecord::port_at), using(pol_cursor::proofs::Facts::number_is))]
     fn pass(c: &mut Cursor<'_>) -> Result<(), Fault> {
-        c.u32(Field { row: 27, part: 2 })?;
-        c.u32(Field { row: 27, part: 3 })?;
-        c.u32(Field { row: 27, part: 4 })?;
+        c.u32(PORT_PROTOCOL)?;
+        c.u32(PORT_LOW)?;
+        c.u32(PORT_HIGH)?;
         read_context(c)?;
         Ok(())
     }

@@ -1,6 +1,7 @@
 //! The readers of one entry.
 
 ghost use Rattle.std.specs.Prelude.{◌≡◌, IfOk};
+ghost use Rattle.pol_cursor.specs.declared.fields.TheConstants.{FS_LEN, FS_NAME, NETIF_LEN, NETIF_NAME, NODE_ADDRESS, NODE_MASK, NODE6_ADDRESS, NODE6_MASK};
 ghost use Rattle.pol_cursor.specs.Outcome.{Answers};
 ghost use Rattle.pol_contexts.specs.SidRecord.{sid_at, sid_in, HasSid};
 ghost use Rattle.pol_contexts.specs.NamedRecord.{named_at, named_in, HasNamed};
@@ -27,7 +28,7 @@ pub fn read_sid_entry<'a>(c: &mut Cursor<'a>) -> Result<SidView<'a>, Fault>
 
 /// The entry of a file system at the cursor, which then stands behind it.
 pub fn read_fs_entry<'a>(c: &mut Cursor<'a>) -> Result<FsView<'a>, Fault>
-    ensures exact { Answers (λ entry. entry.value) result (named_at 26) c.old c.new }
+    ensures exact { Answers (λ entry. entry.value) result (named_at FS_LEN FS_NAME) c.old c.new }
     ensures stands { IfOk result (λ entry. HasNamed c.old.bytes c.old.place × (entry ≡ record { place = c.old.place; value = named_in c.old.bytes c.old.place })) }
 {
     read_entry::<Fs>(c)
@@ -43,7 +44,7 @@ pub fn read_port_entry<'a>(c: &mut Cursor<'a>) -> Result<PortView<'a>, Fault>
 
 /// The entry of a network interface at the cursor, which then stands behind it.
 pub fn read_netif_entry<'a>(c: &mut Cursor<'a>) -> Result<NetifView<'a>, Fault>
-    ensures exact { Answers (λ entry. entry.value) result (named_at 28) c.old c.new }
+    ensures exact { Answers (λ entry. entry.value) result (named_at NETIF_LEN NETIF_NAME) c.old c.new }
     ensures stands { IfOk result (λ entry. HasNamed c.old.bytes c.old.place × (entry ≡ record { place = c.old.place; value = named_in c.old.bytes c.old.place })) }
 {
     read_entry::<Netif>(c)
@@ -51,7 +52,7 @@ pub fn read_netif_entry<'a>(c: &mut Cursor<'a>) -> Result<NetifView<'a>, Fault>
 
 /// The entry of IPv4 addresses at the cursor, which then stands behind it.
 pub fn read_node_entry<'a>(c: &mut Cursor<'a>) -> Result<NodeView<'a>, Fault>
-    ensures exact { Answers (λ entry. entry.value) result (address_at 29 4) c.old c.new }
+    ensures exact { Answers (λ entry. entry.value) result (address_at NODE_ADDRESS NODE_MASK 4) c.old c.new }
     ensures stands { IfOk result (λ entry. HasAddress 4 c.old.bytes c.old.place × (entry ≡ record { place = c.old.place; value = address_in 4 c.old.bytes c.old.place })) }
 {
     read_entry::<Node>(c)
@@ -67,7 +68,7 @@ pub fn read_fsuse_entry<'a>(c: &mut Cursor<'a>) -> Result<FsUseView<'a>, Fault>
 
 /// The entry of IPv6 addresses at the cursor, which then stands behind it.
 pub fn read_node6_entry<'a>(c: &mut Cursor<'a>) -> Result<Node6View<'a>, Fault>
-    ensures exact { Answers (λ entry. entry.value) result (address_at 31 16) c.old c.new }
+    ensures exact { Answers (λ entry. entry.value) result (address_at NODE6_ADDRESS NODE6_MASK 16) c.old c.new }
     ensures stands { IfOk result (λ entry. HasAddress 16 c.old.bytes c.old.place × (entry ≡ record { place = c.old.place; value = address_in 16 c.old.bytes c.old.place })) }
 {
     read_entry::<Node6>(c)

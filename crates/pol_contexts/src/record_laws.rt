@@ -1,4 +1,5 @@
 // The two laws of records and of their lists, each claimed by a function that does nothing.
+ghost use Rattle.pol_cursor.specs.declared.fields.TheConstants.{SID_COUNT, FS_COUNT, FS_LEN, FS_NAME, PORT_COUNT, NETIF_COUNT, NETIF_LEN, NETIF_NAME, NODE_COUNT, NODE_ADDRESS, NODE_MASK, FSUSE_COUNT, NODE6_COUNT, NODE6_ADDRESS, NODE6_MASK, IBPKEY_COUNT, IBENDPORT_COUNT};
 ghost use Rattle.pol_cursor.specs.Laws.{IsReadAgain, IsReadFromSpelling};
 ghost use Rattle.pol_cursor.specs.Parts.{spell_counted, CountedFits};
 ghost use Rattle.pol_context.specs.EntryLists.{entries_at};
@@ -15,70 +16,70 @@ ghost use Rattle.pol_contexts.specs.IbEndPortRecord.{ibendport_at, spell_ibendpo
 pub fn sids_have_laws()
     ensures again { IsReadAgain sid_at spell_sid SidFits }
     ensures spelled { IsReadFromSpelling sid_at spell_sid SidFits }
-    ensures list_again { IsReadAgain (entries_at 25 sid_at) (spell_counted spell_sid) (CountedFits SidFits) }
-    ensures list_spelled { IsReadFromSpelling (entries_at 25 sid_at) (spell_counted spell_sid) (CountedFits SidFits) }
+    ensures list_again { IsReadAgain (entries_at SID_COUNT sid_at) (spell_counted spell_sid) (CountedFits SidFits) }
+    ensures list_spelled { IsReadFromSpelling (entries_at SID_COUNT sid_at) (spell_counted spell_sid) (CountedFits SidFits) }
 {}
 
 /// The same of the entry of a file system, and of the list of such entries.
 pub fn file_systems_have_laws()
-    ensures again { IsReadAgain (named_at 26) spell_named NamedFits }
-    ensures spelled { IsReadFromSpelling (named_at 26) spell_named NamedFits }
-    ensures list_again { IsReadAgain (entries_at 26 (named_at 26)) (spell_counted spell_named) (CountedFits NamedFits) }
-    ensures list_spelled { IsReadFromSpelling (entries_at 26 (named_at 26)) (spell_counted spell_named) (CountedFits NamedFits) }
+    ensures again { IsReadAgain (named_at FS_LEN FS_NAME) spell_named NamedFits }
+    ensures spelled { IsReadFromSpelling (named_at FS_LEN FS_NAME) spell_named NamedFits }
+    ensures list_again { IsReadAgain (entries_at FS_COUNT (named_at FS_LEN FS_NAME)) (spell_counted spell_named) (CountedFits NamedFits) }
+    ensures list_spelled { IsReadFromSpelling (entries_at FS_COUNT (named_at FS_LEN FS_NAME)) (spell_counted spell_named) (CountedFits NamedFits) }
 {}
 
 /// The same of the entry of a range of ports, and of the list of such entries.
 pub fn ports_have_laws()
     ensures again { IsReadAgain port_at spell_port PortFits }
     ensures spelled { IsReadFromSpelling port_at spell_port PortFits }
-    ensures list_again { IsReadAgain (entries_at 27 port_at) (spell_counted spell_port) (CountedFits PortFits) }
-    ensures list_spelled { IsReadFromSpelling (entries_at 27 port_at) (spell_counted spell_port) (CountedFits PortFits) }
+    ensures list_again { IsReadAgain (entries_at PORT_COUNT port_at) (spell_counted spell_port) (CountedFits PortFits) }
+    ensures list_spelled { IsReadFromSpelling (entries_at PORT_COUNT port_at) (spell_counted spell_port) (CountedFits PortFits) }
 {}
 
 /// The same of the entry of a network interface, and of the list of such entries.
 pub fn interfaces_have_laws()
-    ensures again { IsReadAgain (named_at 28) spell_named NamedFits }
-    ensures spelled { IsReadFromSpelling (named_at 28) spell_named NamedFits }
-    ensures list_again { IsReadAgain (entries_at 28 (named_at 28)) (spell_counted spell_named) (CountedFits NamedFits) }
-    ensures list_spelled { IsReadFromSpelling (entries_at 28 (named_at 28)) (spell_counted spell_named) (CountedFits NamedFits) }
+    ensures again { IsReadAgain (named_at NETIF_LEN NETIF_NAME) spell_named NamedFits }
+    ensures spelled { IsReadFromSpelling (named_at NETIF_LEN NETIF_NAME) spell_named NamedFits }
+    ensures list_again { IsReadAgain (entries_at NETIF_COUNT (named_at NETIF_LEN NETIF_NAME)) (spell_counted spell_named) (CountedFits NamedFits) }
+    ensures list_spelled { IsReadFromSpelling (entries_at NETIF_COUNT (named_at NETIF_LEN NETIF_NAME)) (spell_counted spell_named) (CountedFits NamedFits) }
 {}
 
 /// The same of the entry of IPv4 addresses, and of the list of such entries.
 pub fn nodes_have_laws()
-    ensures again { IsReadAgain (address_at 29 4) spell_address (AddressFits 4) }
-    ensures spelled { IsReadFromSpelling (address_at 29 4) spell_address (AddressFits 4) }
-    ensures list_again { IsReadAgain (entries_at 29 (address_at 29 4)) (spell_counted spell_address) (CountedFits (AddressFits 4)) }
-    ensures list_spelled { IsReadFromSpelling (entries_at 29 (address_at 29 4)) (spell_counted spell_address) (CountedFits (AddressFits 4)) }
+    ensures again { IsReadAgain (address_at NODE_ADDRESS NODE_MASK 4) spell_address (AddressFits 4) }
+    ensures spelled { IsReadFromSpelling (address_at NODE_ADDRESS NODE_MASK 4) spell_address (AddressFits 4) }
+    ensures list_again { IsReadAgain (entries_at NODE_COUNT (address_at NODE_ADDRESS NODE_MASK 4)) (spell_counted spell_address) (CountedFits (AddressFits 4)) }
+    ensures list_spelled { IsReadFromSpelling (entries_at NODE_COUNT (address_at NODE_ADDRESS NODE_MASK 4)) (spell_counted spell_address) (CountedFits (AddressFits 4)) }
 {}
 
 /// The same of the entry of the behaviour of a file system, and of the list of such entries.
 pub fn behaviours_have_laws()
     ensures again { IsReadAgain fsuse_at spell_fsuse FsUseFits }
     ensures spelled { IsReadFromSpelling fsuse_at spell_fsuse FsUseFits }
-    ensures list_again { IsReadAgain (entries_at 30 fsuse_at) (spell_counted spell_fsuse) (CountedFits FsUseFits) }
-    ensures list_spelled { IsReadFromSpelling (entries_at 30 fsuse_at) (spell_counted spell_fsuse) (CountedFits FsUseFits) }
+    ensures list_again { IsReadAgain (entries_at FSUSE_COUNT fsuse_at) (spell_counted spell_fsuse) (CountedFits FsUseFits) }
+    ensures list_spelled { IsReadFromSpelling (entries_at FSUSE_COUNT fsuse_at) (spell_counted spell_fsuse) (CountedFits FsUseFits) }
 {}
 
 /// The same of the entry of IPv6 addresses, and of the list of such entries.
 pub fn nodes6_have_laws()
-    ensures again { IsReadAgain (address_at 31 16) spell_address (AddressFits 16) }
-    ensures spelled { IsReadFromSpelling (address_at 31 16) spell_address (AddressFits 16) }
-    ensures list_again { IsReadAgain (entries_at 31 (address_at 31 16)) (spell_counted spell_address) (CountedFits (AddressFits 16)) }
-    ensures list_spelled { IsReadFromSpelling (entries_at 31 (address_at 31 16)) (spell_counted spell_address) (CountedFits (AddressFits 16)) }
+    ensures again { IsReadAgain (address_at NODE6_ADDRESS NODE6_MASK 16) spell_address (AddressFits 16) }
+    ensures spelled { IsReadFromSpelling (address_at NODE6_ADDRESS NODE6_MASK 16) spell_address (AddressFits 16) }
+    ensures list_again { IsReadAgain (entries_at NODE6_COUNT (address_at NODE6_ADDRESS NODE6_MASK 16)) (spell_counted spell_address) (CountedFits (AddressFits 16)) }
+    ensures list_spelled { IsReadFromSpelling (entries_at NODE6_COUNT (address_at NODE6_ADDRESS NODE6_MASK 16)) (spell_counted spell_address) (CountedFits (AddressFits 16)) }
 {}
 
 /// The same of the entry of partition keys, and of the list of such entries.
 pub fn partition_keys_have_laws()
     ensures again { IsReadAgain ibpkey_at spell_ibpkey IbPkeyFits }
     ensures spelled { IsReadFromSpelling ibpkey_at spell_ibpkey IbPkeyFits }
-    ensures list_again { IsReadAgain (entries_at 32 ibpkey_at) (spell_counted spell_ibpkey) (CountedFits IbPkeyFits) }
-    ensures list_spelled { IsReadFromSpelling (entries_at 32 ibpkey_at) (spell_counted spell_ibpkey) (CountedFits IbPkeyFits) }
+    ensures list_again { IsReadAgain (entries_at IBPKEY_COUNT ibpkey_at) (spell_counted spell_ibpkey) (CountedFits IbPkeyFits) }
+    ensures list_spelled { IsReadFromSpelling (entries_at IBPKEY_COUNT ibpkey_at) (spell_counted spell_ibpkey) (CountedFits IbPkeyFits) }
 {}
 
 /// The same of the entry of the port of a device, and of the list of such entries.
 pub fn device_ports_have_laws()
     ensures again { IsReadAgain ibendport_at spell_ibendport IbEndPortFits }
     ensures spelled { IsReadFromSpelling ibendport_at spell_ibendport IbEndPortFits }
-    ensures list_again { IsReadAgain (entries_at 33 ibendport_at) (spell_counted spell_ibendport) (CountedFits IbEndPortFits) }
-    ensures list_spelled { IsReadFromSpelling (entries_at 33 ibendport_at) (spell_counted spell_ibendport) (CountedFits IbEndPortFits) }
+    ensures list_again { IsReadAgain (entries_at IBENDPORT_COUNT ibendport_at) (spell_counted spell_ibendport) (CountedFits IbEndPortFits) }
+    ensures list_spelled { IsReadFromSpelling (entries_at IBENDPORT_COUNT ibendport_at) (spell_counted spell_ibendport) (CountedFits IbEndPortFits) }
 {}

@@ -5,7 +5,8 @@ use crate::entry::{Entry, Standing};
 use crate::kinds::{Sid, SidView};
 use crate::sid_rec::SidRec;
 use pol_context::{ContextView, read_context};
-use pol_cursor::{Cursor, Fault, Field, Names, Part, ReadAlone, Written, u32_in};
+use pol_cursor::fields::SID_SID;
+use pol_cursor::{Cursor, Fault, Names, Part, ReadAlone, Written, u32_in};
 use std::alloc::{AllocError, Global};
 
 impl Standing for SidRec {
@@ -50,7 +51,7 @@ impl ReadAlone for Sid {
 
     #[tactic(auto, unfolding(crate::specs::SidRecord::sid_at), using(pol_cursor::proofs::Facts::number_is))]
     fn pass(c: &mut Cursor<'_>) -> Result<(), Fault> {
-        c.u32(Field { row: 25, part: 2 })?;
+        c.u32(SID_SID)?;
         read_context(c)?;
         Ok(())
     }

@@ -13,7 +13,11 @@ use crate::kinds::{
 use crate::port_rec::PortRec;
 use crate::sid_rec::SidRec;
 use pol_context::read_table;
-use pol_cursor::{Cursor, OwnedList, ReadAlone, ReadError, Records};
+use pol_cursor::fields::{
+    FS_COUNT, FSUSE_COUNT, IBENDPORT_COUNT, IBPKEY_COUNT, NETIF_COUNT, NODE_COUNT, NODE6_COUNT,
+    PORT_COUNT, SID_COUNT,
+};
+use pol_cursor::{Cursor, Field, OwnedList, ReadAlone, ReadError, Records};
 use std::alloc::Global;
 
 // The lists of views, in file order.
@@ -81,30 +85,30 @@ pub fn read_contexts<'a>(
 {
     let infiniband = version >= 31;
     Ok(Contexts {
-        sid: read_table(alloc, c, 25)?,
-        fs: read_table(alloc, c, 26)?,
-        port: read_table(alloc, c, 27)?,
-        netif: read_table(alloc, c, 28)?,
-        node: read_table(alloc, c, 29)?,
-        fsuse: read_table(alloc, c, 30)?,
-        node6: read_table(alloc, c, 31)?,
-        ibpkey: read_table_if(alloc, c, infiniband, 32)?,
-        ibendport: read_table_if(alloc, c, infiniband, 33)?,
+        sid: read_table(alloc, c, SID_COUNT)?,
+        fs: read_table(alloc, c, FS_COUNT)?,
+        port: read_table(alloc, c, PORT_COUNT)?,
+        netif: read_table(alloc, c, NETIF_COUNT)?,
+        node: read_table(alloc, c, NODE_COUNT)?,
+        fsuse: read_table(alloc, c, FSUSE_COUNT)?,
+        node6: read_table(alloc, c, NODE6_COUNT)?,
+        ibpkey: read_table_if(alloc, c, infiniband, IBPKEY_COUNT)?,
+        ibendport: read_table_if(alloc, c, infiniband, IBENDPORT_COUNT)?,
     })
 }
 
-// Reads the table of that code, where there is one.
+// Reads a table, whose count has that field, where there is one.
 #[tactic(auto, unfolding(crate::specs::ContextTables::table_if))]
 fn read_table_if<'a, K: ReadAlone + Drop>(
     alloc: Global,
     c: &mut Cursor<'a>,
     there: bool,
-    row: u8,
+    count: Field,
 ) -> Result<Records<'a, K>, ReadError>
-    ensures { Yields (λ entries. entries) result (table_if there (table_at row K.reads)) c.old c.new }
+    ensures { Yields (λ entries. entries) result (table_if there (table_at count K.reads)) c.old c.new }
 {
     if there {
-        read_table(alloc, c, row)
+        read_table(alloc, c, count)
     } else {
         Ok(Records::empty(alloc, c.bytes()))
     }

@@ -3,7 +3,8 @@ use Rattle.std.specs.Prelude.{ℕ, ◌+◌, ◌<◌, ◌^◌, List, ◌++◌, Op
 use Rattle.std.specs.List.{list_all}
 use Rattle.pol_cursor.specs.declared.fault.Cause.{Cause}
 use Rattle.pol_cursor.specs.declared.fault.Cause.TheVariants.{BadName}
-use Rattle.pol_cursor.specs.Outcome.{Reader, field, ◌>>=◌, done}
+use Rattle.pol_cursor.specs.declared.field.Field.{Field}
+use Rattle.pol_cursor.specs.Outcome.{Reader, ◌>>=◌, done}
 use Rattle.pol_cursor.specs.Parts.{num, number_if, string_if, unless}
 use Rattle.pol_cursor.specs.Spelling.{bytes_of}
 
@@ -16,19 +17,19 @@ is_name_byte byte = nat_le 1 byte
 abbrev pub name_test : List ℕ → Option Cause
 name_test name = unless (list_all is_name_byte name) BadName
 
--- the length of a name, which is the part of that number
-unfoldable pub name_length_at : ℕ → ℕ → Reader ℕ
-name_length_at row part = number_if (field row part) 4 name_length_test
+-- the length of a name
+unfoldable pub name_length_at : Field → Reader ℕ
+name_length_at field = number_if field 4 name_length_test
 
 -- its bytes
-unfoldable pub name_bytes_at : ℕ → ℕ → ℕ → Reader (List ℕ)
-name_bytes_at row part len = string_if (field row part) len name_test
+unfoldable pub name_bytes_at : Field → ℕ → Reader (List ℕ)
+name_bytes_at field len = string_if field len name_test
 
--- a name behind its length, which is the part of that number
-unfoldable pub name_at : ℕ → ℕ → Reader (List ℕ)
-name_at row part = do
-  len ← name_length_at row part
-  name ← name_bytes_at row (part + 1) len
+-- a name behind its length
+unfoldable pub name_at : Field → Field → Reader (List ℕ)
+name_at len_field name_field = do
+  len ← name_length_at len_field
+  name ← name_bytes_at name_field len
   done name
 
 abbrev pub spell_name : List ℕ → List ℕ

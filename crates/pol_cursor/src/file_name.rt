@@ -1,5 +1,5 @@
 //! Names of files, file systems, interfaces and devices.
-ghost use Rattle.std.specs.Prelude.{◌≡◌, ◌≤◌, ◌<◌, ◌+◌, OnOk, IfOk, length, take, drop};
+ghost use Rattle.std.specs.Prelude.{◌≡◌, ◌≤◌, ◌+◌, OnOk, IfOk, length, take, drop};
 ghost use Rattle.std.specs.List.{list_all};
 ghost use Rattle.pol_cursor.specs.FileNames.{name_length_test, is_name_byte, name_test, name_length_at, name_bytes_at, name_at, spell_name, name_in, name_end};
 ghost use Rattle.pol_cursor.specs.Outcome.{Answers};
@@ -41,13 +41,12 @@ fn is_name_byte(byte: u8) -> bool
 
 /// The length of a name. `BadName` where it is 0.
 #[tactic(auto, unfolding(crate::specs::FileNames::name_length_at), using(crate::proofs::Facts::number_is))]
-pub fn read_name_length(c: &mut Cursor<'_>, row: u8, part: u8) -> Result<u32, Fault>
-    ensures exact { Answers (λ len. len) result (name_length_at row part) c.old c.new }
+pub fn read_name_length(c: &mut Cursor<'_>, field: Field) -> Result<u32, Fault>
+    ensures exact { Answers (λ len. len) result (name_length_at field) c.old c.new }
     ensures same { IfOk result (λ len. len ≡ num c.old.bytes c.old.place 4) }
     ensures next { OnOk result ((c.new.place ≡ c.old.place + 4) × (c.new.place ≤ length c.old.bytes)) }
 {
     let place = c.place();
-    let field = Field { row, part };
     let len = c.u32(field)?;
     refuse(name_length_cause(len), place, field)?;
     Ok(len)
@@ -55,34 +54,31 @@ pub fn read_name_length(c: &mut Cursor<'_>, row: u8, part: u8) -> Result<u32, Fa
 
 /// The bytes of a name of that length. `BadName` where one of them is 0.
 #[tactic(auto, unfolding(crate::specs::FileNames::name_bytes_at), using(crate::proofs::Facts::string_is))]
-pub fn read_name_bytes<'a>(
-    c: &mut Cursor<'a>,
-    row: u8,
-    part: u8,
-    len: u32,
-) -> Result<&'a [u8], Fault>
-    ensures exact { Answers (λ name. name.now) result (name_bytes_at row part len) c.old c.new }
+pub fn read_name_bytes<'a>(c: &mut Cursor<'a>, field: Field, len: u32) -> Result<&'a [u8], Fault>
+    ensures exact { Answers (λ name. name.now) result (name_bytes_at field len) c.old c.new }
     ensures same { IfOk result (λ name. name.now ≡ take len (drop c.old.place c.old.bytes)) }
     ensures next { OnOk result ((c.new.place ≡ c.old.place + len) × (c.new.place ≤ length c.old.bytes)) }
 {
     let place = c.place();
-    let field = Field { row, part };
     let name = c.take(len, field)?;
     refuse(name_cause(name), place, field)?;
     Ok(name)
 }
 
-/// The name at the cursor, which then stands behind it: a length, which is the part of that number, and so many bytes.
-/// `BadName` where there is none, or a byte of it is 0.
+/// The name at the cursor, which then stands behind it: a length and so many bytes, each a field of its own. `BadName` where
+/// there is none, or a byte of it is 0.
 #[tactic(auto, unfolding(crate::specs::FileNames::name_at))]
-pub fn read_name<'a>(c: &mut Cursor<'a>, row: u8, part: u8) -> Result<&'a [u8], Fault>
-    requires { part < 255 }
-    ensures exact { Answers (λ name. name.now) result (name_at row part) c.old c.new }
+pub fn read_name<'a>(
+    c: &mut Cursor<'a>,
+    len_field: Field,
+    name_field: Field,
+) -> Result<&'a [u8], Fault>
+    ensures exact { Answers (λ name. name.now) result (name_at len_field name_field) c.old c.new }
     ensures same { IfOk result (λ name. name.now ≡ name_in c.old.bytes c.old.place) }
     ensures next { OnOk result ((c.new.place ≡ name_end c.old.bytes c.old.place) × (c.new.place ≤ length c.old.bytes)) }
 {
-    let len = read_name_length(c, row, part)?;
-    read_name_bytes(c, row, part + 1, len)
+    let len = read_name_length(c, len_field)?;
+    read_name_bytes(c, name_field, len)
 }
 
 /// Appends the length of a name, which has 32 bits at most, and its bytes. Out of memory, a beginning of them was appended.

@@ -5,6 +5,7 @@ mod copied;
 mod cursor;
 mod fault;
 mod field;
+pub mod fields;
 mod file_name;
 mod mention;
 mod names;

@@ -1,6 +1,5 @@
 // The references of a record.
 ghost use Rattle.std.specs.Prelude.{◌≡◌};
-ghost use Rattle.pol_cursor.specs.Outcome.{field};
 ghost use Rattle.pol_cursor.specs.References.{dangling_of};
 ghost use Rattle.pol_cursor.specs.Mentions.{references_of};
 
@@ -16,13 +15,13 @@ pub struct Mention {
 }
 
 impl Mention {
-    /// The value that a part of a record names.
-    pub fn new(row: u8, part: u8, place: u32, table: TableKind, value: u32) -> Mention
-        ensures { result ≡ record { place = place; field = field row part; table = table; value = value } }
+    /// The value that a field of a record names.
+    pub fn new(field: Field, place: u32, table: TableKind, value: u32) -> Mention
+        ensures { result ≡ record { place = place; field = field; table = table; value = value } }
     {
         Mention {
             place,
-            field: Field { row, part },
+            field,
             table,
             value,
         }

@@ -24,8 +24,8 @@ pub fn strings_have_laws()
 
 /// Both laws of a name behind its length.
 pub fn names_have_laws()
-    ensures again { (row part : ℕ) → IsReadAgain (name_at row part) spell_name NameFits }
-    ensures spelled { (row part : ℕ) → IsReadFromSpelling (name_at row part) spell_name NameFits }
+    ensures again { (len_field name_field : Field) → IsReadAgain (name_at len_field name_field) spell_name NameFits }
+    ensures spelled { (len_field name_field : Field) → IsReadFromSpelling (name_at len_field name_field) spell_name NameFits }
 {}
 
 /// A list that is read with the places of its records is the list that is read without them.

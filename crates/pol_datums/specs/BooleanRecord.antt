@@ -1,5 +1,6 @@
 -- Record 11: a boolean (libsepol's cond_read_bool).
 use Rattle.std.specs.Prelude.{ℕ, ◌+◌, ◌≤◌, ◌<◌, ◌^◌, List, ◌++◌, length, take, drop}
+use Rattle.pol_cursor.specs.declared.fields.TheConstants.{BOOLEAN_VALUE, BOOLEAN_STATE, BOOLEAN_LEN, BOOLEAN_NAME}
 use Rattle.pol_cursor.specs.Outcome.{Reader, ◌>>=◌, done}
 use Rattle.pol_cursor.specs.Parts.{num}
 use Rattle.pol_cursor.specs.Spelling.{bytes_of}
@@ -14,10 +15,10 @@ use Rattle.pol_datums.specs.Flags.{flag_at}
 -- Its value and its state stand before the length of its name.
 unfoldable pub boolean_at : Claims → ℕ → Reader BooleanRec
 boolean_at claims nprim = do
-  value ← new_value_at 11 1 nprim claims
-  state ← flag_at 11 2
-  len ← symbol_length_at 11 3
-  name ← symbol_name_at 11 4 claims len
+  value ← new_value_at BOOLEAN_VALUE nprim claims
+  state ← flag_at BOOLEAN_STATE
+  len ← symbol_length_at BOOLEAN_LEN
+  name ← symbol_name_at BOOLEAN_NAME claims len
   done (record { value = value; state = state; name = name })
 
 abbrev pub spell_boolean : BooleanRec → List ℕ

@@ -3,7 +3,8 @@ use Rattle.std.specs.Prelude.{ℕ, ◌+◌, ◌≤◌, ◌<◌, ◌^◌, Option,
 use Rattle.pol_cursor.specs.declared.fault.Cause.{Cause}
 use Rattle.pol_cursor.specs.declared.fault.Cause.TheVariants.{BadFlag}
 use Rattle.pol_cursor.specs.declared.table_kind.TableKind.TheVariants.{Categories}
-use Rattle.pol_cursor.specs.Outcome.{Reader, field, ◌>>=◌, done}
+use Rattle.pol_cursor.specs.declared.fields.TheConstants.{CATEGORY_LEN, CATEGORY_VALUE, CATEGORY_ISALIAS, CATEGORY_NAME}
+use Rattle.pol_cursor.specs.Outcome.{Reader, ◌>>=◌, done}
 use Rattle.pol_cursor.specs.Parts.{num, number_if}
 use Rattle.pol_cursor.specs.References.{Placed, Reference}
 use Rattle.pol_cursor.specs.Spelling.{bytes_of}
@@ -22,10 +23,10 @@ isalias_test claims value isalias = if nat_le isalias 1 then primary_value_test 
 
 unfoldable pub category_at : Claims → ℕ → Reader CategoryRec
 category_at claims nprim = do
-  len ← symbol_length_at 13 1
-  value ← value_at 13 2 nprim
-  isalias ← number_if (field 13 3) 4 (isalias_test claims value)
-  name ← symbol_name_at 13 4 claims len
+  len ← symbol_length_at CATEGORY_LEN
+  value ← value_at CATEGORY_VALUE nprim
+  isalias ← number_if CATEGORY_ISALIAS 4 (isalias_test claims value)
+  name ← symbol_name_at CATEGORY_NAME claims len
   done (record { value = value; isalias = isalias; name = name })
 
 abbrev pub spell_category : CategoryRec → List ℕ
@@ -56,4 +57,4 @@ HasCategory bytes place = (place + 12 + num bytes place 4 ≤ length bytes) × (
 abbrev pub category_references : Placed CategoryRec → List Reference
 category_references category =
     alias_reference (is_primary_flag category.value.isalias)
-    (record { place = category.place + 4; field = field 13 2; table = Categories; value = category.value.value })
+    (record { place = category.place + 4; field = CATEGORY_VALUE; table = Categories; value = category.value.value })

@@ -1,7 +1,8 @@
 -- Record 8: a role (libsepol's role_read).
 use Rattle.std.specs.Prelude.{ℕ, ◌+◌, ◌<◌, ◌^◌, None, List, ◌++◌, length, take, drop}
 use Rattle.pol_cursor.specs.declared.table_kind.TableKind.TheVariants.{Roles}
-use Rattle.pol_cursor.specs.Outcome.{Reader, field, ◌>>=◌, done}
+use Rattle.pol_cursor.specs.declared.fields.TheConstants.{ROLE_LEN, ROLE_VALUE, ROLE_BOUNDS, ROLE_NAME}
+use Rattle.pol_cursor.specs.Outcome.{Reader, ◌>>=◌, done}
 use Rattle.pol_cursor.specs.Parts.{num}
 use Rattle.pol_cursor.specs.References.{Placed, Reference}
 use Rattle.pol_cursor.specs.Spelling.{bytes_of}
@@ -17,10 +18,10 @@ use Rattle.pol_datums.specs.SymbolReferences.{bounds_reference}
 
 unfoldable pub role_at : Claims → ℕ → Reader RoleRec
 role_at claims nprim = do
-  len ← symbol_length_at 8 1
-  value ← new_value_at 8 2 nprim claims
-  bounds ← bounds_at 8 3
-  name ← symbol_name_at 8 4 claims len
+  len ← symbol_length_at ROLE_LEN
+  value ← new_value_at ROLE_VALUE nprim claims
+  bounds ← bounds_at ROLE_BOUNDS
+  name ← symbol_name_at ROLE_NAME claims len
   dominates ← bitmap_at None
   types ← bitmap_at None
   done (record { value = value; bounds = bounds; name = name; dominates = dominates; types = types })
@@ -64,4 +65,4 @@ HasRole bytes place = HasBitmap bytes (dominates_place bytes place) × HasBitmap
 
 -- the role that bounds it
 abbrev pub role_references : Placed RoleRec → List Reference
-role_references role = bounds_reference (record { place = role.place + 8; field = field 8 3; table = Roles; value = role.value.bounds })
+role_references role = bounds_reference (record { place = role.place + 8; field = ROLE_BOUNDS; table = Roles; value = role.value.bounds })

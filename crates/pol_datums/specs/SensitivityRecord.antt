@@ -3,7 +3,8 @@ use Rattle.std.specs.Prelude.{ℕ, ◌+◌, ◌<◌, ◌^◌, ◌&&◌, Option, 
 use Rattle.pol_cursor.specs.declared.fault.Cause.{Cause}
 use Rattle.pol_cursor.specs.declared.fault.Cause.TheVariants.{ValueOut}
 use Rattle.pol_cursor.specs.declared.table_kind.TableKind.TheVariants.{Levels}
-use Rattle.pol_cursor.specs.Outcome.{Reader, field, ◌>>=◌, done}
+use Rattle.pol_cursor.specs.declared.fields.TheConstants.{SENSITIVITY_LEN, SENSITIVITY_ISALIAS, SENSITIVITY_NAME, SENSITIVITY_SENS}
+use Rattle.pol_cursor.specs.Outcome.{Reader, ◌>>=◌, done}
 use Rattle.pol_cursor.specs.Parts.{num, number_if}
 use Rattle.pol_cursor.specs.References.{Placed, Reference}
 use Rattle.pol_cursor.specs.Spelling.{bytes_of}
@@ -23,13 +24,13 @@ sens_test nprim claims isalias sens = if nat_le 1 sens && nat_le sens nprim then
 
 -- the value, which stands behind the name as the sensitivity of a level
 unfoldable pub sens_at : ℕ → Claims → ℕ → Reader ℕ
-sens_at nprim claims isalias = number_if (field 12 4) 4 (sens_test nprim claims isalias)
+sens_at nprim claims isalias = number_if SENSITIVITY_SENS 4 (sens_test nprim claims isalias)
 
 unfoldable pub sensitivity_at : Claims → ℕ → Reader SensitivityRec
 sensitivity_at claims nprim = do
-  len ← symbol_length_at 12 1
-  isalias ← flag_at 12 2
-  name ← symbol_name_at 12 3 claims len
+  len ← symbol_length_at SENSITIVITY_LEN
+  isalias ← flag_at SENSITIVITY_ISALIAS
+  name ← symbol_name_at SENSITIVITY_NAME claims len
   sens ← sens_at nprim claims isalias
   categories ← bitmap_at None
   done (record { isalias = isalias; name = name; sens = sens; categories = categories })
@@ -69,4 +70,4 @@ HasSensitivity bytes place = HasBitmap bytes (sens_place bytes place + 4)
 abbrev pub sensitivity_references : Placed SensitivityRec → List Reference
 sensitivity_references level =
     alias_reference (is_primary_flag level.value.isalias)
-    (record { place = level.place + 8 + length level.value.name; field = field 12 4; table = Levels; value = level.value.sens })
+    (record { place = level.place + 8 + length level.value.name; field = SENSITIVITY_SENS; table = Levels; value = level.value.sens })

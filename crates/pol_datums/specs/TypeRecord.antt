@@ -2,7 +2,8 @@
 use Rattle.std.specs.Prelude.{ℕ, ◌+◌, ◌≤◌, ◌<◌, ◌^◌, ◌%◌, ◌/◌, ◌==◌, Bool, ◌||◌, Option, Some, None, List, ◌++◌, length, take, drop, if◌then◌else◌}
 use Rattle.pol_cursor.specs.declared.fault.Cause.{Cause}
 use Rattle.pol_cursor.specs.declared.table_kind.TableKind.TheVariants.{Types}
-use Rattle.pol_cursor.specs.Outcome.{Reader, field, ◌>>=◌, done}
+use Rattle.pol_cursor.specs.declared.fields.TheConstants.{TYPE_LEN, TYPE_VALUE, TYPE_PROPERTIES, TYPE_BOUNDS, TYPE_NAME}
+use Rattle.pol_cursor.specs.Outcome.{Reader, ◌>>=◌, done}
 use Rattle.pol_cursor.specs.Parts.{num, number_if}
 use Rattle.pol_cursor.specs.References.{Placed, Reference}
 use Rattle.pol_cursor.specs.Spelling.{bytes_of}
@@ -35,11 +36,11 @@ properties_test claims value properties = primary_value_test claims (is_primary_
 
 unfoldable pub type_at : Claims → ℕ → Reader TypeRec
 type_at claims nprim = do
-  len ← symbol_length_at 9 1
-  value ← value_at 9 2 nprim
-  properties ← number_if (field 9 3) 4 (properties_test claims value)
-  bounds ← bounds_at 9 4
-  name ← symbol_name_at 9 5 claims len
+  len ← symbol_length_at TYPE_LEN
+  value ← value_at TYPE_VALUE nprim
+  properties ← number_if TYPE_PROPERTIES 4 (properties_test claims value)
+  bounds ← bounds_at TYPE_BOUNDS
+  name ← symbol_name_at TYPE_NAME claims len
   done (record { value = value; properties = properties; bounds = bounds; name = name })
 
 abbrev pub spell_type : TypeRec → List ℕ
@@ -71,5 +72,5 @@ HasType bytes place = (place + 16 + num bytes place 4 ≤ length bytes) × (leng
 -- the type that an alias stands for, and then the type that bounds it
 abbrev pub type_references : Placed TypeRec → List Reference
 type_references t =
-    alias_reference (is_primary_type t.value.properties) (record { place = t.place + 4; field = field 9 2; table = Types; value = t.value.value })
-    ++ bounds_reference (record { place = t.place + 12; field = field 9 4; table = Types; value = t.value.bounds })
+    alias_reference (is_primary_type t.value.properties) (record { place = t.place + 4; field = TYPE_VALUE; table = Types; value = t.value.value })
+    ++ bounds_reference (record { place = t.place + 12; field = TYPE_BOUNDS; table = Types; value = t.value.bounds })

@@ -5,8 +5,8 @@ ghost use Rattle.pol_datums.specs.BooleanRecord.{boolean_at, boolean_in, HasBool
 use crate::boolean_rec::BooleanRec;
 use crate::datum::{CopiedDatum, DatumView};
 use crate::flags::read_flag;
-use crate::rows::BOOLEAN;
 use crate::symbol_values::read_new_value;
+use pol_cursor::fields::{BOOLEAN_LEN, BOOLEAN_NAME, BOOLEAN_STATE, BOOLEAN_VALUE};
 use pol_cursor::{ByteList, Cursor, Fault, u32_in};
 use pol_symtab::{Taken, read_symbol_length, read_symbol_name};
 use std::alloc::{AllocError, Global};
@@ -47,10 +47,10 @@ pub fn read_boolean<'a>(
 {
     let bytes = c.bytes();
     let place = c.place();
-    read_new_value(c, BOOLEAN, 1, nprim, taken)?;
-    read_flag(c, BOOLEAN, 2)?;
-    let len = read_symbol_length(c, BOOLEAN, 3)?;
-    read_symbol_name(c, BOOLEAN, 4, len, taken)?;
+    read_new_value(c, BOOLEAN_VALUE, nprim, taken)?;
+    read_flag(c, BOOLEAN_STATE)?;
+    let len = read_symbol_length(c, BOOLEAN_LEN)?;
+    read_symbol_name(c, BOOLEAN_NAME, len, taken)?;
     Ok(DatumView {
         bytes,
         place,

@@ -5,10 +5,10 @@ ghost use Rattle.pol_datums.specs.CategoryRecord.{category_at, category_in, HasC
 use crate::category_rec::CategoryRec;
 use crate::causes::isalias_cause;
 use crate::datum::{CopiedDatum, DatumView, ReferringDatum};
-use crate::rows::CATEGORY;
 use crate::symbol_references::dangling_alias;
 use crate::symbol_values::read_value;
-use pol_cursor::{ByteList, Cursor, Fault, Field, Mention, Names, TableKind, refuse, u32_in};
+use pol_cursor::fields::{CATEGORY_ISALIAS, CATEGORY_LEN, CATEGORY_NAME, CATEGORY_VALUE};
+use pol_cursor::{ByteList, Cursor, Fault, Mention, Names, TableKind, refuse, u32_in};
 use pol_symtab::{Taken, read_symbol_length, read_symbol_name};
 use std::alloc::{AllocError, Global};
 use std::marker::PhantomData;
@@ -33,7 +33,7 @@ impl ReferringDatum for CategoryRec {
     /// The category that an alias stands for as a fault at its field, where no primary record declares it.
     fn dangling<N: Names>(view: &CategoryView<'_>, names: &N) -> Option<Fault> {
         let categories = TableKind::Categories;
-        let stands_for = Mention::new(CATEGORY, 2, view.place + 4, categories, view.value());
+        let stands_for = Mention::new(CATEGORY_VALUE, view.place + 4, categories, view.value());
         dangling_alias(names, view.is_primary(), stands_for)
     }
 }
@@ -62,16 +62,16 @@ pub fn read_category<'a>(
 {
     let bytes = c.bytes();
     let first = c.place();
-    let len = read_symbol_length(c, CATEGORY, 1)?;
-    let value = read_value(c, CATEGORY, 2, nprim)?;
+    let len = read_symbol_length(c, CATEGORY_LEN)?;
+    let value = read_value(c, CATEGORY_VALUE, nprim)?;
     let place = c.place();
-    let field = Field {
-        row: CATEGORY,
-        part: 3,
-    };
-    let isalias = c.u32(field)?;
-    refuse(isalias_cause(taken, value, isalias), place, field)?;
-    read_symbol_name(c, CATEGORY, 4, len, taken)?;
+    let isalias = c.u32(CATEGORY_ISALIAS)?;
+    refuse(
+        isalias_cause(taken, value, isalias),
+        place,
+        CATEGORY_ISALIAS,
+    )?;
+    read_symbol_name(c, CATEGORY_NAME, len, taken)?;
     Ok(DatumView {
         bytes,
         place: first,

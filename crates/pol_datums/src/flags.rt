@@ -24,15 +24,14 @@ pub fn is_primary_flag(isalias: u32) -> bool
     isalias == 0
 }
 
-/// The flag at the cursor, which is the part of that number. `BadFlag` where it is neither 0 nor 1.
+/// The flag at the cursor. `BadFlag` where it is neither 0 nor 1.
 #[tactic(auto, unfolding(crate::specs::Flags::flag_at), using(pol_cursor::proofs::Facts::number_is))]
-pub fn read_flag(c: &mut Cursor<'_>, row: u8, part: u8) -> Result<u32, Fault>
-    ensures exact { Answers (λ flag. flag) result (flag_at row part) c.old c.new }
+pub fn read_flag(c: &mut Cursor<'_>, field: Field) -> Result<u32, Fault>
+    ensures exact { Answers (λ flag. flag) result (flag_at field) c.old c.new }
     ensures same { IfOk result (λ flag. flag ≡ num c.old.bytes c.old.place 4) }
     ensures next { OnOk result ((c.new.place ≡ c.old.place + 4) × (c.new.place ≤ length c.old.bytes)) }
 {
     let place = c.place();
-    let field = Field { row, part };
     let flag = c.u32(field)?;
     refuse(flag_cause(flag), place, field)?;
     Ok(flag)

@@ -18,7 +18,6 @@ mod role_kind;
 mod role_rec;
 mod role_view;
 mod role_write;
-mod rows;
 mod sensitivity_kind;
 mod sensitivity_rec;
 mod sensitivity_view;

@@ -4,10 +4,10 @@ ghost use Rattle.pol_datums.specs.RoleRecord.{role_at, role_in, HasRole, dominat
 
 use crate::datum::{CopiedDatum, DatumView, ReferringDatum};
 use crate::role_rec::RoleRec;
-use crate::rows::ROLE;
 use crate::symbol_references::dangling_bounds;
 use crate::symbol_values::{read_bounds, read_new_value};
 use pol_bitmap::{BitmapView, Set};
+use pol_cursor::fields::{ROLE_BOUNDS, ROLE_LEN, ROLE_NAME, ROLE_VALUE};
 use pol_cursor::{ByteList, Cursor, Fault, Mention, Names, TableKind, u32_in};
 use pol_symtab::{Taken, read_symbol_length, read_symbol_name};
 use std::alloc::{AllocError, Global};
@@ -48,7 +48,7 @@ impl ReferringDatum for RoleRec {
 
     /// The role that bounds it as a fault at its field, where no primary record declares it.
     fn dangling<N: Names>(view: &RoleView<'_>, names: &N) -> Option<Fault> {
-        let bounds = Mention::new(ROLE, 3, view.place + 8, TableKind::Roles, view.bounds());
+        let bounds = Mention::new(ROLE_BOUNDS, view.place + 8, TableKind::Roles, view.bounds());
         dangling_bounds(names, bounds)
     }
 }
@@ -86,10 +86,10 @@ pub fn read_role<'a>(
 {
     let bytes = c.bytes();
     let place = c.place();
-    let len = read_symbol_length(c, ROLE, 1)?;
-    read_new_value(c, ROLE, 2, nprim, taken)?;
-    read_bounds(c, ROLE, 3)?;
-    read_symbol_name(c, ROLE, 4, len, taken)?;
+    let len = read_symbol_length(c, ROLE_LEN)?;
+    read_new_value(c, ROLE_VALUE, nprim, taken)?;
+    read_bounds(c, ROLE_BOUNDS)?;
+    read_symbol_name(c, ROLE_NAME, len, taken)?;
     BitmapView::read(c)?;
     BitmapView::read(c)?;
     Ok(DatumView {

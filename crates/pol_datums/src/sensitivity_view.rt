@@ -6,11 +6,13 @@ ghost use Rattle.pol_datums.specs.SensitivityRecord.{sens_at, sensitivity_at, se
 use crate::causes::sens_cause;
 use crate::datum::{CopiedDatum, DatumView, ReferringDatum};
 use crate::flags::read_flag;
-use crate::rows::SENSITIVITY;
 use crate::sensitivity_rec::SensitivityRec;
 use crate::symbol_references::dangling_alias;
 use pol_bitmap::{BitmapView, Set};
-use pol_cursor::{ByteList, Cursor, Fault, Field, Mention, Names, TableKind, refuse, u32_in};
+use pol_cursor::fields::{
+    SENSITIVITY_ISALIAS, SENSITIVITY_LEN, SENSITIVITY_NAME, SENSITIVITY_SENS,
+};
+use pol_cursor::{ByteList, Cursor, Fault, Mention, Names, TableKind, refuse, u32_in};
 use pol_symtab::{Taken, read_symbol_length, read_symbol_name};
 use std::alloc::{AllocError, Global};
 use std::marker::PhantomData;
@@ -49,7 +51,7 @@ impl ReferringDatum for SensitivityRec {
     /// The sensitivity that an alias stands for as a fault at its field, where no primary record declares it.
     fn dangling<N: Names>(view: &SensitivityView<'_>, names: &N) -> Option<Fault> {
         let place = view.place + 8 + view.name().len() as u32;
-        let stands_for = Mention::new(SENSITIVITY, 4, place, TableKind::Levels, view.sens());
+        let stands_for = Mention::new(SENSITIVITY_SENS, place, TableKind::Levels, view.sens());
         dangling_alias(names, view.is_primary(), stands_for)
     }
 }
@@ -87,9 +89,9 @@ pub fn read_sensitivity<'a>(
 {
     let bytes = c.bytes();
     let place = c.place();
-    let len = read_symbol_length(c, SENSITIVITY, 1)?;
-    let isalias = read_flag(c, SENSITIVITY, 2)?;
-    read_symbol_name(c, SENSITIVITY, 3, len, taken)?;
+    let len = read_symbol_length(c, SENSITIVITY_LEN)?;
+    let isalias = read_flag(c, SENSITIVITY_ISALIAS)?;
+    read_symbol_name(c, SENSITIVITY_NAME, len, taken)?;
     read_sens(c, taken, nprim, isalias)?;
     BitmapView::read(c)?;
     Ok(DatumView {
@@ -107,11 +109,11 @@ fn read_sens(c: &mut Cursor<'_>, taken: &Taken<'_>, nprim: u32, isalias: u32) ->
     ensures next { OnOk result ((c.new.place ≡ c.old.place + 4) × (c.new.place ≤ length c.old.bytes)) }
 {
     let place = c.place();
-    let field = Field {
-        row: SENSITIVITY,
-        part: 4,
-    };
-    let sens = c.u32(field)?;
-    refuse(sens_cause(nprim, taken, isalias, sens), place, field)?;
+    let sens = c.u32(SENSITIVITY_SENS)?;
+    refuse(
+        sens_cause(nprim, taken, isalias, sens),
+        place,
+        SENSITIVITY_SENS,
+    )?;
     Ok(sens)
 }

@@ -5,11 +5,11 @@ ghost use Rattle.pol_datums.specs.TypeRecord.{type_at, type_in, HasType, flavour
 use crate::causes::{is_attribute, is_primary_type, properties_cause};
 use crate::datum::{CopiedDatum, DatumView, ReferringDatum};
 use crate::flavour::Flavour;
-use crate::rows::TYPE;
 use crate::symbol_references::{dangling_alias, dangling_bounds};
 use crate::symbol_values::{read_bounds, read_value};
 use crate::type_rec::TypeRec;
-use pol_cursor::{ByteList, Cursor, Fault, Field, Mention, Names, TableKind, refuse, u32_in};
+use pol_cursor::fields::{TYPE_BOUNDS, TYPE_LEN, TYPE_NAME, TYPE_PROPERTIES, TYPE_VALUE};
+use pol_cursor::{ByteList, Cursor, Fault, Mention, Names, TableKind, refuse, u32_in};
 use pol_symtab::{Taken, read_symbol_length, read_symbol_name};
 use std::alloc::{AllocError, Global};
 use std::marker::PhantomData;
@@ -56,11 +56,11 @@ impl ReferringDatum for TypeRec {
     /// alias stands for, and the type that bounds it.
     fn dangling<N: Names>(view: &TypeView<'_>, names: &N) -> Option<Fault> {
         let types = TableKind::Types;
-        let stands_for = Mention::new(TYPE, 2, view.place + 4, types, view.value());
+        let stands_for = Mention::new(TYPE_VALUE, view.place + 4, types, view.value());
         match dangling_alias(names, view.is_primary(), stands_for) {
             Some(fault) => Some(fault),
             None => {
-                let bounds = Mention::new(TYPE, 4, view.place + 12, types, view.bounds());
+                let bounds = Mention::new(TYPE_BOUNDS, view.place + 12, types, view.bounds());
                 dangling_bounds(names, bounds)
             }
         }
@@ -92,14 +92,17 @@ pub fn read_type<'a>(
 {
     let bytes = c.bytes();
     let first = c.place();
-    let len = read_symbol_length(c, TYPE, 1)?;
-    let value = read_value(c, TYPE, 2, nprim)?;
+    let len = read_symbol_length(c, TYPE_LEN)?;
+    let value = read_value(c, TYPE_VALUE, nprim)?;
     let place = c.place();
-    let field = Field { row: TYPE, part: 3 };
-    let properties = c.u32(field)?;
-    refuse(properties_cause(taken, value, properties), place, field)?;
-    read_bounds(c, TYPE, 4)?;
-    read_symbol_name(c, TYPE, 5, len, taken)?;
+    let properties = c.u32(TYPE_PROPERTIES)?;
+    refuse(
+        properties_cause(taken, value, properties),
+        place,
+        TYPE_PROPERTIES,
+    )?;
+    read_bounds(c, TYPE_BOUNDS)?;
+    read_symbol_name(c, TYPE_NAME, len, taken)?;
     Ok(DatumView {
         bytes,
         place: first,

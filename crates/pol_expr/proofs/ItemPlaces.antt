@@ -2,7 +2,8 @@
 use Rattle.std.proofs.Common.{◌≡◌, ℕ, zero, suc, ◌+◌, ◌*◌, ◌<◌, ◌≤◌, ◌&&◌, Some, List, [], ◌∷◌, length, refl, sym, ap, subst, ◌∙◌, arith}
 use Rattle.std.specs.Prelude.{nat_le, slice_get}
 use Rattle.pol_cursor.specs.declared.fault.Cause.TheVariants.{BadKind}
-use Rattle.pol_cursor.specs.Outcome.{Got, and_then, field}
+use Rattle.pol_cursor.specs.declared.fields.TheConstants.{CONDNODE_KIND, CONDNODE_BOOLEAN}
+use Rattle.pol_cursor.specs.Outcome.{Got, and_then}
 use Rattle.pol_cursor.specs.Parts.{num, list_of, number, number_if}
 use Rattle.pol_cursor.proofs.Laws.{and_then_got}
 use Rattle.pol_cursor.proofs.Facts.{number_is, number_if_is}
@@ -22,12 +23,12 @@ pub record IsItem (left values : ℕ) (bytes : List ℕ) (place : ℕ) (item : C
 pub item_is : (left values : ℕ) (bytes : List ℕ) (place : ℕ) (item : ConditionItem) (next : ℕ) → item_at left values bytes place ≡ Got item next → IsItem left values bytes place item next
 unfolding item_at
 item_is left values bytes place item next e =
-    let a = and_then_got (number_if (field 19 3) 4 (kind_test left values) bytes place) (λ kind m. and_then (number (field 19 4) 4 bytes m) (λ boolean k. Got (record { kind = kind; boolean = boolean }) k)) item next e in
-    let b = and_then_got (number (field 19 4) 4 bytes a.1) (λ boolean k. Got (record { kind = a.0; boolean = boolean }) k) item next a.3 in
+    let a = and_then_got (number_if CONDNODE_KIND 4 (kind_test left values) bytes place) (λ kind m. and_then (number CONDNODE_BOOLEAN 4 bytes m) (λ boolean k. Got (record { kind = kind; boolean = boolean }) k)) item next e in
+    let b = and_then_got (number CONDNODE_BOOLEAN 4 bytes a.1) (λ boolean k. Got (record { kind = a.0; boolean = boolean }) k) item next a.3 in
     let made : ConditionItem = record { kind = a.0; boolean = b.0 } in
     let g = got_is made b.1 item next b.3 in
-    let p = number_if_is (field 19 3) 4 (kind_test left values) bytes place a.0 a.1 a.2 in
-    let q = number_is (field 19 4) 4 bytes a.1 b.0 b.1 b.2 in
+    let p = number_if_is CONDNODE_KIND 4 (kind_test left values) bytes place a.0 a.1 a.2 in
+    let q = number_is CONDNODE_BOOLEAN 4 bytes a.1 b.0 b.1 b.2 in
     let t = guard_none (nat_le 1 a.0 && nat_le a.0 7) (operands_test condition_limit left values (kind_operands a.0)) BadKind p.3 in
     record {
       is = sym g.0 ∙ ap (λ (x : ℕ). record { kind = x; boolean = b.0 }) p.0 ∙ ap (λ (x : ℕ). record { kind = num bytes place 4; boolean = x }) (q.0 ∙ ap (λ (i : ℕ). num bytes i 4) p.1);

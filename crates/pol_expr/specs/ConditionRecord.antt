@@ -4,7 +4,8 @@ use Rattle.std.specs.List.{flat_map, AllByRecursion}
 use Rattle.pol_cursor.specs.declared.fault.Cause.{Cause}
 use Rattle.pol_cursor.specs.declared.fault.Cause.TheVariants.{BadKind}
 use Rattle.pol_cursor.specs.declared.table_kind.TableKind.TheVariants.{Booleans}
-use Rattle.pol_cursor.specs.Outcome.{Reader, field, ◌>>=◌, done}
+use Rattle.pol_cursor.specs.declared.fields.TheConstants.{CONDNODE_STATE, CONDNODE_NEXPR, CONDNODE_KIND, CONDNODE_BOOLEAN}
+use Rattle.pol_cursor.specs.Outcome.{Reader, ◌>>=◌, done}
 use Rattle.pol_cursor.specs.Parts.{num, number, number_if, list_of}
 use Rattle.pol_cursor.specs.References.{Placed, Reference}
 use Rattle.pol_cursor.specs.Spelling.{bytes_of}
@@ -34,8 +35,8 @@ kind_test left values kind = if nat_le 1 kind && nat_le kind 7 then operands_tes
 -- an item before which so many values stand, and after which so many items are left
 unfoldable pub item_at : ℕ → ℕ → Reader ConditionItem
 item_at left values = do
-  kind ← number_if (field 19 3) 4 (kind_test left values)
-  boolean ← number (field 19 4) 4
+  kind ← number_if CONDNODE_KIND 4 (kind_test left values)
+  boolean ← number CONDNODE_BOOLEAN 4
   done (record { kind = kind; boolean = boolean })
 
 abbrev pub values_after_item : ℕ → ConditionItem → ℕ
@@ -46,8 +47,8 @@ items_at count = list_of item_at values_after_item count 0
 
 unfoldable pub condition_at : Reader ConditionRec
 condition_at = do
-  state ← number (field 19 1) 4
-  count ← number_if (field 19 2) 4 item_count_test
+  state ← number CONDNODE_STATE 4
+  count ← number_if CONDNODE_NEXPR 4 item_count_test
   items ← items_at count
   done (record { state = state; items = items })
 
@@ -96,7 +97,7 @@ HasCondition bytes place = (place + condition_size bytes place ≤ length bytes)
 
 -- the boolean that an item names, where it is one, and the first byte of the item is at a place
 unfoldable pub item_reference : ℕ → ConditionItem → List Reference
-item_reference place item = if item.kind == 1 then record { place = place + 4; field = field 19 4; table = Booleans; value = item.boolean } ∷ [] else []
+item_reference place item = if item.kind == 1 then record { place = place + 4; field = CONDNODE_BOOLEAN; table = Booleans; value = item.boolean } ∷ [] else []
 
 -- those of items that stand from a place on
 unfoldable pub item_references : ℕ → List ConditionItem → List Reference

@@ -4,10 +4,8 @@ ghost use Rattle.pol_expr.specs.ConditionRecord.{item_at, items_at, items_in, it
 
 use crate::causes::{kind_cause, kind_operands};
 use crate::condition_rec::ConditionItem;
-use pol_cursor::{Cursor, Fault, Field, refuse};
-
-// The code of a conditional node's record.
-pub const CONDITION: u8 = 19;
+use pol_cursor::fields::{CONDNODE_BOOLEAN, CONDNODE_KIND};
+use pol_cursor::{Cursor, Fault, refuse};
 
 /// Reads an item before which so many values stand, and after which so many items are left.
 #[tactic(auto, unfolding(crate::specs::ConditionRecord::item_at))]
@@ -17,17 +15,9 @@ pub fn read_item(c: &mut Cursor<'_>, left: u32, values: u32) -> Result<Condition
     ensures fits { IfOk result (λ item. (item_operands item ≤ values) × (values_after_item values item ≤ 10)) }
 {
     let place = c.place();
-    let field = Field {
-        row: CONDITION,
-        part: 3,
-    };
-    let kind = c.u32(field)?;
-    refuse(kind_cause(left, values, kind), place, field)?;
-    let field = Field {
-        row: CONDITION,
-        part: 4,
-    };
-    let boolean = c.u32(field)?;
+    let kind = c.u32(CONDNODE_KIND)?;
+    refuse(kind_cause(left, values, kind), place, CONDNODE_KIND)?;
+    let boolean = c.u32(CONDNODE_BOOLEAN)?;
     Ok(ConditionItem { kind, boolean })
 }
 

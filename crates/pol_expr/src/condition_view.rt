@@ -5,10 +5,11 @@ ghost use Rattle.pol_expr.specs.ConditionRecord.{condition_at, condition_in, con
 ghost use Rattle.pol_expr.specs.ConditionMeaning.{condition_symbols};
 
 use crate::causes::item_count_cause;
-use crate::condition_reading::{CONDITION, pass_items};
+use crate::condition_reading::pass_items;
 use crate::condition_rec::{ConditionItem, ConditionRec};
 use crate::symbol::{Operator, Symbol, condition_symbol};
-use pol_cursor::{Cursor, Fault, Field, Names, OwnedList, TableKind, dangling, refuse, u32_in};
+use pol_cursor::fields::{CONDNODE_BOOLEAN, CONDNODE_NEXPR, CONDNODE_STATE};
+use pol_cursor::{Cursor, Fault, Names, OwnedList, TableKind, dangling, refuse, u32_in};
 use std::alloc::{AllocError, Global};
 use std::marker::Model;
 
@@ -141,11 +142,13 @@ fn item_dangling<N: Names>(names: &N, place: u32, item: ConditionItem) -> Option
     if item.kind != 1 {
         return None;
     }
-    let field = Field {
-        row: CONDITION,
-        part: 4,
-    };
-    dangling(names, place + 4, field, TableKind::Booleans, item.boolean)
+    dangling(
+        names,
+        place + 4,
+        CONDNODE_BOOLEAN,
+        TableKind::Booleans,
+        item.boolean,
+    )
 }
 
 /// The condition at the cursor, which then stands behind it. Takes no memory.
@@ -157,18 +160,10 @@ pub fn read_condition<'a>(c: &mut Cursor<'a>) -> Result<ConditionView<'a>, Fault
 {
     let bytes = c.bytes();
     let first = c.place();
-    let field = Field {
-        row: CONDITION,
-        part: 1,
-    };
-    c.u32(field)?;
+    c.u32(CONDNODE_STATE)?;
     let place = c.place();
-    let field = Field {
-        row: CONDITION,
-        part: 2,
-    };
-    let count = c.u32(field)?;
-    refuse(item_count_cause(count), place, field)?;
+    let count = c.u32(CONDNODE_NEXPR)?;
+    refuse(item_count_cause(count), place, CONDNODE_NEXPR)?;
     pass_items(c, count)?;
     Ok(ConditionView {
         bytes,

@@ -4,7 +4,8 @@ use Rattle.std.specs.Prelude.{nat_le}
 use Rattle.std.proofs.lemmas.Bool.{leb-true}
 use Rattle.std.proofs.lemmas.Option.{get_or_from_slice_get, slice_get_within}
 use Rattle.pol_cursor.specs.declared.Cause.TheVariants.{TableTooLarge}
-use Rattle.pol_cursor.specs.Outcome.{Got, field}
+use Rattle.pol_cursor.specs.declared.fields.TheConstants.{TABLE_NPRIM, TABLE_NEL, TYPE_LEN, TYPE_VALUE, TYPE_PROPERTIES, TYPE_BOUNDS, TYPE_NAME, GENFS_COUNT, RANGETRANS_COUNT, END_END}
+use Rattle.pol_cursor.specs.Outcome.{Got}
 use Rattle.pol_cursor.specs.Parts.{number, number_if, end_at, counted, records_at}
 use Rattle.pol_cursor.specs.References.{Placed, placed}
 use Rattle.pol_cursor.proofs.Facts.{unless_none}
@@ -36,19 +37,19 @@ use Rattle.pol_file.proofs.ReadValues.{gives-others, gives-weaker, gives-records
 head_is_small : Gives table_head_at (λ head. head.nprim ≤ 65535)
 unfolding table_head_at
 head_is_small =
-    Gives-part (Gives-number_if (field 3 1) 4) λ nprim small.
-    gives-others (number (field 3 2) 4) λ nel.
+    Gives-part (Gives-number_if TABLE_NPRIM 4) λ nprim small.
+    gives-others (number TABLE_NEL 4) λ nel.
     Gives-done _ (record { nprim = nprim; nel = nel }) (leb-true nprim 65535 (unless_none (nat_le nprim 65535) TableTooLarge small))
 
 -- a type, an attribute and an alias have one of them
 type_is_within : (taken : Claims) (nprim : ℕ) → Gives (type_at taken nprim) (λ t. (1 ≤ t.value) × (t.value ≤ nprim))
 unfolding type_at value_at
 type_is_within taken nprim =
-    gives-others (symbol_length_at 9 1) λ len.
-    Gives-part (Gives-number_if (field 9 2) 4) λ value within.
-    gives-others (number_if (field 9 3) 4 _) λ properties.
-    gives-others (bounds_at 9 4) λ bounds.
-    gives-others (symbol_name_at 9 5 taken len) λ name.
+    gives-others (symbol_length_at TYPE_LEN) λ len.
+    Gives-part (Gives-number_if TYPE_VALUE 4) λ value within.
+    gives-others (number_if TYPE_PROPERTIES 4 _) λ properties.
+    gives-others (bounds_at TYPE_BOUNDS) λ bounds.
+    gives-others (symbol_name_at TYPE_NAME taken len) λ name.
     Gives-done _ (record { value = value; properties = properties; bounds = bounds; name = name }) (value_is_in nprim value within)
 
 types_are_within : Gives types_at (λ table. (table.nprim ≤ 65535) × All (λ t. (1 ≤ t.value.value) × (t.value.value ≤ table.nprim)) table.records)
@@ -90,8 +91,8 @@ labels_are_long : (version types : ℕ) → Gives (label_lists_at version types)
 unfolding label_lists_at
 labels_are_long version types =
     gives-others (contexts_at version) λ contexts.
-    gives-others (context_table_at 34 genfs_at) λ genfs.
-    gives-others (counted (field 35 1) (records_at (placed range_trans_at))) λ range_trans.
+    gives-others (context_table_at GENFS_COUNT genfs_at) λ genfs.
+    gives-others (counted RANGETRANS_COUNT (records_at (placed range_trans_at))) λ range_trans.
     Gives-part (type_map_long types) λ type_map long.
     Gives-done _ _ long
 
@@ -104,7 +105,7 @@ policy_has_type_values =
     Gives-part (symbols_are_within front.header.version) λ symbols within.
     gives-others (rule_lists_at front.header.version) λ rules.
     Gives-part (labels_are_long front.header.version symbols.types.nprim) λ labels long.
-    gives-others (end_at (field 36 1)) λ ended.
+    gives-others (end_at END_END) λ ended.
     Gives-done _ _ (record { few = within.0; within = within.1; rows = long })
 
 pub type_values_read : (bytes : List ℕ) (place : ℕ) (policy : Parts) (next : ℕ) → policy_at bytes place ≡ Got policy next → HasTypeValues policy

@@ -2,7 +2,8 @@
 use Rattle.std.proofs.Common.{◌≡◌, ℕ, List, ◌∙◌, ap, sym}
 use Rattle.pol_cursor.specs.declared.ReadError.{ReadError}
 use Rattle.pol_cursor.specs.declared.ReadError.TheVariants as errors
-use Rattle.pol_cursor.specs.Outcome.{Outcome, Position, Got, Reader, field, and_then, done, Fails, ◌>>=◌}
+use Rattle.pol_cursor.specs.declared.fields.TheConstants.{END_END}
+use Rattle.pol_cursor.specs.Outcome.{Outcome, Position, Got, Reader, and_then, done, Fails, ◌>>=◌}
 use Rattle.pol_cursor.specs.Parts.{end_at}
 use Rattle.pol_cursor.proofs.Lists.{Gave}
 use Rattle.pol_symbols.specs.PolicySymbols.{symbols_at}
@@ -33,7 +34,7 @@ fails_later {A} {B} first rest old mid x e read h =
 
 -- what is read behind its labels, its rules, its symbols and its front
 abbrev Behind_labels : Front → Symbols → RuleLists → LabelLists → Reader Parts
-Behind_labels front symbols rules labels = end_at (field 36 1) >>= λ ended. done (record { front = front; symbols = symbols; rules = rules; labels = labels })
+Behind_labels front symbols rules labels = end_at END_END >>= λ ended. done (record { front = front; symbols = symbols; rules = rules; labels = labels })
 
 abbrev Behind_rules : Front → Symbols → RuleLists → Reader Parts
 Behind_rules front symbols rules = label_lists_at front.header.version symbols.types.nprim >>= Behind_labels front symbols rules
@@ -59,7 +60,7 @@ module _ (front : Front) (symbols : Symbols) (e : ReadError) (p0 p1 p2 : Positio
     pub fails_in_labels : Fails e (label_lists_at front.header.version symbols.types.nprim p3.bytes p3.place) → Fails e (policy_at p0.bytes p0.place)
     fails_in_labels h = in_later_lists (fails_first (label_lists_at front.header.version symbols.types.nprim) (Behind_labels front symbols rules) p3 e h)
 
-    pub fails_at_end : (labels : LabelLists) (p4 : Position) → Gave (label_lists_at front.header.version symbols.types.nprim) labels p3 p4 → Fails e (end_at (field 36 1) p4.bytes p4.place) → Fails e (policy_at p0.bytes p0.place)
+    pub fails_at_end : (labels : LabelLists) (p4 : Position) → Gave (label_lists_at front.header.version symbols.types.nprim) labels p3 p4 → Fails e (end_at END_END p4.bytes p4.place) → Fails e (policy_at p0.bytes p0.place)
     fails_at_end labels p4 has_labels h =
         in_later_lists (fails_later (label_lists_at front.header.version symbols.types.nprim) (Behind_labels front symbols rules) p3 p4 labels e has_labels
-        (fails_first (end_at (field 36 1)) (λ ended. done (record { front = front; symbols = symbols; rules = rules; labels = labels })) p4 e h))
+        (fails_first (end_at END_END) (λ ended. done (record { front = front; symbols = symbols; rules = rules; labels = labels })) p4 e h))

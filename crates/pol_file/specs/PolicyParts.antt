@@ -1,6 +1,7 @@
 -- A whole policy: its parts in the order of the file, each read where the one before it ended (libsepol's policydb_read).
 use Rattle.std.specs.Prelude.{ℕ, None}
-use Rattle.pol_cursor.specs.Outcome.{Reader, field, ◌>>=◌, done}
+use Rattle.pol_cursor.specs.declared.fields.TheConstants.{ROLETRANS_COUNT, ROLEALLOW_COUNT, GENFS_COUNT, RANGETRANS_COUNT, END_END}
+use Rattle.pol_cursor.specs.Outcome.{Reader, ◌>>=◌, done}
 use Rattle.pol_cursor.specs.Parts.{end_at, counted, records_at}
 use Rattle.pol_cursor.specs.References.{placed}
 use Rattle.pol_bitmap.specs.Bitmap.{bitmap_at}
@@ -34,8 +35,8 @@ unfoldable pub rule_lists_at : ℕ → Reader RuleLists
 rule_lists_at version = do
   table ← rule_table_at version
   conditionals ← conditionals_at version
-  role_trans ← counted (field 20 1) (records_at (placed role_trans_at))
-  role_allows ← counted (field 21 1) (records_at (placed role_allow_at))
+  role_trans ← counted ROLETRANS_COUNT (records_at (placed role_trans_at))
+  role_allows ← counted ROLEALLOW_COUNT (records_at (placed role_allow_at))
   name_trans ← name_transitions_at version
   done (record { table = table; conditionals = conditionals; role_trans = role_trans; role_allows = role_allows; name_trans = name_trans })
 
@@ -44,8 +45,8 @@ rule_lists_at version = do
 unfoldable pub label_lists_at : ℕ → ℕ → Reader LabelLists
 label_lists_at version types = do
   contexts ← contexts_at version
-  genfs ← table_at 34 genfs_at
-  range_trans ← counted (field 35 1) (records_at (placed range_trans_at))
+  genfs ← table_at GENFS_COUNT genfs_at
+  range_trans ← counted RANGETRANS_COUNT (records_at (placed range_trans_at))
   type_map ← type_map_at types
   done (record { contexts = contexts; genfs = genfs; range_trans = range_trans; type_map = type_map })
 
@@ -56,5 +57,5 @@ policy_at = do
   symbols ← symbols_at front.header.version
   rules ← rule_lists_at front.header.version
   labels ← label_lists_at front.header.version symbols.types.nprim
-  ended ← end_at (field 36 1)
+  ended ← end_at END_END
   done (record { front = front; symbols = symbols; rules = rules; labels = labels })

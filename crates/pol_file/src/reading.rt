@@ -9,7 +9,8 @@ use pol_avtab::read_table;
 use pol_bitmap::BitmapView;
 use pol_conditionals::read_conditionals;
 use pol_contexts::read_contexts;
-use pol_cursor::{Cursor, Field, ReadError, TableKind};
+use pol_cursor::fields::END_END;
+use pol_cursor::{Cursor, ReadError, TableKind};
 use pol_genfs::read_genfs;
 use pol_header::read_header;
 use pol_symbols::read_symbols;
@@ -26,7 +27,7 @@ pub fn read_parts<'a>(alloc: Global, c: &mut Cursor<'a>) -> Result<Parts<'a>, Re
     let symbols = read_symbols(alloc, c, version)?;
     let rules = read_rule_lists(alloc, c, version)?;
     let labels = read_label_lists(alloc, c, version, symbols.prims(TableKind::Types))?;
-    c.end(Field { row: 36, part: 1 })?;
+    c.end(END_END)?;
     Ok(Parts {
         front,
         symbols,

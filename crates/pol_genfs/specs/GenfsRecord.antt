@@ -2,7 +2,8 @@
 use Rattle.std.specs.Prelude.{ℕ, ◌+◌, ◌^◌, ◌<◌, ◌≤◌, ◌==◌, List, [], ◌∷◌, ◌++◌, length, if◌then◌else◌}
 use Rattle.std.specs.List.{flat_map}
 use Rattle.pol_cursor.specs.declared.table_kind.TableKind.TheVariants.{Classes}
-use Rattle.pol_cursor.specs.Outcome.{Reader, field, ◌>>=◌, done}
+use Rattle.pol_cursor.specs.declared.fields.TheConstants.{GENFS_LEN, GENFS_FSTYPE, GENFS_NPATHS, GENFS_PATHLEN, GENFS_PATH, GENFS_CLASS}
+use Rattle.pol_cursor.specs.Outcome.{Reader, ◌>>=◌, done}
 use Rattle.pol_cursor.specs.Parts.{num, number, counted, records_at, spell_counted, CountedFits}
 use Rattle.pol_cursor.specs.FileNames.{name_at, spell_name, NameFits, name_in, name_end}
 use Rattle.pol_cursor.specs.References.{Placed, Reference, values_of}
@@ -17,8 +18,8 @@ use Rattle.pol_genfs.specs.declared.genfs_rec.GenfsRec.{GenfsRec}
 
 unfoldable pub path_at : Reader GenfsPathRec
 path_at = do
-  path ← name_at 34 5
-  class ← number (field 34 7) 4
+  path ← name_at GENFS_PATHLEN GENFS_PATH
+  class ← number GENFS_CLASS 4
   context ← context_at
   done (record { path = path; class = class; context = context })
 
@@ -63,7 +64,7 @@ context_of_path entry = record { place = class_place entry + 4; value = entry.va
 
 -- The class 0 stands for every class.
 abbrev pub class_references : ℕ → ℕ → List Reference
-class_references place class = if class == 0 then [] else record { place = place; field = field 34 7; table = Classes; value = class } ∷ []
+class_references place class = if class == 0 then [] else record { place = place; field = GENFS_CLASS; table = Classes; value = class } ∷ []
 
 -- the class, and then the references of the context
 abbrev pub path_references : Placed GenfsPathRec → List Reference
@@ -73,8 +74,8 @@ path_references entry = class_references (class_place entry) entry.value.class +
 
 unfoldable pub genfs_at : Reader GenfsRec
 genfs_at = do
-  fstype ← name_at 34 2
-  paths ← counted (field 34 4) (records_at path_at)
+  fstype ← name_at GENFS_LEN GENFS_FSTYPE
+  paths ← counted GENFS_NPATHS (records_at path_at)
   done (record { fstype = fstype; paths = paths })
 
 abbrev pub spell_genfs : GenfsRec → List ℕ

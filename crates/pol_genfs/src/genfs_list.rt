@@ -4,6 +4,7 @@ ghost use Rattle.pol_genfs.specs.GenfsRecord.{genfs_at};
 
 use crate::genfs_view::Genfs;
 use pol_context::read_table;
+use pol_cursor::fields::GENFS_COUNT;
 use pol_cursor::{Cursor, ReadError, Records};
 use std::alloc::Global;
 
@@ -16,7 +17,7 @@ pub fn read_genfs<'a>(
     c: &mut Cursor<'a>,
     _version: u32,
 ) -> Result<GenfsList<'a>, ReadError>
-    ensures { Yields (λ list. list) result (table_at 34 genfs_at) c.old c.new }
+    ensures { Yields (λ list. list) result (table_at GENFS_COUNT genfs_at) c.old c.new }
 {
-    read_table(alloc, c, 34)
+    read_table(alloc, c, GENFS_COUNT)
 }

@@ -1,13 +1,14 @@
 ghost use Rattle.std.specs.Prelude.{◌≡◌, ◌+◌, IfOk, OnOk};
-ghost use Rattle.pol_cursor.specs.Outcome.{Answers, field};
+ghost use Rattle.pol_cursor.specs.Outcome.{Answers};
 ghost use Rattle.pol_cursor.specs.Parts.{num, number};
 ghost use Rattle.pol_cursor.specs.References.{dangling_of};
 ghost use Rattle.pol_genfs.specs.GenfsRecord.{path_in, HasPath, class_place, class_references, context_of_path, path_references};
 
 use crate::genfs_rec::GenfsPathRec;
 use pol_context::{ContextView, context_end, name_end, name_standing, read_context};
+use pol_cursor::fields::{GENFS_CLASS, GENFS_PATH, GENFS_PATHLEN};
 use pol_cursor::{
-    ByteList, Copied, Cursor, Fault, Field, Inner, Names, Record, RecordView, TableKind, dangling,
+    ByteList, Copied, Cursor, Fault, Inner, Names, Record, RecordView, TableKind, dangling,
     read_name, u32_in,
 };
 use std::alloc::{AllocError, Global};
@@ -75,9 +76,8 @@ impl<'a> GenfsPathView<'a> {
         if class == 0 {
             return None;
         }
-        let field = Field { row: 34, part: 7 };
         let place = name_end(self.bytes, self.place);
-        dangling(names, place, field, TableKind::Classes, class)
+        dangling(names, place, GENFS_CLASS, TableKind::Classes, class)
     }
 
     /// The same path, owned.
@@ -120,7 +120,7 @@ impl Inner for GenfsPath {
 
     #[tactic(auto, unfolding(crate::specs::GenfsRecord::path_at))]
     fn pass(c: &mut Cursor<'_>, _given: &()) -> Result<(), Fault> {
-        read_name(c, 34, 5)?;
+        read_name(c, GENFS_PATHLEN, GENFS_PATH)?;
         read_class(c)?;
         read_context(c)?;
         Ok(())
@@ -146,9 +146,9 @@ impl<'a> Copied<'a> for GenfsPath {
 // Reads the value of a class.
 #[tactic(auto, using(pol_cursor::proofs::Facts::number_is))]
 fn read_class(c: &mut Cursor<'_>) -> Result<u32, Fault>
-    ensures exact { Answers (λ class. class) result (number (field 34 7) 4) c.old c.new }
+    ensures exact { Answers (λ class. class) result (number GENFS_CLASS 4) c.old c.new }
     ensures next { OnOk result (c.new.place ≡ c.old.place + 4) }
     ensures same { IfOk result (λ class. class ≡ num c.old.bytes c.old.place 4) }
 {
-    c.u32(Field { row: 34, part: 7 })
+    c.u32(GENFS_CLASS)
 }

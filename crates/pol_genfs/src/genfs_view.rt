@@ -7,8 +7,9 @@ ghost use Rattle.pol_genfs.specs.GenfsRecord.{genfs_at, genfs_in, HasGenfs, path
 use crate::genfs_path_view::GenfsPath;
 use crate::genfs_rec::GenfsRec;
 use pol_context::{ContextView, name_end, name_standing};
+use pol_cursor::fields::{GENFS_FSTYPE, GENFS_LEN, GENFS_NPATHS};
 use pol_cursor::{
-    ByteList, Copied, Cursor, Fault, Field, Names, ReadAlone, Record, RecordView, Referring, Run,
+    ByteList, Copied, Cursor, Fault, Names, ReadAlone, Record, RecordView, Referring, Run,
     read_name, read_run, u32_in,
 };
 use std::alloc::{AllocError, Global};
@@ -169,8 +170,8 @@ pub fn read_genfs_entry<'a>(c: &mut Cursor<'a>) -> Result<GenfsView<'a>, Fault>
 {
     let bytes = c.bytes();
     let place = c.place();
-    read_name(c, 34, 2)?;
-    let n = c.u32(Field { row: 34, part: 4 })?;
+    read_name(c, GENFS_LEN, GENFS_FSTYPE)?;
+    let n = c.u32(GENFS_NPATHS)?;
     read_run::<GenfsPath>(c, n, &())?;
     Ok(GenfsView { bytes, place })
 }

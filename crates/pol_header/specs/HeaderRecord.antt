@@ -2,7 +2,8 @@
 use Rattle.std.specs.Prelude.{ℕ, ◌+◌, ◌^◌, ◌<◌, ◌≤◌, ◌%◌, ◌/◌, ◌==◌, ◌&&◌, Option, Some, None, List, ◌++◌, length, codes, bytes_eq, nat_le, if◌then◌else◌}
 use Rattle.pol_cursor.specs.declared.Cause.{Cause}
 use Rattle.pol_cursor.specs.declared.Cause.TheVariants.{BadMagic, BadIdentity, UnsupportedVersion, NotMls, BadUnknown, BadCounts}
-use Rattle.pol_cursor.specs.Outcome.{Reader, field, ◌>>=◌, done}
+use Rattle.pol_cursor.specs.declared.fields.TheConstants.{HEADER_MAGIC, HEADER_IDLEN, HEADER_ID, HEADER_VERSION, HEADER_CONFIG, HEADER_SYMTABS, HEADER_CONTEXTS}
+use Rattle.pol_cursor.specs.Outcome.{Reader, ◌>>=◌, done}
 use Rattle.pol_cursor.specs.Parts.{num, number_if, string_if, unless}
 use Rattle.pol_cursor.specs.Spelling.{bytes_of}
 use Rattle.pol_header.specs.declared.header_rec.HeaderRec.{HeaderRec}
@@ -48,23 +49,23 @@ context_tables_test version count = unless (count == context_tables version) Bad
 -- what says that the file is a kernel policy
 unfoldable pub identity_at : Reader (Unit {0})
 identity_at = do
-  magic ← number_if (field 1 1) 4 magic_test
-  len ← number_if (field 1 2) 4 identity_length_test
-  id ← string_if (field 1 3) 8 identity_test
+  magic ← number_if HEADER_MAGIC 4 magic_test
+  len ← number_if HEADER_IDLEN 4 identity_length_test
+  id ← string_if HEADER_ID 8 identity_test
   done tt
 
 -- the numbers of tables of a version
 unfoldable pub counts_at : ℕ → Reader (Unit {0})
 counts_at version = do
-  symbol_tables ← number_if (field 1 6) 4 symbol_tables_test
-  context_tables ← number_if (field 1 7) 4 (context_tables_test version)
+  symbol_tables ← number_if HEADER_SYMTABS 4 symbol_tables_test
+  context_tables ← number_if HEADER_CONTEXTS 4 (context_tables_test version)
   done tt
 
 unfoldable pub header_at : Reader HeaderRec
 header_at = do
   identified ← identity_at
-  version ← number_if (field 1 4) 4 version_test
-  config ← number_if (field 1 5) 4 config_test
+  version ← number_if HEADER_VERSION 4 version_test
+  config ← number_if HEADER_CONFIG 4 config_test
   counted ← counts_at version
   done (record { version = version; config = config })
 

@@ -7,12 +7,13 @@ use crate::causes::{
     symbol_tables_cause, version_cause,
 };
 use crate::header_rec::HeaderRec;
-use pol_cursor::{Cursor, Fault, Field, refuse, u32_in};
+use pol_cursor::fields::{
+    HEADER_CONFIG, HEADER_CONTEXTS, HEADER_ID, HEADER_IDLEN, HEADER_MAGIC, HEADER_SYMTABS,
+    HEADER_VERSION,
+};
+use pol_cursor::{Cursor, Fault, refuse, u32_in};
 use std::alloc::{AllocError, Global};
 use std::marker::Model;
-
-// The code of a header's record.
-const HEADER: u8 = 1;
 
 /// A header in the buffer: 32 bytes.
 #[derive(Drop)]
@@ -68,19 +69,11 @@ pub fn read_header<'a>(c: &mut Cursor<'a>) -> Result<HeaderView<'a>, Fault>
     let first = c.place();
     pass_identity(c)?;
     let place = c.place();
-    let field = Field {
-        row: HEADER,
-        part: 4,
-    };
-    let version = c.u32(field)?;
-    refuse(version_cause(version), place, field)?;
+    let version = c.u32(HEADER_VERSION)?;
+    refuse(version_cause(version), place, HEADER_VERSION)?;
     let place = c.place();
-    let field = Field {
-        row: HEADER,
-        part: 5,
-    };
-    let config = c.u32(field)?;
-    refuse(config_cause(config), place, field)?;
+    let config = c.u32(HEADER_CONFIG)?;
+    refuse(config_cause(config), place, HEADER_CONFIG)?;
     pass_counts(c, version)?;
     Ok(HeaderView {
         bytes,
@@ -95,26 +88,14 @@ fn pass_identity(c: &mut Cursor<'_>) -> Result<(), Fault>
     ensures next { OnOk result (c.new.place ≡ c.old.place + 16) }
 {
     let place = c.place();
-    let field = Field {
-        row: HEADER,
-        part: 1,
-    };
-    let magic = c.u32(field)?;
-    refuse(magic_cause(magic), place, field)?;
+    let magic = c.u32(HEADER_MAGIC)?;
+    refuse(magic_cause(magic), place, HEADER_MAGIC)?;
     let place = c.place();
-    let field = Field {
-        row: HEADER,
-        part: 2,
-    };
-    let len = c.u32(field)?;
-    refuse(identity_length_cause(len), place, field)?;
+    let len = c.u32(HEADER_IDLEN)?;
+    refuse(identity_length_cause(len), place, HEADER_IDLEN)?;
     let place = c.place();
-    let field = Field {
-        row: HEADER,
-        part: 3,
-    };
-    let id = c.take(8, field)?;
-    refuse(identity_cause(id), place, field)
+    let id = c.take(8, HEADER_ID)?;
+    refuse(identity_cause(id), place, HEADER_ID)
 }
 
 // Reads the numbers of tables: 8 bytes.
@@ -124,17 +105,13 @@ fn pass_counts(c: &mut Cursor<'_>, version: u32) -> Result<(), Fault>
     ensures next { OnOk result ((c.new.place ≡ c.old.place + 8) × (c.new.place ≤ length c.old.bytes)) }
 {
     let place = c.place();
-    let field = Field {
-        row: HEADER,
-        part: 6,
-    };
-    let symbol_tables = c.u32(field)?;
-    refuse(symbol_tables_cause(symbol_tables), place, field)?;
+    let symbol_tables = c.u32(HEADER_SYMTABS)?;
+    refuse(symbol_tables_cause(symbol_tables), place, HEADER_SYMTABS)?;
     let place = c.place();
-    let field = Field {
-        row: HEADER,
-        part: 7,
-    };
-    let context_tables = c.u32(field)?;
-    refuse(context_tables_cause(version, context_tables), place, field)
+    let context_tables = c.u32(HEADER_CONTEXTS)?;
+    refuse(
+        context_tables_cause(version, context_tables),
+        place,
+        HEADER_CONTEXTS,
+    )
 }

@@ -1,7 +1,8 @@
 -- A policy that is accepted was read up to the end of its file.
 use Rattle.std.proofs.Common.{◌≡◌, ℕ, ◌≤◌, Option, Some, None, Ok, List, length, ap, arith}
 use Rattle.pol_cursor.specs.declared.Fault.{Fault}
-use Rattle.pol_cursor.specs.Outcome.{Outcome, Reader, Got, Bad, field, ◌>>=◌, done}
+use Rattle.pol_cursor.specs.declared.fields.TheConstants.{END_END}
+use Rattle.pol_cursor.specs.Outcome.{Outcome, Reader, Got, Bad, ◌>>=◌, done}
 use Rattle.pol_cursor.specs.Parts.{end_at}
 use Rattle.pol_cursor.proofs.Laws.{and_then_got}
 use Rattle.pol_symbols.specs.PolicySymbols.{symbols_at}
@@ -23,11 +24,11 @@ whole-then {A} {B} r {f} f_whole = record {
       (f_whole g.0).whole bytes g.1 y next g.3;
 }
 
-whole-end : {A : Type 0} (x : A) → IsWhole (end_at (field 36 1) >>= λ ended. done x)
+whole-end : {A : Type 0} (x : A) → IsWhole (end_at END_END >>= λ ended. done x)
 whole-end x = record {
   whole = λ bytes place y next e.
-      let g = and_then_got (end_at (field 36 1) bytes place) (λ ended next. Got x next) y next e in
-      let h = ends_there (field 36 1) bytes place g.0 g.1 g.2 in
+      let g = and_then_got (end_at END_END bytes place) (λ ended next. Got x next) y next e in
+      let h = ends_there END_END bytes place g.0 g.1 g.2 in
       let same : g.1 ≡ next = got_place x g.1 y next g.3 in
       omega (arith, h.0, h.1, same);
 }

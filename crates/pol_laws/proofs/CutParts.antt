@@ -5,6 +5,7 @@ use Rattle.std.proofs.lemmas.List.{length-take, take-take, drop-take}
 use Rattle.pol_cursor.specs.declared.Field.{Field}
 use Rattle.pol_cursor.specs.declared.Cause.{Cause}
 use Rattle.pol_cursor.specs.declared.Cause.TheVariants.{Short, Trailing}
+use Rattle.pol_cursor.specs.declared.field.Field.{Field}
 use Rattle.pol_cursor.specs.Outcome.{Outcome, Got, Bad, Reader, fault, and_then, ◌>>=◌, done, judged, checked}
 use Rattle.pol_cursor.specs.Parts.{num, number, string, end_at, list_of, records_at, counted, optional}
 use Rattle.pol_cursor.specs.References.{placed}
@@ -331,17 +332,17 @@ local-either false h k = k
 
 -- ---- names of files
 
-pub local-name_length : (row part : ℕ) → IsLocal (name_length_at row part)
+pub local-name_length : (field : Field) → IsLocal (name_length_at field)
 unfolding name_length_at
-local-name_length row part = local-number_if _ 4 _
+local-name_length field = local-number_if _ 4 _
 
-pub local-name_bytes : (row part len : ℕ) → IsLocal (name_bytes_at row part len)
+pub local-name_bytes : (field : Field) (len : ℕ) → IsLocal (name_bytes_at field len)
 unfolding name_bytes_at
-local-name_bytes row part len = local-string_if _ len _
+local-name_bytes field len = local-string_if _ len _
 
-pub local-name : (row part : ℕ) → IsLocal (name_at row part)
+pub local-name : (len_field name_field : Field) → IsLocal (name_at len_field name_field)
 unfolding name_at
-local-name row part =
-    local-then (local-name_length _ _) λ len.
-    local-then (local-name_bytes _ _ _) λ name.
+local-name len_field name_field =
+    local-then (local-name_length _) λ len.
+    local-then (local-name_bytes _ _) λ name.
     local-done name

@@ -4,6 +4,7 @@ use Rattle.std.proofs.lemmas.Bool.{cases_lt}
 use Rattle.std.proofs.lemmas.List.{take_all}
 use Rattle.pol_cursor.specs.declared.Fault.{Fault}
 use Rattle.pol_cursor.specs.declared.Cause.TheVariants.{Short}
+use Rattle.pol_cursor.specs.declared.fields.TheConstants.{GENFS_COUNT}
 use Rattle.pol_cursor.specs.Outcome.{Outcome, fault}
 use Rattle.pol_file.specs.declared.Parts.{Parts}
 use Rattle.pol_file.specs.TypeMapRows.{type_map_at}
@@ -43,7 +44,7 @@ label_lists_local : (version types : ℕ) → IsLocal (label_lists_at version ty
 unfolding label_lists_at
 label_lists_local version types =
     local-then (contexts_local version) λ contexts.
-    local-then (context_table_local 34 genfs_local) λ genfs.
+    local-then (context_table_local GENFS_COUNT genfs_local) λ genfs.
     local-then (local-counted (local-placed range_trans_local) _) λ range_trans.
     local-then (type_map_local types) λ type_map.
     local-done _

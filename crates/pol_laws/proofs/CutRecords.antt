@@ -1,5 +1,7 @@
 -- The readers of the header, of bitmaps, of expressions, of MLS and of the records of symbol tables look at no byte behind their values.
 use Rattle.std.proofs.Common.{ℕ, Bool, Option, None, ◌==◌, List, []}
+use Rattle.pol_cursor.specs.declared.field.Field.{Field}
+use Rattle.pol_cursor.specs.declared.fields.TheConstants.{CLASS_DEFAULT_USER, CLASS_DEFAULT_ROLE, CLASS_DEFAULT_RANGE, CLASS_DEFAULT_TYPE}
 use Rattle.pol_header.specs.HeaderRecord.{identity_at, counts_at, header_at}
 use Rattle.pol_bitmap.specs.Bitmap.{node_at, nodes_at, floor_after, bitmap_at}
 use Rattle.pol_expr.specs.ConditionRecord as condition
@@ -150,29 +152,29 @@ range_local =
 
 -- ---- the parts of symbols
 
-symbol_length_local : (row part : ℕ) → IsLocal (symbol_length_at row part)
+symbol_length_local : (field : Field) → IsLocal (symbol_length_at field)
 unfolding symbol_length_at
-symbol_length_local row part = local-number_if _ 4 _
+symbol_length_local field = local-number_if _ 4 _
 
-symbol_name_local : (row part : ℕ) (claims : Claims) (len : ℕ) → IsLocal (symbol_name_at row part claims len)
+symbol_name_local : (field : Field) (claims : Claims) (len : ℕ) → IsLocal (symbol_name_at field claims len)
 unfolding symbol_name_at
-symbol_name_local row part claims len = local-string_if _ len _
+symbol_name_local field claims len = local-string_if _ len _
 
-value_local : (row part nprim : ℕ) → IsLocal (value_at row part nprim)
+value_local : (field : Field) (nprim : ℕ) → IsLocal (value_at field nprim)
 unfolding value_at
-value_local row part nprim = local-number_if _ 4 _
+value_local field nprim = local-number_if _ 4 _
 
-new_value_local : (row part nprim : ℕ) (claims : Claims) → IsLocal (new_value_at row part nprim claims)
+new_value_local : (field : Field) (nprim : ℕ) (claims : Claims) → IsLocal (new_value_at field nprim claims)
 unfolding new_value_at
-new_value_local row part nprim claims = local-number_if _ 4 _
+new_value_local field nprim claims = local-number_if _ 4 _
 
-bounds_local : (row part : ℕ) → IsLocal (bounds_at row part)
+bounds_local : (field : Field) → IsLocal (bounds_at field)
 unfolding bounds_at
-bounds_local row part = local-number _ 4
+bounds_local field = local-number _ 4
 
-flag_local : (row part : ℕ) → IsLocal (flag_at row part)
+flag_local : (field : Field) → IsLocal (flag_at field)
 unfolding flag_at
-flag_local row part = local-number_if _ 4 _
+flag_local field = local-number_if _ 4 _
 
 -- ---- permissions and commons
 
@@ -183,9 +185,9 @@ permission_value_local claims = local-number_if _ 4 _
 permission_local : (listed inherited : List PermissionRec) → IsLocal (permission_at listed inherited)
 unfolding permission_at
 permission_local listed inherited =
-    local-then (symbol_length_local _ _) λ len.
+    local-then (symbol_length_local _) λ len.
     local-then (permission_value_local _) λ value.
-    local-then (symbol_name_local _ _ _ len) λ name.
+    local-then (symbol_name_local _ _ len) λ name.
     local-done _
 
 permissions_local : (inherited : List PermissionRec) (n : ℕ) → IsLocal (permissions_at inherited n)
@@ -195,11 +197,11 @@ permissions_local inherited n = local-list_of (λ left listed. permission_at lis
 pub common_local : (taken : Claims) (nprim : ℕ) → IsLocal (common_at taken nprim)
 unfolding common_at
 common_local taken nprim =
-    local-then (symbol_length_local _ _) λ len.
+    local-then (symbol_length_local _) λ len.
     local-then (local-number_if _ 4 _) λ value.
     local-then (local-number_if _ 4 _) λ own_nprim.
     local-then (local-number _ 4) λ count.
-    local-then (symbol_name_local _ _ taken len) λ name.
+    local-then (symbol_name_local _ taken len) λ name.
     local-then (permissions_local [] count) λ permissions.
     local-done _
 
@@ -212,19 +214,19 @@ common_name_local commons len = local-string_if _ len _
 head_local : (taken : Claims) (nprim : ℕ) (commons : Table CommonRec) → IsLocal (head_at taken nprim commons)
 unfolding head_at
 head_local taken nprim commons =
-    local-then (symbol_length_local _ _) λ len.
+    local-then (symbol_length_local _) λ len.
     local-then (local-number _ 4) λ common_len.
     local-then (local-number_if _ 4 _) λ value.
     local-then (local-number_if _ 4 _) λ own_nprim.
     local-then (local-number _ 4) λ nel.
     local-then (local-number _ 4) λ ncons.
-    local-then (symbol_name_local _ _ taken len) λ name.
+    local-then (symbol_name_local _ taken len) λ name.
     local-then (common_name_local commons common_len) λ common.
     local-done _
 
-default_local : (part most : ℕ) → IsLocal (default_at part most)
+default_local : (field : Field) (most : ℕ) → IsLocal (default_at field most)
 unfolding default_at
-default_local part most = local-number_if _ 4 _
+default_local field most = local-number_if _ 4 _
 
 pub class_local : (version : ℕ) (taken : Claims) (nprim : ℕ) (commons : Table CommonRec) → IsLocal (class_at version taken nprim commons)
 unfolding class_at
@@ -233,10 +235,10 @@ class_local version taken nprim commons =
     local-then (permissions_local _ head.nel) λ permissions.
     local-then (local-records (constraint_local version _) head.ncons) λ constraints.
     local-then (local-counted (constraint_local version _) _) λ validatetrans.
-    local-then (default_local 10 2) λ default_user.
-    local-then (default_local 11 2) λ default_role.
-    local-then (default_local 12 7) λ default_range.
-    local-then (default_local 13 2) λ default_type.
+    local-then (default_local CLASS_DEFAULT_USER 2) λ default_user.
+    local-then (default_local CLASS_DEFAULT_ROLE 2) λ default_role.
+    local-then (default_local CLASS_DEFAULT_RANGE 7) λ default_range.
+    local-then (default_local CLASS_DEFAULT_TYPE 2) λ default_type.
     local-done _
 
 -- ---- the other symbols
@@ -244,10 +246,10 @@ class_local version taken nprim commons =
 pub role_local : (claims : Claims) (nprim : ℕ) → IsLocal (role_at claims nprim)
 unfolding role_at
 role_local claims nprim =
-    local-then (symbol_length_local _ _) λ len.
-    local-then (new_value_local _ _ nprim claims) λ value.
-    local-then (bounds_local _ _) λ bounds.
-    local-then (symbol_name_local _ _ claims len) λ name.
+    local-then (symbol_length_local _) λ len.
+    local-then (new_value_local _ nprim claims) λ value.
+    local-then (bounds_local _) λ bounds.
+    local-then (symbol_name_local _ claims len) λ name.
     local-then (bitmap_local None) λ dominates.
     local-then (bitmap_local None) λ types.
     local-done _
@@ -255,20 +257,20 @@ role_local claims nprim =
 pub type_local : (claims : Claims) (nprim : ℕ) → IsLocal (type_at claims nprim)
 unfolding type_at
 type_local claims nprim =
-    local-then (symbol_length_local _ _) λ len.
-    local-then (value_local _ _ nprim) λ value.
+    local-then (symbol_length_local _) λ len.
+    local-then (value_local _ nprim) λ value.
     local-then (local-number_if _ 4 _) λ properties.
-    local-then (bounds_local _ _) λ bounds.
-    local-then (symbol_name_local _ _ claims len) λ name.
+    local-then (bounds_local _) λ bounds.
+    local-then (symbol_name_local _ claims len) λ name.
     local-done _
 
 pub user_local : (claims : Claims) (nprim : ℕ) → IsLocal (user_at claims nprim)
 unfolding user_at
 user_local claims nprim =
-    local-then (symbol_length_local _ _) λ len.
-    local-then (new_value_local _ _ nprim claims) λ value.
-    local-then (bounds_local _ _) λ bounds.
-    local-then (symbol_name_local _ _ claims len) λ name.
+    local-then (symbol_length_local _) λ len.
+    local-then (new_value_local _ nprim claims) λ value.
+    local-then (bounds_local _) λ bounds.
+    local-then (symbol_name_local _ claims len) λ name.
     local-then (bitmap_local None) λ roles.
     local-then range_local λ range.
     local-then level_local λ level.
@@ -277,10 +279,10 @@ user_local claims nprim =
 pub boolean_local : (claims : Claims) (nprim : ℕ) → IsLocal (boolean_at claims nprim)
 unfolding boolean_at
 boolean_local claims nprim =
-    local-then (new_value_local _ _ nprim claims) λ value.
-    local-then (flag_local _ _) λ state.
-    local-then (symbol_length_local _ _) λ len.
-    local-then (symbol_name_local _ _ claims len) λ name.
+    local-then (new_value_local _ nprim claims) λ value.
+    local-then (flag_local _) λ state.
+    local-then (symbol_length_local _) λ len.
+    local-then (symbol_name_local _ claims len) λ name.
     local-done _
 
 sens_local : (nprim : ℕ) (claims : Claims) (isalias : ℕ) → IsLocal (sens_at nprim claims isalias)
@@ -290,9 +292,9 @@ sens_local nprim claims isalias = local-number_if _ 4 _
 pub sensitivity_local : (claims : Claims) (nprim : ℕ) → IsLocal (sensitivity_at claims nprim)
 unfolding sensitivity_at
 sensitivity_local claims nprim =
-    local-then (symbol_length_local _ _) λ len.
-    local-then (flag_local _ _) λ isalias.
-    local-then (symbol_name_local _ _ claims len) λ name.
+    local-then (symbol_length_local _) λ len.
+    local-then (flag_local _) λ isalias.
+    local-then (symbol_name_local _ claims len) λ name.
     local-then (sens_local nprim claims isalias) λ sens.
     local-then (bitmap_local None) λ categories.
     local-done _
@@ -300,8 +302,8 @@ sensitivity_local claims nprim =
 pub category_local : (claims : Claims) (nprim : ℕ) → IsLocal (category_at claims nprim)
 unfolding category_at
 category_local claims nprim =
-    local-then (symbol_length_local _ _) λ len.
-    local-then (value_local _ _ nprim) λ value.
+    local-then (symbol_length_local _) λ len.
+    local-then (value_local _ nprim) λ value.
     local-then (local-number_if _ 4 _) λ isalias.
-    local-then (symbol_name_local _ _ claims len) λ name.
+    local-then (symbol_name_local _ claims len) λ name.
     local-done _

@@ -1,6 +1,8 @@
 -- The readers of the parts of a policy look at no byte behind their values: its symbol tables, its rules and its contexts.
 use Rattle.std.proofs.Common.{ℕ, Bool, true, false, Option, Some, None, List}
 use Rattle.std.specs.Prelude.{nat_le}
+use Rattle.pol_cursor.specs.declared.field.Field.{Field}
+use Rattle.pol_cursor.specs.declared.fields.TheConstants.{NAMETRANS_LEN, NAMETRANS_NAME, NAMEGROUP_LEN, NAMEGROUP_NAME, SID_COUNT, FS_COUNT, FS_LEN, FS_NAME, PORT_COUNT, NETIF_COUNT, NETIF_LEN, NETIF_NAME, NODE_COUNT, NODE_ADDRESS, NODE_MASK, FSUSE_COUNT, FSUSE_LEN, FSUSE_NAME, NODE6_COUNT, NODE6_ADDRESS, NODE6_MASK, IBPKEY_COUNT, IBENDPORT_COUNT, IBENDPORT_LEN, IBENDPORT_NAME, GENFS_LEN, GENFS_FSTYPE, GENFS_PATHLEN, GENFS_PATH}
 use Rattle.pol_cursor.specs.Outcome.{Reader}
 use Rattle.pol_symtab.specs.SymbolTables.{Table, table_head_at, table_records_at, table_at}
 use Rattle.pol_commons.specs.declared.CommonRec.{CommonRec}
@@ -183,7 +185,7 @@ role_allow_local =
 name_trans_local : IsLocal name_trans_at
 unfolding name_trans_at
 name_trans_local =
-    local-then (local-name 22 2) λ name.
+    local-then (local-name NAMETRANS_LEN NAMETRANS_NAME) λ name.
     local-then (local-number _ 4) λ source.
     local-then (local-number _ 4) λ target.
     local-then (local-number _ 4) λ class.
@@ -200,7 +202,7 @@ name_datum_local =
 name_group_local : IsLocal name_group_at
 unfolding name_group_at
 name_group_local =
-    local-then (local-name 23 2) λ name.
+    local-then (local-name NAMEGROUP_LEN NAMEGROUP_NAME) λ name.
     local-then (local-number _ 4) λ target.
     local-then (local-number _ 4) λ class.
     local-then (local-counted name_datum_local _) λ datums.
@@ -246,10 +248,10 @@ sid_local =
     local-then context_local λ context.
     local-done _
 
-named_local : (row : ℕ) → IsLocal (named_at row)
+named_local : (len_field name_field : Field) → IsLocal (named_at len_field name_field)
 unfolding named_at
-named_local row =
-    local-then (local-name row 2) λ name.
+named_local len_field name_field =
+    local-then (local-name len_field name_field) λ name.
     local-then context_local λ context.
     local-then context_local λ second_context.
     local-done _
@@ -263,9 +265,9 @@ port_local =
     local-then context_local λ context.
     local-done _
 
-address_local : (row width : ℕ) → IsLocal (address_at row width)
+address_local : (address_field mask_field : Field) (width : ℕ) → IsLocal (address_at address_field mask_field width)
 unfolding address_at
-address_local row width =
+address_local address_field mask_field width =
     local-then (local-string _ width) λ address.
     local-then (local-string _ width) λ mask.
     local-then context_local λ context.
@@ -279,7 +281,7 @@ fsuse_local : IsLocal fsuse_at
 unfolding fsuse_at
 fsuse_local =
     local-then behaviour_local λ behaviour.
-    local-then (local-name 30 3) λ name.
+    local-then (local-name FSUSE_LEN FSUSE_NAME) λ name.
     local-then context_local λ context.
     local-done _
 
@@ -295,15 +297,15 @@ ibpkey_local =
 ibendport_local : IsLocal ibendport_at
 unfolding ibendport_at
 ibendport_local =
-    local-then (local-name_length 33 2) λ len.
+    local-then (local-name_length IBENDPORT_LEN) λ len.
     local-then (local-number _ 4) λ port.
-    local-then (local-name_bytes 33 4 len) λ name.
+    local-then (local-name_bytes IBENDPORT_NAME len) λ name.
     local-then context_local λ context.
     local-done _
 
-pub context_table_local : {A : Type 0} {entry_at : Reader A} (row : ℕ) → IsLocal entry_at → IsLocal (context_table_at row entry_at)
+pub context_table_local : {A : Type 0} {entry_at : Reader A} (count : Field) → IsLocal entry_at → IsLocal (context_table_at count entry_at)
 unfolding context_table_at
-context_table_local row h = local-counted (local-placed h) _
+context_table_local count h = local-counted (local-placed h) _
 
 table_if_local : {A : Type 0} {table : Reader (List A)} (there : Bool) → IsLocal table → IsLocal (table_if there table)
 unfolding table_if
@@ -313,15 +315,15 @@ table_if_local false h = local-done _
 pub contexts_local : (version : ℕ) → IsLocal (contexts_at version)
 unfolding contexts_at
 contexts_local version =
-    local-then (context_table_local 25 sid_local) λ sid.
-    local-then (context_table_local 26 (named_local 26)) λ fs.
-    local-then (context_table_local 27 port_local) λ port.
-    local-then (context_table_local 28 (named_local 28)) λ netif.
-    local-then (context_table_local 29 (address_local 29 4)) λ node.
-    local-then (context_table_local 30 fsuse_local) λ fsuse.
-    local-then (context_table_local 31 (address_local 31 16)) λ node6.
-    local-then (table_if_local (has_infiniband version) (context_table_local 32 ibpkey_local)) λ ibpkey.
-    local-then (table_if_local (has_infiniband version) (context_table_local 33 ibendport_local)) λ ibendport.
+    local-then (context_table_local SID_COUNT sid_local) λ sid.
+    local-then (context_table_local FS_COUNT (named_local FS_LEN FS_NAME)) λ fs.
+    local-then (context_table_local PORT_COUNT port_local) λ port.
+    local-then (context_table_local NETIF_COUNT (named_local NETIF_LEN NETIF_NAME)) λ netif.
+    local-then (context_table_local NODE_COUNT (address_local NODE_ADDRESS NODE_MASK 4)) λ node.
+    local-then (context_table_local FSUSE_COUNT fsuse_local) λ fsuse.
+    local-then (context_table_local NODE6_COUNT (address_local NODE6_ADDRESS NODE6_MASK 16)) λ node6.
+    local-then (table_if_local (has_infiniband version) (context_table_local IBPKEY_COUNT ibpkey_local)) λ ibpkey.
+    local-then (table_if_local (has_infiniband version) (context_table_local IBENDPORT_COUNT ibendport_local)) λ ibendport.
     local-done _
 
 -- ---- file systems without labels
@@ -329,7 +331,7 @@ contexts_local version =
 path_local : IsLocal path_at
 unfolding path_at
 path_local =
-    local-then (local-name 34 5) λ path.
+    local-then (local-name GENFS_PATHLEN GENFS_PATH) λ path.
     local-then (local-number _ 4) λ class.
     local-then context_local λ context.
     local-done _
@@ -337,6 +339,6 @@ path_local =
 pub genfs_local : IsLocal genfs_at
 unfolding genfs_at
 genfs_local =
-    local-then (local-name 34 2) λ fstype.
+    local-then (local-name GENFS_LEN GENFS_FSTYPE) λ fstype.
     local-then (local-counted path_local _) λ paths.
     local-done _

@@ -2,7 +2,8 @@
 use Rattle.std.proofs.Common.{◌≡◌, ℕ, ◌==◌, None, Ok, List, length, not, refl}
 use Rattle.std.proofs.lemmas.Bool.{eq-eqb}
 use Rattle.pol_cursor.specs.declared.Field.{Field}
-use Rattle.pol_cursor.specs.Outcome.{field}
+use Rattle.pol_cursor.specs.declared.field.Field.{Field}
+use Rattle.pol_cursor.specs.declared.fields.TheConstants.{BITMAP_UNIT, ROLETRANS_COUNT, ROLEALLOW_COUNT, GENFS_COUNT, RANGETRANS_COUNT, END_END}
 use Rattle.pol_cursor.specs.Parts.{records_at, counted, end_at}
 use Rattle.pol_cursor.specs.References.{placed}
 use Rattle.pol_symtab.proofs.FreshRecords.{Gives-part, Gives-done}
@@ -27,8 +28,8 @@ unfolding rule_lists_at shape_of_rule_lists
 rule_lists_shaped version =
     Gives-part (rule_table_shaped version) λ table table-shaped.
     Gives-part (conditionals_shaped version) λ conditionals conditionals-shaped.
-    gives-others (counted (field 20 1) (records_at (placed role_trans_at))) λ role_trans.
-    gives-others (counted (field 21 1) (records_at (placed role_allow_at))) λ role_allows.
+    gives-others (counted ROLETRANS_COUNT (records_at (placed role_trans_at))) λ role_trans.
+    gives-others (counted ROLEALLOW_COUNT (records_at (placed role_allow_at))) λ role_allows.
     Gives-part (name_transitions_shaped version) λ name_trans name_trans-shaped.
     Gives-done _ _ (none-first _ _ table-shaped (none-first _ _ conditionals-shaped (none-first _ _ name_trans-shaped none-last)))
 
@@ -40,10 +41,10 @@ label_lists_shaped : (version types : ℕ) → IsShaped (label_lists_at version 
 unfolding label_lists_at shape_of_label_lists
 label_lists_shaped version types =
     Gives-part (contexts_shaped version) λ contexts contexts-shaped.
-    Gives-part (context_table_shaped 34 genfs_shaped) λ genfs genfs-shaped.
-    Gives-part (shaped-placed_list (field 35 1) range_trans_shaped) λ range_trans range_trans-shaped.
+    Gives-part (context_table_shaped GENFS_COUNT genfs_shaped) λ genfs genfs-shaped.
+    Gives-part (shaped-placed_list RANGETRANS_COUNT range_trans_shaped) λ range_trans range_trans-shaped.
     Gives-part (type_map_long types) λ type_map long.
-    Gives-done _ _ (none-first _ _ contexts-shaped (none-first _ _ genfs-shaped (none-first _ _ range_trans-shaped (none-first _ _ (right_long (length type_map) types (field 2 1) long) none-last))))
+    Gives-done _ _ (none-first _ _ contexts-shaped (none-first _ _ genfs-shaped (none-first _ _ range_trans-shaped (none-first _ _ (right_long (length type_map) types BITMAP_UNIT long) none-last))))
 
 policy_shaped : IsShaped policy_at shape
 unfolding policy_at shape
@@ -52,7 +53,7 @@ policy_shaped =
     Gives-part (symbols_shaped front.header.version) λ symbols symbols-shaped.
     Gives-part (rule_lists_shaped front.header.version) λ rules rules-shaped.
     Gives-part (label_lists_shaped front.header.version symbols.types.nprim) λ labels labels-shaped.
-    gives-others (end_at (field 36 1)) λ ended.
+    gives-others (end_at END_END) λ ended.
     Gives-done _ _ (none-first _ _ symbols-shaped (none-first _ _ rules-shaped (none-first _ _ labels-shaped none-last)))
 
 -- ---- acceptance

@@ -1,7 +1,8 @@
 -- Records that are read have no wrong optional part.
 use Rattle.std.proofs.Common.{◌≡◌, ℕ, ◌==◌, ◌&&◌, IfSome, Bool, true, false, Option, Some, None, List, refl}
 use Rattle.std.specs.Prelude.{is_some}
-use Rattle.pol_cursor.specs.Outcome.{field}
+use Rattle.pol_cursor.specs.declared.field.Field.{Field}
+use Rattle.pol_cursor.specs.declared.fields.TheConstants.{CLASS_DEFAULT_USER, CLASS_DEFAULT_ROLE, CLASS_DEFAULT_RANGE, CLASS_DEFAULT_TYPE, CONSTRAINT_FLAGS, USER_LEN, USER_VALUE, USER_BOUNDS, USER_NAME, RANGE_HIGH, AV_XKIND, FSUSE_LEN, FSUSE_NAME, IBENDPORT_LEN, IBENDPORT_NAME, GENFS_LEN, GENFS_FSTYPE, GENFS_PATHLEN, GENFS_PATH}
 use Rattle.pol_cursor.specs.Parts.{number, number_if, string}
 use Rattle.pol_cursor.specs.FileNames.{name_at, name_length_at, name_bytes_at}
 use Rattle.pol_bitmap.specs.declared.Node.{Node}
@@ -55,7 +56,7 @@ range_shaped =
     Gives-part (gives-optional (n == 2) (Gives-any (number _ 4))) λ high high-there.
     gives-others (bitmap_at None) λ low_categories.
     Gives-part (gives-optional (n == 2) (Gives-any (bitmap_at None))) λ high_categories high_categories-there.
-    Gives-done _ _ (part_shaped (n == 2) (level_of high high_categories) (field 15 3) (level_there (n == 2) high high_categories high-there.0 high_categories-there.0))
+    Gives-done _ _ (part_shaped (n == 2) (level_of high high_categories) RANGE_HIGH (level_there (n == 2) high high_categories high-there.0 high_categories-there.0))
 
 -- ---- symbols
 
@@ -74,8 +75,8 @@ item_shaped version xtarget left values =
     gives-others (number_if _ 4 _) λ op.
     Gives-part (sets_shaped version kind) λ sets sets-there.
     Gives-done _ _
-    (none-first _ _ (part_shaped (has_names kind) sets.0 (field 7 6) sets-there.0)
-    (none-first _ _ (part_shaped (has_type_set version kind) sets.1 (field 7 6) sets-there.1)
+    (none-first _ _ (part_shaped (has_names kind) sets.0 CONSTRAINT_FLAGS sets-there.0)
+    (none-first _ _ (part_shaped (has_type_set version kind) sets.1 CONSTRAINT_FLAGS sets-there.1)
     none-last))
 
 constraint_shaped : (version : ℕ) (xtarget : Bool) → IsShaped (constraint_at version xtarget) (shape_of_constraint version)
@@ -93,19 +94,19 @@ class_shaped version taken nprim commons =
     gives-others (permissions_at (inherited_from commons head.common) head.nel) λ permissions.
     Gives-part (shaped-records_at _ _ (constraint_shaped version false) head.ncons) λ constraints constraints-shaped.
     Gives-part (shaped-counted _ (constraint_shaped version true)) λ validatetrans validatetrans-shaped.
-    gives-others (default_at 10 2) λ default_user.
-    gives-others (default_at 11 2) λ default_role.
-    gives-others (default_at 12 7) λ default_range.
-    gives-others (default_at 13 2) λ default_type.
+    gives-others (default_at CLASS_DEFAULT_USER 2) λ default_user.
+    gives-others (default_at CLASS_DEFAULT_ROLE 2) λ default_role.
+    gives-others (default_at CLASS_DEFAULT_RANGE 7) λ default_range.
+    gives-others (default_at CLASS_DEFAULT_TYPE 2) λ default_type.
     Gives-done _ _ (none-first _ _ constraints-shaped (none-first _ _ validatetrans-shaped none-last))
 
 pub user_shaped : (taken : Claims) (nprim : ℕ) → IsShaped (user_at taken nprim) shape_of_user
 unfolding user_at
 user_shaped taken nprim =
-    gives-others (symbol_length_at 10 1) λ len.
-    gives-others (new_value_at 10 2 nprim taken) λ value.
-    gives-others (bounds_at 10 3) λ bounds.
-    gives-others (symbol_name_at 10 4 taken len) λ name.
+    gives-others (symbol_length_at USER_LEN) λ len.
+    gives-others (new_value_at USER_VALUE nprim taken) λ value.
+    gives-others (bounds_at USER_BOUNDS) λ bounds.
+    gives-others (symbol_name_at USER_NAME taken len) λ name.
     gives-others (bitmap_at None) λ roles.
     Gives-part range_shaped λ range range-shaped.
     gives-others level_at λ level.
@@ -140,7 +141,7 @@ av_shaped version earlier =
     gives-others (number _ 2) λ class.
     gives-others (number_if _ 2 _) λ specified.
     Gives-part (part_there (is_extended specified)) λ part there.
-    Gives-done _ _ (part_shaped (is_extended specified) (xperms_of part) (field 16 5) there)
+    Gives-done _ _ (part_shaped (is_extended specified) (xperms_of part) AV_XKIND there)
 
 pub condnode_shaped : (version : ℕ) → IsShaped (condnode_at version) shape_of_condnode
 unfolding condnode_at
@@ -177,10 +178,10 @@ sid_shaped =
     Gives-part context_shaped λ context context-shaped.
     Gives-done _ _ context-shaped
 
-pub named_shaped : (row : ℕ) → IsShaped (named_at row) shape_of_named
+pub named_shaped : (len_field name_field : Field) → IsShaped (named_at len_field name_field) shape_of_named
 unfolding named_at
-named_shaped row =
-    gives-others (name_at row 2) λ name.
+named_shaped len_field name_field =
+    gives-others (name_at len_field name_field) λ name.
     Gives-part context_shaped λ context context-shaped.
     Gives-part context_shaped λ second_context second_context-shaped.
     Gives-done _ _ (none-first _ _ context-shaped (none-first _ _ second_context-shaped none-last))
@@ -194,9 +195,9 @@ port_shaped =
     Gives-part context_shaped λ context context-shaped.
     Gives-done _ _ context-shaped
 
-pub address_shaped : (row width : ℕ) → IsShaped (address_at row width) (shape_of_address {width = width})
+pub address_shaped : (address_field mask_field : Field) (width : ℕ) → IsShaped (address_at address_field mask_field width) (shape_of_address {width = width})
 unfolding address_at
-address_shaped row width =
+address_shaped address_field mask_field width =
     gives-others (string _ width) λ address.
     gives-others (string _ width) λ mask.
     Gives-part context_shaped λ context context-shaped.
@@ -206,7 +207,7 @@ pub fsuse_shaped : IsShaped fsuse_at shape_of_fsuse
 unfolding fsuse_at
 fsuse_shaped =
     gives-others behaviour_at λ behaviour.
-    gives-others (name_at 30 3) λ name.
+    gives-others (name_at FSUSE_LEN FSUSE_NAME) λ name.
     Gives-part context_shaped λ context context-shaped.
     Gives-done _ _ context-shaped
 
@@ -222,16 +223,16 @@ ibpkey_shaped =
 pub ibendport_shaped : IsShaped ibendport_at shape_of_ibendport
 unfolding ibendport_at
 ibendport_shaped =
-    gives-others (name_length_at 33 2) λ len.
+    gives-others (name_length_at IBENDPORT_LEN) λ len.
     gives-others (number _ 4) λ port.
-    gives-others (name_bytes_at 33 4 len) λ name.
+    gives-others (name_bytes_at IBENDPORT_NAME len) λ name.
     Gives-part context_shaped λ context context-shaped.
     Gives-done _ _ context-shaped
 
 path_shaped : IsShaped path_at shape_of_path
 unfolding path_at
 path_shaped =
-    gives-others (name_at 34 5) λ path.
+    gives-others (name_at GENFS_PATHLEN GENFS_PATH) λ path.
     gives-others (number _ 4) λ class.
     Gives-part context_shaped λ context context-shaped.
     Gives-done _ _ context-shaped
@@ -239,6 +240,6 @@ path_shaped =
 pub genfs_shaped : IsShaped genfs_at shape_of_genfs
 unfolding genfs_at
 genfs_shaped =
-    gives-others (name_at 34 2) λ fstype.
+    gives-others (name_at GENFS_LEN GENFS_FSTYPE) λ fstype.
     Gives-part (shaped-counted _ path_shaped) λ paths paths-shaped.
     Gives-done _ _ paths-shaped

@@ -1,7 +1,9 @@
 -- Tables that are read have no wrong optional part.
 use Rattle.std.proofs.Common.{◌≡◌, ℕ, Bool, true, false, Option, Some, None, List, [], ◌∷◌, refl}
 use Rattle.pol_cursor.specs.declared.Field.{Field}
-use Rattle.pol_cursor.specs.Outcome.{Reader, field}
+use Rattle.pol_cursor.specs.declared.field.Field.{Field}
+use Rattle.pol_cursor.specs.declared.fields.TheConstants.{NAMETRANS_COUNT, NAMEGROUP_COUNT, SID_COUNT, FS_COUNT, FS_LEN, FS_NAME, PORT_COUNT, NETIF_COUNT, NETIF_LEN, NETIF_NAME, NODE_COUNT, NODE_ADDRESS, NODE_MASK, FSUSE_COUNT, NODE6_COUNT, NODE6_ADDRESS, NODE6_MASK, IBPKEY_COUNT, IBENDPORT_COUNT}
+use Rattle.pol_cursor.specs.Outcome.{Reader}
 use Rattle.pol_cursor.specs.Parts.{number, counted, records_at}
 use Rattle.pol_cursor.specs.References.{Placed, placed}
 use Rattle.pol_symtab.specs.Freshness.{Gives}
@@ -84,13 +86,13 @@ conditionals_shaped version = shaped-placed_list _ (condnode_shaped version)
 entries_shaped : IsShaped entries_at (shape_of_name_transitions false)
 unfolding shape_of_name_transitions
 entries_shaped =
-    gives-others (counted (field 22 1) (records_at (placed name_trans_at))) λ entries.
+    gives-others (counted NAMETRANS_COUNT (records_at (placed name_trans_at))) λ entries.
     Gives-done _ _ refl
 
 groups_shaped : IsShaped groups_at (shape_of_name_transitions true)
 unfolding shape_of_name_transitions
 groups_shaped =
-    gives-others (counted (field 23 1) (records_at (placed name_group_at))) λ groups.
+    gives-others (counted NAMEGROUP_COUNT (records_at (placed name_group_at))) λ groups.
     Gives-done _ _ refl
 
 pub name_transitions_shaped : (version : ℕ) → IsShaped (name_transitions_at version) (shape_of_name_transitions (has_groups version))
@@ -98,36 +100,36 @@ name_transitions_shaped version = gives-either (λ grouped trans. shape_of_name_
 
 -- ---- contexts
 
-pub context_table_shaped : {A : Type 0} (row : ℕ) {entry_at : Reader A} {shape : A → Option Field} → IsShaped entry_at shape → IsShaped (context_table_at row entry_at) (first_placed shape)
+pub context_table_shaped : {A : Type 0} (count : Field) {entry_at : Reader A} {shape : A → Option Field} → IsShaped entry_at shape → IsShaped (context_table_at count entry_at) (first_placed shape)
 unfolding context_table_at
-context_table_shaped row each = shaped-placed_list _ each
+context_table_shaped count each = shaped-placed_list _ each
 
 -- a table that is there or is empty
-record ShapedIf {A : Type 0} (there : Bool) (row : ℕ) (shape : A → Option Field) (table : List (Placed A)) : Type 0 where
-  list : shape_of_list there table (field row 1) ≡ None
+record ShapedIf {A : Type 0} (there : Bool) (count : Field) (shape : A → Option Field) (table : List (Placed A)) : Type 0 where
+  list : shape_of_list there table count ≡ None
   entries : first_placed shape table ≡ None
 
 list_there : {A : Type 0} (entries : List A) (field : Field) → shape_of_list true entries field ≡ None
 list_there [] field = refl
 list_there (x ∷ xs) field = refl
 
-table_if_shaped : {A : Type 0} (there : Bool) (row : ℕ) {table : Reader (List (Placed A))} {shape : A → Option Field} → IsShaped table (first_placed shape) → Gives (table_if there table) (ShapedIf there row shape)
+table_if_shaped : {A : Type 0} (there : Bool) (count : Field) {table : Reader (List (Placed A))} {shape : A → Option Field} → IsShaped table (first_placed shape) → Gives (table_if there table) (ShapedIf there count shape)
 unfolding table_if
-table_if_shaped true row each = record { each = λ bytes place entries next e. record { list = list_there entries (field row 1); entries = each.each bytes place entries next e } }
-table_if_shaped false row each = Gives-done _ [] (record { list = refl; entries = none-last })
+table_if_shaped true count each = record { each = λ bytes place entries next e. record { list = list_there entries count; entries = each.each bytes place entries next e } }
+table_if_shaped false count each = Gives-done _ [] (record { list = refl; entries = none-last })
 
 pub contexts_shaped : (version : ℕ) → IsShaped (contexts_at version) (shape_of_contexts version)
 unfolding contexts_at shape_of_contexts
 contexts_shaped version =
-    Gives-part (context_table_shaped 25 sid_shaped) λ sid sid-shaped.
-    Gives-part (context_table_shaped 26 (named_shaped 26)) λ fs fs-shaped.
-    Gives-part (context_table_shaped 27 port_shaped) λ port port-shaped.
-    Gives-part (context_table_shaped 28 (named_shaped 28)) λ netif netif-shaped.
-    Gives-part (context_table_shaped 29 (address_shaped 29 4)) λ node node-shaped.
-    Gives-part (context_table_shaped 30 fsuse_shaped) λ fsuse fsuse-shaped.
-    Gives-part (context_table_shaped 31 (address_shaped 31 16)) λ node6 node6-shaped.
-    Gives-part (table_if_shaped (has_infiniband version) 32 (context_table_shaped 32 ibpkey_shaped)) λ ibpkey ibpkey-shaped.
-    Gives-part (table_if_shaped (has_infiniband version) 33 (context_table_shaped 33 ibendport_shaped)) λ ibendport ibendport-shaped.
+    Gives-part (context_table_shaped SID_COUNT sid_shaped) λ sid sid-shaped.
+    Gives-part (context_table_shaped FS_COUNT (named_shaped FS_LEN FS_NAME)) λ fs fs-shaped.
+    Gives-part (context_table_shaped PORT_COUNT port_shaped) λ port port-shaped.
+    Gives-part (context_table_shaped NETIF_COUNT (named_shaped NETIF_LEN NETIF_NAME)) λ netif netif-shaped.
+    Gives-part (context_table_shaped NODE_COUNT (address_shaped NODE_ADDRESS NODE_MASK 4)) λ node node-shaped.
+    Gives-part (context_table_shaped FSUSE_COUNT fsuse_shaped) λ fsuse fsuse-shaped.
+    Gives-part (context_table_shaped NODE6_COUNT (address_shaped NODE6_ADDRESS NODE6_MASK 16)) λ node6 node6-shaped.
+    Gives-part (table_if_shaped (has_infiniband version) IBPKEY_COUNT (context_table_shaped IBPKEY_COUNT ibpkey_shaped)) λ ibpkey ibpkey-shaped.
+    Gives-part (table_if_shaped (has_infiniband version) IBENDPORT_COUNT (context_table_shaped IBENDPORT_COUNT ibendport_shaped)) λ ibendport ibendport-shaped.
     Gives-done _ _
     (none-first _ _ sid-shaped
     (none-first _ _ fs-shaped

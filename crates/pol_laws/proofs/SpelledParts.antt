@@ -2,7 +2,7 @@
 use Rattle.std.proofs.Common.{ℕ, Bool, true, false, Some, None, List, ◌++◌, append_assoc}
 use Rattle.std.specs.Prelude.{nat_le, if◌then◌else◌}
 use Rattle.std.proofs.lemmas.List.{append-nil}
-use Rattle.pol_cursor.specs.Outcome.{field}
+use Rattle.pol_cursor.specs.declared.fields.TheConstants.{ROLETRANS_COUNT, ROLEALLOW_COUNT, NAMETRANS_COUNT, NAMEGROUP_COUNT, SID_COUNT, FS_COUNT, FS_LEN, FS_NAME, PORT_COUNT, NETIF_COUNT, NETIF_LEN, NETIF_NAME, NODE_COUNT, NODE_ADDRESS, NODE_MASK, FSUSE_COUNT, NODE6_COUNT, NODE6_ADDRESS, NODE6_MASK, IBPKEY_COUNT, IBENDPORT_COUNT, GENFS_COUNT, RANGETRANS_COUNT}
 use Rattle.pol_cursor.proofs.Laws.{Reads-part, Reads-done}
 use Rattle.pol_bitmap.specs.Bitmap.{bitmap_at, spell_bitmap, BitmapFits}
 use Rattle.pol_bitmap.proofs.Laws.{bitmap_spelled}
@@ -147,12 +147,12 @@ nodes_spelled version = spelled_through (conditionals_at version) (plain_conditi
 
 entries_spelled : IsSpelledBy entries_at spell_name_transitions
 entries_spelled =
-    Reads-part (list_spelled (field 22 1) name_trans_at spell_name_trans NameTransFits name_trans_spelled) λ entries entries-fit.
+    Reads-part (list_spelled NAMETRANS_COUNT name_trans_at spell_name_trans NameTransFits name_trans_spelled) λ entries entries-fit.
     Reads-done _ (Entries entries) (record { same = simp append-nil; fitting = tt })
 
 groups_spelled : IsSpelledBy groups_at spell_name_transitions
 groups_spelled =
-    Reads-part (list_spelled (field 23 1) name_group_at spell_name_group NameGroupFits name_group_spelled) λ groups groups-fit.
+    Reads-part (list_spelled NAMEGROUP_COUNT name_group_at spell_name_group NameGroupFits name_group_spelled) λ groups groups-fit.
     Reads-done _ (Groups groups) (record { same = simp append-nil; fitting = tt })
 
 name_transitions_by : (grouped : Bool) → IsSpelledBy (if grouped then groups_at else entries_at) spell_name_transitions
@@ -164,8 +164,8 @@ unfolding rule_lists_at spell_rule_lists
 rule_lists_spelled version =
     Reads-part (rules_spelled version) λ table table-fits.
     Reads-part (nodes_spelled version) λ conditionals conditionals-fit.
-    Reads-part (list_spelled (field 20 1) role_trans_at spell_role_trans RoleTransFits role_trans_spelled) λ role_trans role_trans-fit.
-    Reads-part (list_spelled (field 21 1) role_allow_at spell_role_allow RoleAllowFits role_allow_spelled) λ role_allows role_allows-fit.
+    Reads-part (list_spelled ROLETRANS_COUNT role_trans_at spell_role_trans RoleTransFits role_trans_spelled) λ role_trans role_trans-fit.
+    Reads-part (list_spelled ROLEALLOW_COUNT role_allow_at spell_role_allow RoleAllowFits role_allow_spelled) λ role_allows role_allows-fit.
     Reads-part (name_transitions_by (nat_le 33 version)) λ name_trans name_trans-fit.
     Reads-done _ (record { table = table; conditionals = conditionals; role_trans = role_trans; role_allows = role_allows; name_trans = name_trans }) (record { same = simp (append_assoc, append-nil); fitting = tt })
 
@@ -174,22 +174,22 @@ rule_lists_spelled version =
 contexts_spelled : (version : ℕ) → IsSpelledBy (contexts_at version) (spell_contexts version)
 unfolding contexts_at table_at spell_contexts
 contexts_spelled version =
-    Reads-part (list_spelled (field 25 1) sid_at spell_sid SidFits sid_spelled) λ sid sid-fits.
-    Reads-part (list_spelled (field 26 1) (named_at 26) spell_named NamedFits (named_spelled 26)) λ fs fs-fits.
-    Reads-part (list_spelled (field 27 1) port_at spell_port PortFits port_spelled) λ port port-fits.
-    Reads-part (list_spelled (field 28 1) (named_at 28) spell_named NamedFits (named_spelled 28)) λ netif netif-fits.
-    Reads-part (list_spelled (field 29 1) (address_at 29 4) (spell_address {width = 4}) (AddressFits 4) (address_spelled 29 4)) λ node node-fits.
-    Reads-part (list_spelled (field 30 1) fsuse_at spell_fsuse FsUseFits fsuse_spelled) λ fsuse fsuse-fits.
-    Reads-part (list_spelled (field 31 1) (address_at 31 16) (spell_address {width = 16}) (AddressFits 16) (address_spelled 31 16)) λ node6 node6-fits.
-    Reads-part (list_if_spelled (has_infiniband version) _ _ (list_spelled (field 32 1) ibpkey_at spell_ibpkey IbPkeyFits ibpkey_spelled)) λ ibpkey ibpkey-fits.
-    Reads-part (list_if_spelled (has_infiniband version) _ _ (list_spelled (field 33 1) ibendport_at spell_ibendport IbEndPortFits ibendport_spelled)) λ ibendport ibendport-fits.
+    Reads-part (list_spelled SID_COUNT sid_at spell_sid SidFits sid_spelled) λ sid sid-fits.
+    Reads-part (list_spelled FS_COUNT (named_at FS_LEN FS_NAME) spell_named NamedFits (named_spelled FS_LEN FS_NAME)) λ fs fs-fits.
+    Reads-part (list_spelled PORT_COUNT port_at spell_port PortFits port_spelled) λ port port-fits.
+    Reads-part (list_spelled NETIF_COUNT (named_at NETIF_LEN NETIF_NAME) spell_named NamedFits (named_spelled NETIF_LEN NETIF_NAME)) λ netif netif-fits.
+    Reads-part (list_spelled NODE_COUNT (address_at NODE_ADDRESS NODE_MASK 4) (spell_address {width = 4}) (AddressFits 4) (address_spelled NODE_ADDRESS NODE_MASK 4)) λ node node-fits.
+    Reads-part (list_spelled FSUSE_COUNT fsuse_at spell_fsuse FsUseFits fsuse_spelled) λ fsuse fsuse-fits.
+    Reads-part (list_spelled NODE6_COUNT (address_at NODE6_ADDRESS NODE6_MASK 16) (spell_address {width = 16}) (AddressFits 16) (address_spelled NODE6_ADDRESS NODE6_MASK 16)) λ node6 node6-fits.
+    Reads-part (list_if_spelled (has_infiniband version) _ _ (list_spelled IBPKEY_COUNT ibpkey_at spell_ibpkey IbPkeyFits ibpkey_spelled)) λ ibpkey ibpkey-fits.
+    Reads-part (list_if_spelled (has_infiniband version) _ _ (list_spelled IBENDPORT_COUNT ibendport_at spell_ibendport IbEndPortFits ibendport_spelled)) λ ibendport ibendport-fits.
     Reads-done _ (record { sid = sid; fs = fs; port = port; netif = netif; node = node; fsuse = fsuse; node6 = node6; ibpkey = ibpkey; ibendport = ibendport }) (record { same = simp (append_assoc, append-nil); fitting = tt })
 
 pub label_lists_spelled : (version types : ℕ) → IsSpelledBy (label_lists_at version types) (spell_label_lists version)
 unfolding label_lists_at type_map_at table_at spell_label_lists
 label_lists_spelled version types =
     Reads-part (contexts_spelled version) λ contexts contexts-fit.
-    Reads-part (list_spelled (field 34 1) genfs_at spell_genfs GenfsFits genfs_spelled) λ genfs genfs-fits.
-    Reads-part (list_spelled (field 35 1) range_trans_at spell_range_trans RangeTransFits range_trans_spelled) λ range_trans range_trans-fit.
+    Reads-part (list_spelled GENFS_COUNT genfs_at spell_genfs GenfsFits genfs_spelled) λ genfs genfs-fits.
+    Reads-part (list_spelled RANGETRANS_COUNT range_trans_at spell_range_trans RangeTransFits range_trans_spelled) λ range_trans range_trans-fit.
     Reads-part (records_after_spelled (λ nprim. bitmap_at (Some nprim)) (λ nprim row. nprim) spell_bitmap BitmapFits (λ nprim. bitmap_spelled (Some nprim)) types types) λ type_map type_map-fits.
     Reads-done _ (record { contexts = contexts; genfs = genfs; range_trans = range_trans; type_map = type_map }) (record { same = simp (append_assoc, append-nil); fitting = tt })

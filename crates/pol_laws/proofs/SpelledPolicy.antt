@@ -2,7 +2,8 @@
 use Rattle.std.proofs.Common.{◌≡◌, ℕ, Ok, List, [], ◌++◌, drop, refl, sym, ap, ◌∙◌, append_assoc, arith}
 use Rattle.std.proofs.lemmas.List.{append-nil, drop_all}
 use Rattle.pol_cursor.specs.declared.Field.{Field}
-use Rattle.pol_cursor.specs.Outcome.{field}
+use Rattle.pol_cursor.specs.declared.field.Field.{Field}
+use Rattle.pol_cursor.specs.declared.fields.TheConstants.{END_END}
 use Rattle.pol_cursor.specs.Parts.{end_at}
 use Rattle.pol_cursor.specs.Spelling.{AreBytes}
 use Rattle.pol_cursor.proofs.Laws.{Reads-part, Reads-done}
@@ -29,7 +30,7 @@ policy_spelled =
     Reads-part (symbols_spelled front.header.version) λ symbols symbols-fit.
     Reads-part (rule_lists_spelled front.header.version) λ rules rules-fit.
     Reads-part (label_lists_spelled front.header.version symbols.types.nprim) λ labels labels-fit.
-    Reads-part (end_spelled (field 36 1)) λ ended ended-fits.
+    Reads-part (end_spelled END_END) λ ended ended-fits.
     Reads-done _ (record { front = front; symbols = symbols; rules = rules; labels = labels }) (record { same = simp (append_assoc, append-nil); fitting = tt })
 
 pub accepted_is_spelled : (bytes : List ℕ) (policy : Parts) → AreBytes bytes → accept bytes ≡ Ok policy → spell_policy policy ≡ bytes

@@ -1,7 +1,8 @@
 -- The first wrong optional part of a policy, in the order of the file.
 use Rattle.std.specs.Prelude.{ℕ, ◌==◌, not, Option, [], ◌∷◌, length}
 use Rattle.pol_cursor.specs.declared.Field.{Field}
-use Rattle.pol_cursor.specs.Outcome.{field}
+use Rattle.pol_cursor.specs.declared.field.Field.{Field}
+use Rattle.pol_cursor.specs.declared.fields.TheConstants.{BITMAP_UNIT}
 use Rattle.pol_file.specs.declared.RuleLists.{RuleLists}
 use Rattle.pol_file.specs.declared.LabelLists.{LabelLists}
 use Rattle.pol_file.specs.declared.Parts.{Parts}
@@ -25,7 +26,7 @@ shape_of_label_lists version types labels =
     shape_of_contexts version labels.contexts
     ∷ first_placed shape_of_genfs labels.genfs
     ∷ first_placed shape_of_range_trans labels.range_trans
-    ∷ wrong_if (not (length labels.type_map == types)) (field 2 1)
+    ∷ wrong_if (not (length labels.type_map == types)) BITMAP_UNIT
     ∷ [])
 
 -- a whole policy

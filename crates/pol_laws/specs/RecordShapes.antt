@@ -1,7 +1,8 @@
 -- The first wrong optional part of a record, in the order of the file.
 use Rattle.std.specs.Prelude.{ℕ, ◌==◌, Option, [], ◌∷◌}
 use Rattle.pol_cursor.specs.declared.Field.{Field}
-use Rattle.pol_cursor.specs.Outcome.{field}
+use Rattle.pol_cursor.specs.declared.field.Field.{Field}
+use Rattle.pol_cursor.specs.declared.fields.TheConstants.{CONSTRAINT_FLAGS, RANGE_HIGH, AV_XKIND}
 use Rattle.pol_mls.specs.declared.RangeRec.{RangeRec}
 use Rattle.pol_constraints.specs.declared.ConstraintItem.{ConstraintItem}
 use Rattle.pol_constraints.specs.declared.ConstraintRec.{ConstraintRec}
@@ -27,7 +28,7 @@ use Rattle.pol_laws.specs.OptionalParts.{shape_of_part, first_of, first_in}
 
 -- a range has a high level exactly where its number of levels is 2 (libsepol's mls_read_range_helper)
 abbrev pub shape_of_range : RangeRec → Option Field
-shape_of_range range = shape_of_part (range.n == 2) range.high (field 15 3)
+shape_of_range range = shape_of_part (range.n == 2) range.high RANGE_HIGH
 
 -- ---- symbols
 
@@ -36,8 +37,8 @@ shape_of_range range = shape_of_part (range.n == 2) range.high (field 15 3)
 abbrev pub shape_of_item : ℕ → ConstraintItem → Option Field
 shape_of_item version item =
     first_of (
-    shape_of_part (has_names item.kind) item.names (field 7 6)
-    ∷ shape_of_part (has_type_set version item.kind) item.type_set (field 7 6)
+    shape_of_part (has_names item.kind) item.names CONSTRAINT_FLAGS
+    ∷ shape_of_part (has_type_set version item.kind) item.type_set CONSTRAINT_FLAGS
     ∷ [])
 
 -- the items of a constraint
@@ -56,7 +57,7 @@ shape_of_user user = shape_of_range user.range
 
 -- an access vector has the extended part, and no data, exactly where it specifies an extended kind (libsepol's avtab_read_item)
 abbrev pub shape_of_av : AvRec → Option Field
-shape_of_av av = shape_of_part (is_extended av.specified) (xperms_of av.part) (field 16 5)
+shape_of_av av = shape_of_part (is_extended av.specified) (xperms_of av.part) AV_XKIND
 
 -- the rules that hold where the condition of a node is true, and then the others
 abbrev pub shape_of_condnode : CondNodeRec → Option Field

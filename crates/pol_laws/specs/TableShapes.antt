@@ -1,7 +1,8 @@
 -- The first wrong optional part of the tables of a policy, in the order of the file.
 use Rattle.std.specs.Prelude.{ℕ, nat_le, Bool, not, Option, [], ◌∷◌}
 use Rattle.pol_cursor.specs.declared.Field.{Field}
-use Rattle.pol_cursor.specs.Outcome.{field}
+use Rattle.pol_cursor.specs.declared.field.Field.{Field}
+use Rattle.pol_cursor.specs.declared.fields.TheConstants.{NAMETRANS_COUNT, NAMEGROUP_COUNT, IBPKEY_COUNT, IBENDPORT_COUNT}
 use Rattle.pol_symbols.specs.declared.Symbols.{Symbols}
 use Rattle.pol_trans.specs.declared.NameTrans.{NameTrans}
 use Rattle.pol_trans.specs.declared.NameTrans.TheVariants.{Entries, Groups}
@@ -19,8 +20,8 @@ abbrev pub has_groups : ℕ → Bool
 has_groups version = nat_le 33 version
 
 unfoldable pub shape_of_name_transitions : Bool → NameTrans → Option Field
-shape_of_name_transitions grouped (Entries entries) = wrong_if grouped (field 22 1)
-shape_of_name_transitions grouped (Groups groups) = wrong_if (not grouped) (field 23 1)
+shape_of_name_transitions grouped (Entries entries) = wrong_if grouped NAMETRANS_COUNT
+shape_of_name_transitions grouped (Groups groups) = wrong_if (not grouped) NAMEGROUP_COUNT
 
 -- the tables of contexts; those of InfiniBand are empty in the versions that do not have them (libsepol's ocontext_write_selinux)
 unfoldable pub shape_of_contexts : ℕ → Contexts → Option Field
@@ -33,8 +34,8 @@ shape_of_contexts version contexts =
     ∷ first_placed shape_of_address contexts.node
     ∷ first_placed shape_of_fsuse contexts.fsuse
     ∷ first_placed shape_of_address contexts.node6
-    ∷ shape_of_list (has_infiniband version) contexts.ibpkey (field 32 1)
+    ∷ shape_of_list (has_infiniband version) contexts.ibpkey IBPKEY_COUNT
     ∷ first_placed shape_of_ibpkey contexts.ibpkey
-    ∷ shape_of_list (has_infiniband version) contexts.ibendport (field 33 1)
+    ∷ shape_of_list (has_infiniband version) contexts.ibendport IBENDPORT_COUNT
     ∷ first_placed shape_of_ibendport contexts.ibendport
     ∷ [])

@@ -4,7 +4,7 @@ use Rattle.std.specs.Prelude.{nat_le}
 use Rattle.std.specs.List.{AllByRecursion}
 use Rattle.std.proofs.lemmas.List.{append-nil}
 use Rattle.std.proofs.lemmas.Bool.{and_from, eq-eqb, ne_eqb, le-leb}
-use Rattle.pol_cursor.specs.Outcome.{field}
+use Rattle.pol_cursor.specs.declared.fields.TheConstants.{BITMAP_UNIT, BITMAP_HIGHBIT, BITMAP_COUNT, BITMAP_STARTBIT, BITMAP_MAP}
 use Rattle.pol_bitmap.specs.declared.Node.{Node}
 use Rattle.pol_bitmap.specs.Nodes.{IsRisingFrom}
 use Rattle.pol_bitmap.specs.Bitmap.{highbit_test, count_test, start_test, is_out, map_test, node_at, floor_after, nodes_at, bitmap_at, high_of, spell_node, spell_bitmap, NodeFits, BitmapFits}
@@ -22,8 +22,8 @@ node-granted : (limit : Option ℕ) (highbit left floor : ℕ) (n : Node) → Ma
 unfolding node_at
 node-granted limit highbit left floor n may =
     grants-as
-    (grants-then _ (grants-number_if (field 2 4) 4 n.start _ may.fits.0 may.start)
-    (grants-then _ (grants-number_if (field 2 5) 8 n.map _ may.fits.1 may.map)
+    (grants-then _ (grants-number_if BITMAP_STARTBIT 4 n.start _ may.fits.0 may.start)
+    (grants-then _ (grants-number_if BITMAP_MAP 8 n.map _ may.fits.1 may.map)
     (grants-done n refl)))
     (simp append-nil)
 
@@ -73,9 +73,9 @@ unfolding bitmap_at nodes_at
 grants-bitmap limit ns high fits rises within =
     let whole : highbit_test (high_of ns) ≡ None = rw (eq-eqb (high_of ns % 64) 0 (high-whole 0 ns rises)) refl in
     grants-as
-    (grants-then _ (grants-number_if (field 2 1) 4 64 _ (omega arith) refl)
-    (grants-then _ (grants-number_if (field 2 2) 4 (high_of ns) _ high whole)
-    (grants-then _ (grants-number_if (field 2 3) 4 (length ns) _ fits.count (count-stands ns rises))
+    (grants-then _ (grants-number_if BITMAP_UNIT 4 64 _ (omega arith) refl)
+    (grants-then _ (grants-number_if BITMAP_HIGHBIT 4 (high_of ns) _ high whole)
+    (grants-then _ (grants-number_if BITMAP_COUNT 4 (length ns) _ fits.count (count-stands ns rises))
     (grants-list_of (node_at limit (high_of ns)) floor_after spell_node (MayStand limit (high_of ns)) (node-granted limit (high_of ns)) ns 0 (nodes-stand limit 0 0 ns (omega arith) rises fits.nodes within)))))
     (simp append_assoc)
 

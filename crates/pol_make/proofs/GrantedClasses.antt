@@ -5,7 +5,8 @@ use Rattle.std.specs.List.{find, flat_map, AllByRecursion}
 use Rattle.std.specs.Str.{bytes_eq}
 use Rattle.std.proofs.lemmas.Bool.{le-leb}
 use Rattle.std.proofs.lemmas.List.{append-nil}
-use Rattle.pol_cursor.specs.Outcome.{field}
+use Rattle.pol_cursor.specs.declared.field.Field.{Field}
+use Rattle.pol_cursor.specs.declared.fields.TheConstants.{CLASS_LEN, CLASS_LEN2, CLASS_VALUE, CLASS_NPRIM, CLASS_NEL, CLASS_NCONS, CLASS_NAME, CLASS_COMMON, CLASS_NVALID, CLASS_DEFAULT_USER, CLASS_DEFAULT_ROLE, CLASS_DEFAULT_RANGE, CLASS_DEFAULT_TYPE, CONSTRAINT_PERMISSIONS, CONSTRAINT_NEXPR, CONSTRAINT_KIND, CONSTRAINT_ATTR, CONSTRAINT_OP}
 use Rattle.pol_cursor.specs.References.{Placed, values_of}
 use Rattle.pol_cursor.specs.Spelling.{bytes_of}
 use Rattle.pol_symtab.specs.Claims.{Claims}
@@ -37,9 +38,9 @@ item-granted : GrantsOf (item_at 31 false 0 0) same_user (spell_item same_user)
 unfolding item_at
 item-granted =
     grants-as
-    (grants-then _ (grants-number_if (field 7 3) 4 4 _ (omega arith) refl)
-    (grants-then _ (grants-number_if (field 7 4) 4 1 _ (omega arith) refl)
-    (grants-then _ (grants-number_if (field 7 5) 4 1 _ (omega arith) refl)
+    (grants-then _ (grants-number_if CONSTRAINT_KIND 4 4 _ (omega arith) refl)
+    (grants-then _ (grants-number_if CONSTRAINT_ATTR 4 1 _ (omega arith) refl)
+    (grants-then _ (grants-number_if CONSTRAINT_OP 4 1 _ (omega arith) refl)
     (grants-then _ sets-granted
     (grants-done same_user refl)))))
     (simp (append_assoc, append-nil))
@@ -57,8 +58,8 @@ constraint-granted : GrantsOf (constraint_at 31 false) transition_constraint (sp
 unfolding constraint_at
 constraint-granted =
     grants-as
-    (grants-then _ (grants-number (field 7 1) 4 1 (omega arith))
-    (grants-then _ (grants-number_if (field 7 2) 4 1 _ (omega arith) refl)
+    (grants-then _ (grants-number CONSTRAINT_PERMISSIONS 4 1 (omega arith))
+    (grants-then _ (grants-number_if CONSTRAINT_NEXPR 4 1 _ (omega arith) refl)
     (grants-then _ items-granted
     (grants-done transition_constraint refl))))
     (simp (append_assoc, append-nil))
@@ -135,20 +136,20 @@ unfolding head_at common_name_at
 head-granted commons claims nprim inherited class h =
     let fits = h.fits.head in
     grants-as
-    (grants-then _ (grants-length 6 1 (length class.name) h.may.is_name.some fits.len)
-    (grants-then _ (grants-number (field 6 2) 4 (length class.common) fits.common_len)
-    (grants-then _ (grants-number_if (field 6 3) 4 class.value _ fits.value (new_value-stands claims nprim class.value h.may.least h.may.most h.may.value_is_new))
-    (grants-then _ (grants-number_if (field 6 4) 4 class.nprim _ fits.nprim (rw (le-leb class.nprim 32 h.few) refl))
-    (grants-then _ (grants-number (field 6 5) 4 (length class.permissions) fits.nel)
-    (grants-then _ (grants-number (field 6 6) 4 (length class.constraints) fits.ncons)
-    (grants-then _ (grants-name 6 7 claims class.name h.may.is_name h.may.name_is_new)
-    (grants-then _ (grants-string_if (field 6 8) class.common _ h.common)
+    (grants-then _ (grants-length CLASS_LEN (length class.name) h.may.is_name.some fits.len)
+    (grants-then _ (grants-number CLASS_LEN2 4 (length class.common) fits.common_len)
+    (grants-then _ (grants-number_if CLASS_VALUE 4 class.value _ fits.value (new_value-stands claims nprim class.value h.may.least h.may.most h.may.value_is_new))
+    (grants-then _ (grants-number_if CLASS_NPRIM 4 class.nprim _ fits.nprim (rw (le-leb class.nprim 32 h.few) refl))
+    (grants-then _ (grants-number CLASS_NEL 4 (length class.permissions) fits.nel)
+    (grants-then _ (grants-number CLASS_NCONS 4 (length class.constraints) fits.ncons)
+    (grants-then _ (grants-name CLASS_NAME claims class.name h.may.is_name h.may.name_is_new)
+    (grants-then _ (grants-string_if CLASS_COMMON class.common _ h.common)
     (grants-done (head_of class) refl)))))))))
     (simp (append_assoc, append-nil))
 
-default-granted : (part most default : ℕ) → default < 2 ^ 32 → default ≤ most → GrantsOf (default_at part most) default (bytes_of 4 default)
+default-granted : (field : Field) (most default : ℕ) → default < 2 ^ 32 → default ≤ most → GrantsOf (default_at field most) default (bytes_of 4 default)
 unfolding default_at
-default-granted part most default fits few = grants-number_if (field 6 part) 4 default _ fits (rw (le-leb default most few) refl)
+default-granted field most default fits few = grants-number_if field 4 default _ fits (rw (le-leb default most few) refl)
 
 class-granted : (commons : Table CommonRec) (claims : Claims) (nprim : ℕ) (inherited : List PermissionRec) (class : ClassRec) → ClassMay commons claims nprim inherited class → GrantsOf (class_at 31 claims nprim commons) class (spell_class class)
 unfolding class_at
@@ -158,11 +159,11 @@ class-granted commons claims nprim inherited class h =
     (grants-then _ (head-granted commons claims nprim inherited class h)
     (grants-then _ permissions
     (grants-then _ (constraints-granted false class.constraints h.constraints)
-    (grants-then _ (grants-counted (field 6 9) (constraints_at 31 true) spell_constraint class.validatetrans h.fits.validatetrans.count (constraints-granted true class.validatetrans h.validatetrans))
-    (grants-then _ (default-granted 10 2 class.default_user h.fits.default_user h.default_user)
-    (grants-then _ (default-granted 11 2 class.default_role h.fits.default_role h.default_role)
-    (grants-then _ (default-granted 12 7 class.default_range h.fits.default_range h.default_range)
-    (grants-then _ (default-granted 13 2 class.default_type h.fits.default_type h.default_type)
+    (grants-then _ (grants-counted CLASS_NVALID (constraints_at 31 true) spell_constraint class.validatetrans h.fits.validatetrans.count (constraints-granted true class.validatetrans h.validatetrans))
+    (grants-then _ (default-granted CLASS_DEFAULT_USER 2 class.default_user h.fits.default_user h.default_user)
+    (grants-then _ (default-granted CLASS_DEFAULT_ROLE 2 class.default_role h.fits.default_role h.default_role)
+    (grants-then _ (default-granted CLASS_DEFAULT_RANGE 7 class.default_range h.fits.default_range h.default_range)
+    (grants-then _ (default-granted CLASS_DEFAULT_TYPE 2 class.default_type h.fits.default_type h.default_type)
     (grants-done class refl)))))))))
     (simp (append_assoc, append-nil))
 

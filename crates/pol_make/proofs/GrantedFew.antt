@@ -4,7 +4,8 @@ use Rattle.std.specs.Prelude.{◌&&◌, nat_lt}
 use Rattle.std.specs.List.{flat_map, AllByRecursion, range_with_len}
 use Rattle.std.proofs.lemmas.Bool.{and_parts, ltb-true, le-leb}
 use Rattle.std.proofs.lemmas.List.{append-nil}
-use Rattle.pol_cursor.specs.Outcome.{Reader, field}
+use Rattle.pol_cursor.specs.declared.fields.TheConstants.{PERMISSION_LEN, PERMISSION_VALUE, PERMISSION_NAME, COMMON_LEN, COMMON_VALUE, COMMON_NPRIM, COMMON_NEL, COMMON_NAME}
+use Rattle.pol_cursor.specs.Outcome.{Reader}
 use Rattle.pol_bitmap.specs.Bitmap.{bitmap_at, spell_bitmap, BitmapFits}
 use Rattle.pol_symtab.specs.declared.TableContext.{TableContext}
 use Rattle.pol_symtab.specs.Claims.{Claims}
@@ -63,9 +64,9 @@ permission-granted : (listed inherited : List PermissionRec) (p : PermissionRec)
 unfolding permission_at permission_value_at
 permission-granted listed inherited p fits may =
     grants-as
-    (grants-then _ (grants-length 4 1 (length p.name) may.is_name.some fits.len)
-    (grants-then _ (grants-number_if (field 4 2) 4 p.value _ fits.value (new_value-stands (claims_before listed inherited) permission_limit p.value may.least may.most may.value_is_new))
-    (grants-then _ (grants-name 4 3 (claims_before listed inherited) p.name may.is_name may.name_is_new)
+    (grants-then _ (grants-length PERMISSION_LEN (length p.name) may.is_name.some fits.len)
+    (grants-then _ (grants-number_if PERMISSION_VALUE 4 p.value _ fits.value (new_value-stands (claims_before listed inherited) permission_limit p.value may.least may.most may.value_is_new))
+    (grants-then _ (grants-name PERMISSION_NAME (claims_before listed inherited) p.name may.is_name may.name_is_new)
     (grants-done p refl))))
     (simp (append_assoc, append-nil))
 
@@ -102,11 +103,11 @@ common-granted : (claims : Claims) (nprim : ℕ) (common : CommonRec) → Common
 unfolding common_at
 common-granted claims nprim common fits may few stand =
     grants-as
-    (grants-then _ (grants-length 5 1 (length common.name) may.is_name.some fits.len)
-    (grants-then _ (grants-number_if (field 5 2) 4 common.value _ fits.value (new_value-stands claims nprim common.value may.least may.most may.value_is_new))
-    (grants-then _ (grants-number_if (field 5 3) 4 common.nprim _ fits.nprim (rw (le-leb common.nprim 32 few) refl))
-    (grants-then _ (grants-number (field 5 4) 4 (length common.permissions) fits.count)
-    (grants-then _ (grants-name 5 5 claims common.name may.is_name may.name_is_new)
+    (grants-then _ (grants-length COMMON_LEN (length common.name) may.is_name.some fits.len)
+    (grants-then _ (grants-number_if COMMON_VALUE 4 common.value _ fits.value (new_value-stands claims nprim common.value may.least may.most may.value_is_new))
+    (grants-then _ (grants-number_if COMMON_NPRIM 4 common.nprim _ fits.nprim (rw (le-leb common.nprim 32 few) refl))
+    (grants-then _ (grants-number COMMON_NEL 4 (length common.permissions) fits.count)
+    (grants-then _ (grants-name COMMON_NAME claims common.name may.is_name may.name_is_new)
     (grants-then _ (permissions-granted [] common.permissions stand)
     (grants-done common refl)))))))
     (simp (append_assoc, append-nil))

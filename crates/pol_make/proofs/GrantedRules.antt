@@ -4,7 +4,7 @@ use Rattle.std.specs.List.{range_with_len, AllByRecursion}
 use Rattle.std.proofs.Math.Nat.{mod-lt}
 use Rattle.std.proofs.lemmas.List.{append-nil}
 use Rattle.std.proofs.lemmas.List.FromFn.{length-range_with_len}
-use Rattle.pol_cursor.specs.Outcome.{field}
+use Rattle.pol_cursor.specs.declared.fields.TheConstants.{AV_SOURCE, AV_TARGET, AV_CLASS, AV_SPECIFIED, AV_DATA, AVTAB_NEL}
 use Rattle.pol_cursor.specs.Parts.{spell_counted}
 use Rattle.pol_cursor.specs.References.{values_of}
 use Rattle.pol_avtab.specs.declared.AvKey.{AvKey}
@@ -99,11 +99,11 @@ unfolding av_at part_at data_at
 allow-granted context source target class permissions source-fits target-fits class-fits few new =
     let meets : specified_test context.version (Some context.keys) (key_of (allow source target class permissions)) ≡ None = rw new refl in
     grants-as
-    (grants-then _ (grants-number (field 16 1) 2 source source-fits)
-    (grants-then _ (grants-number (field 16 2) 2 target target-fits)
-    (grants-then _ (grants-number (field 16 3) 2 class class-fits)
-    (grants-then _ (grants-number_if (field 16 4) 2 1 _ (omega arith) meets)
-    (grants-then _ (grants-then _ (grants-number (field 16 8) 4 permissions few) (grants-done (Data permissions) refl))
+    (grants-then _ (grants-number AV_SOURCE 2 source source-fits)
+    (grants-then _ (grants-number AV_TARGET 2 target target-fits)
+    (grants-then _ (grants-number AV_CLASS 2 class class-fits)
+    (grants-then _ (grants-number_if AV_SPECIFIED 2 1 _ (omega arith) meets)
+    (grants-then _ (grants-then _ (grants-number AV_DATA 4 permissions few) (grants-done (Data permissions) refl))
     (grants-done (allow source target class permissions) refl))))))
     (simp (append_assoc, append-nil))
 
@@ -137,5 +137,5 @@ unfolding plain_table_at rules_at
 rule_table-granted version n many most =
     let stand = rules-stand n 0 (made_rules n) (no_rules version) (rules-made n many) (rules-numbered n many) tt in
     grants-through (table_at version) (plain_table_at version) (λ rules. values_of rules) (λ avs. avs ≡ made_rules n) (spell_counted spell_av (made_rules n)) (table_unplaced version)
-    (grants-counted (field 17 1) (rules_at version) spell_av (made_rules n) (omega (arith, length-made_rules n, most))
+    (grants-counted AVTAB_NEL (rules_at version) spell_av (made_rules n) (omega (arith, length-made_rules n, most))
     (grants-list_of (λ left context. rule_at context) after_rule spell_av (MayStand n) (λ left context av may. rule-granted n most left context av may) (made_rules n) (no_rules version) stand))

@@ -1,7 +1,9 @@
 -- The initial SID of a policy that is made is read, and so are its other tables, which are empty.
 use Rattle.std.proofs.Common.{◌≡◌, ℕ, ◌^◌, ◌<◌, List, [], ◌∷◌, refl, append_assoc, arith}
 use Rattle.std.proofs.lemmas.List.{append-nil}
-use Rattle.pol_cursor.specs.Outcome.{Reader, field}
+use Rattle.pol_cursor.specs.declared.field.Field.{Field}
+use Rattle.pol_cursor.specs.declared.fields.TheConstants.{RANGE_N, RANGE_LOW, CONTEXT_USER, CONTEXT_ROLE, CONTEXT_TYPE, SID_COUNT, SID_SID}
+use Rattle.pol_cursor.specs.Outcome.{Reader}
 use Rattle.pol_cursor.specs.Parts.{spell_counted}
 use Rattle.pol_mls.specs.RangeRecord.{range_at, spell_range}
 use Rattle.pol_context.specs.declared.ContextRec.{ContextRec}
@@ -20,8 +22,8 @@ pub bare_range-granted : GrantsOf range_at bare_range (spell_range bare_range)
 unfolding range_at
 bare_range-granted =
     grants-as
-    (grants-then _ (grants-number_if (field 15 1) 4 1 _ (omega arith) refl)
-    (grants-then _ (grants-number (field 15 2) 4 1 (omega arith))
+    (grants-then _ (grants-number_if RANGE_N 4 1 _ (omega arith) refl)
+    (grants-then _ (grants-number RANGE_LOW 4 1 (omega arith))
     (grants-then _ (grants-none _)
     (grants-then _ nothing-granted
     (grants-then _ (grants-none _)
@@ -32,9 +34,9 @@ context-granted : (user role type_value : ℕ) → user < 2 ^ 32 → role < 2 ^ 
 unfolding context_at
 context-granted user role type_value user-fits role-fits type-fits =
     grants-as
-    (grants-then _ (grants-number (field 24 1) 4 user user-fits)
-    (grants-then _ (grants-number (field 24 2) 4 role role-fits)
-    (grants-then _ (grants-number (field 24 3) 4 type_value type-fits)
+    (grants-then _ (grants-number CONTEXT_USER 4 user user-fits)
+    (grants-then _ (grants-number CONTEXT_ROLE 4 role role-fits)
+    (grants-then _ (grants-number CONTEXT_TYPE 4 type_value type-fits)
     (grants-then _ bare_range-granted
     (grants-done (record { user = user; role = role; type_value = type_value; range = bare_range }) refl)))))
     (simp (append_assoc, append-nil))
@@ -48,16 +50,16 @@ unfolding sid_at
 sid-granted entry is =
     rw is
     (grants-as
-    (grants-then _ (grants-number (field 25 2) 4 1 (omega arith))
+    (grants-then _ (grants-number SID_SID 4 1 (omega arith))
     (grants-then _ (context-granted 1 2 1 (omega arith) (omega arith) (omega arith))
     (grants-done kernel_sid refl)))
     (simp (append_assoc, append-nil)))
 
-pub sids-granted : GrantsValues (table_at 25 sid_at) made_sids (spell_counted spell_sid made_sids)
+pub sids-granted : GrantsValues (table_at SID_COUNT sid_at) made_sids (spell_counted spell_sid made_sids)
 unfolding table_at made_sids
-sids-granted = grants-entries (field 25 1) sid_at spell_sid (λ entry. entry ≡ kernel_sid) sid-granted (kernel_sid ∷ []) (omega arith) (refl, tt)
+sids-granted = grants-entries SID_COUNT sid_at spell_sid (λ entry. entry ≡ kernel_sid) sid-granted (kernel_sid ∷ []) (omega arith) (refl, tt)
 
 -- an empty table
-pub grants-empty : {A : Type 0} (row : ℕ) (entry_at : Reader A) (spell : A → List ℕ) → GrantsValues (table_at row entry_at) [] (spell_counted spell [])
+pub grants-empty : {A : Type 0} (count : Field) (entry_at : Reader A) (spell : A → List ℕ) → GrantsValues (table_at count entry_at) [] (spell_counted spell [])
 unfolding table_at
-grants-empty row entry_at spell = grants-no_entries (field row 1) entry_at spell
+grants-empty count entry_at spell = grants-no_entries count entry_at spell

@@ -1,7 +1,7 @@
 -- What stands at the head of a policy that is made, and its symbol tables, are read.
 use Rattle.std.proofs.Common.{◌≡◌, ℕ, ◌+◌, ◌≤◌, List, ◌++◌, refl, ap, append_assoc, arith}
 use Rattle.std.proofs.lemmas.List.{append-nil}
-use Rattle.pol_cursor.specs.Outcome.{field}
+use Rattle.pol_cursor.specs.declared.fields.TheConstants.{HEADER_MAGIC, HEADER_IDLEN, HEADER_ID, HEADER_VERSION, HEADER_CONFIG, HEADER_SYMTABS, HEADER_CONTEXTS}
 use Rattle.pol_header.specs.HeaderRecord.{identity, identity_at, counts_at, header_at, spell_identity, spell_counts, spell_header}
 use Rattle.pol_symtab.specs.SymbolTables.{bare, spell_table}
 use Rattle.pol_commons.specs.CommonRecord.{spell_common}
@@ -32,9 +32,9 @@ identity-granted : GrantsOf identity_at tt spell_identity
 unfolding identity_at
 identity-granted =
     grants-as
-    (grants-then _ (grants-number_if (field 1 1) 4 0xf97cff8c _ (omega arith) refl)
-    (grants-then _ (grants-number_if (field 1 2) 4 8 _ (omega arith) refl)
-    (grants-then _ (grants-string_if (field 1 3) identity _ refl)
+    (grants-then _ (grants-number_if HEADER_MAGIC 4 0xf97cff8c _ (omega arith) refl)
+    (grants-then _ (grants-number_if HEADER_IDLEN 4 8 _ (omega arith) refl)
+    (grants-then _ (grants-string_if HEADER_ID identity _ refl)
     (grants-done tt refl))))
     (simp (append_assoc, append-nil))
 
@@ -42,8 +42,8 @@ counts-granted : GrantsOf (counts_at 31) tt (spell_counts 31)
 unfolding counts_at
 counts-granted =
     grants-as
-    (grants-then _ (grants-number_if (field 1 6) 4 8 _ (omega arith) refl)
-    (grants-then _ (grants-number_if (field 1 7) 4 9 _ (omega arith) refl)
+    (grants-then _ (grants-number_if HEADER_SYMTABS 4 8 _ (omega arith) refl)
+    (grants-then _ (grants-number_if HEADER_CONTEXTS 4 9 _ (omega arith) refl)
     (grants-done tt refl)))
     (simp append-nil)
 
@@ -52,8 +52,8 @@ unfolding header_at
 header-granted =
     grants-as
     (grants-then _ identity-granted
-    (grants-then _ (grants-number_if (field 1 4) 4 31 _ (omega arith) refl)
-    (grants-then _ (grants-number_if (field 1 5) 4 5 _ (omega arith) refl)
+    (grants-then _ (grants-number_if HEADER_VERSION 4 31 _ (omega arith) refl)
+    (grants-then _ (grants-number_if HEADER_CONFIG 4 5 _ (omega arith) refl)
     (grants-then _ counts-granted
     (grants-done (record { version = 31; config = 5 }) refl)))))
     (simp (append_assoc, append-nil))

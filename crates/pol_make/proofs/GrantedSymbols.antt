@@ -5,7 +5,8 @@ use Rattle.std.specs.List.{list_all}
 use Rattle.std.proofs.lemmas.Bool.{and_parts, le-leb, leb-true, ltb-true}
 use Rattle.std.proofs.lemmas.List.{append-nil}
 use Rattle.pol_cursor.specs.declared.Cause.{Cause}
-use Rattle.pol_cursor.specs.Outcome.{field}
+use Rattle.pol_cursor.specs.declared.field.Field.{Field}
+use Rattle.pol_cursor.specs.declared.fields.TheConstants.{ROLE_LEN, ROLE_VALUE, ROLE_BOUNDS, ROLE_NAME, TYPE_LEN, TYPE_VALUE, TYPE_PROPERTIES, TYPE_BOUNDS, TYPE_NAME, BOOLEAN_VALUE, BOOLEAN_STATE, BOOLEAN_LEN, BOOLEAN_NAME, SENSITIVITY_LEN, SENSITIVITY_ISALIAS, SENSITIVITY_NAME, SENSITIVITY_SENS, CATEGORY_LEN, CATEGORY_VALUE, CATEGORY_ISALIAS, CATEGORY_NAME}
 use Rattle.pol_cursor.specs.Spelling.{bytes_of}
 use Rattle.pol_bitmap.specs.Bitmap.{bitmap_at, spell_bitmap}
 use Rattle.pol_symtab.specs.Claims.{Claims, has_name, has_value}
@@ -68,32 +69,32 @@ stands-so claims nprim name value e =
 
 -- ---- the parts that symbols have
 
-pub grants-length : (row part n : ℕ) → 1 ≤ n → n < 2 ^ 32 → GrantsOf (symbol_length_at row part) n (bytes_of 4 n)
+pub grants-length : (field : Field) (n : ℕ) → 1 ≤ n → n < 2 ^ 32 → GrantsOf (symbol_length_at field) n (bytes_of 4 n)
 unfolding symbol_length_at
-grants-length row part n some fits = grants-number_if (field row part) 4 n _ fits (rw (le-leb 1 n some) refl)
+grants-length field n some fits = grants-number_if field 4 n _ fits (rw (le-leb 1 n some) refl)
 
-pub grants-name : (row part : ℕ) (claims : Claims) (name : List ℕ) → IsName name → has_name claims name ≡ false → GrantsOf (symbol_name_at row part claims (length name)) name name
+pub grants-name : (field : Field) (claims : Claims) (name : List ℕ) → IsName name → has_name claims name ≡ false → GrantsOf (symbol_name_at field claims (length name)) name name
 unfolding symbol_name_at
-grants-name row part claims name is new = grants-string_if (field row part) name (name_test claims) (rw (is.bytes, new) refl)
+grants-name field claims name is new = grants-string_if field name (name_test claims) (rw (is.bytes, new) refl)
 
 pub new_value-stands : (claims : Claims) (nprim value : ℕ) → 1 ≤ value → value ≤ nprim → has_value claims value ≡ false → new_value_test nprim claims value ≡ None
 new_value-stands claims nprim value least most new = rw (le-leb 1 value least, le-leb value nprim most, new) refl
 
-pub grants-new_value : (row part nprim : ℕ) (claims : Claims) (value : ℕ) → value < 2 ^ 32 → 1 ≤ value → value ≤ nprim → has_value claims value ≡ false → GrantsOf (new_value_at row part nprim claims) value (bytes_of 4 value)
+pub grants-new_value : (field : Field) (nprim : ℕ) (claims : Claims) (value : ℕ) → value < 2 ^ 32 → 1 ≤ value → value ≤ nprim → has_value claims value ≡ false → GrantsOf (new_value_at field nprim claims) value (bytes_of 4 value)
 unfolding new_value_at
-grants-new_value row part nprim claims value fits least most new = grants-number_if (field row part) 4 value _ fits (new_value-stands claims nprim value least most new)
+grants-new_value field nprim claims value fits least most new = grants-number_if field 4 value _ fits (new_value-stands claims nprim value least most new)
 
-pub grants-value : (row part nprim value : ℕ) → value < 2 ^ 32 → 1 ≤ value → value ≤ nprim → GrantsOf (value_at row part nprim) value (bytes_of 4 value)
+pub grants-value : (field : Field) (nprim value : ℕ) → value < 2 ^ 32 → 1 ≤ value → value ≤ nprim → GrantsOf (value_at field nprim) value (bytes_of 4 value)
 unfolding value_at
-grants-value row part nprim value fits least most = grants-number_if (field row part) 4 value _ fits (rw (le-leb 1 value least, le-leb value nprim most) refl)
+grants-value field nprim value fits least most = grants-number_if field 4 value _ fits (rw (le-leb 1 value least, le-leb value nprim most) refl)
 
-pub grants-bounds : (row part bounds : ℕ) → bounds < 2 ^ 32 → GrantsOf (bounds_at row part) bounds (bytes_of 4 bounds)
+pub grants-bounds : (field : Field) (bounds : ℕ) → bounds < 2 ^ 32 → GrantsOf (bounds_at field) bounds (bytes_of 4 bounds)
 unfolding bounds_at
-grants-bounds row part bounds fits = grants-number (field row part) 4 bounds fits
+grants-bounds field bounds fits = grants-number field 4 bounds fits
 
-grants-flag : (row part flag : ℕ) → flag ≤ 1 → GrantsOf (flag_at row part) flag (bytes_of 4 flag)
+grants-flag : (field : Field) (flag : ℕ) → flag ≤ 1 → GrantsOf (flag_at field) flag (bytes_of 4 flag)
 unfolding flag_at
-grants-flag row part flag fits = grants-number_if (field row part) 4 flag _ (omega arith) (rw (le-leb flag 1 fits) refl)
+grants-flag field flag fits = grants-number_if field 4 flag _ (omega arith) (rw (le-leb flag 1 fits) refl)
 
 -- where the value is new, it is new for a primary record
 new-primary : (primary taken : Bool) (cause : Cause) → taken ≡ false → cond (primary && taken) (Some cause) None ≡ None
@@ -107,10 +108,10 @@ pub role-granted : (claims : Claims) (nprim : ℕ) (role : RoleRec) → RoleFits
 unfolding role_at
 role-granted claims nprim role fits may dominates types =
     grants-as
-    (grants-then _ (grants-length 8 1 (length role.name) may.is_name.some fits.len)
-    (grants-then _ (grants-new_value 8 2 nprim claims role.value fits.value may.least may.most may.value_is_new)
-    (grants-then _ (grants-bounds 8 3 role.bounds fits.bounds)
-    (grants-then _ (grants-name 8 4 claims role.name may.is_name may.name_is_new)
+    (grants-then _ (grants-length ROLE_LEN (length role.name) may.is_name.some fits.len)
+    (grants-then _ (grants-new_value ROLE_VALUE nprim claims role.value fits.value may.least may.most may.value_is_new)
+    (grants-then _ (grants-bounds ROLE_BOUNDS role.bounds fits.bounds)
+    (grants-then _ (grants-name ROLE_NAME claims role.name may.is_name may.name_is_new)
     (grants-then _ dominates
     (grants-then _ types
     (grants-done role refl)))))))
@@ -120,11 +121,11 @@ pub type-granted : (claims : Claims) (nprim : ℕ) (t : TypeRec) → TypeFits t 
 unfolding type_at
 type-granted claims nprim t fits may =
     grants-as
-    (grants-then _ (grants-length 9 1 (length t.name) may.is_name.some fits.len)
-    (grants-then _ (grants-value 9 2 nprim t.value fits.value may.least may.most)
-    (grants-then _ (grants-number_if (field 9 3) 4 t.properties _ fits.properties (new-primary (is_primary_type t.properties) (has_value claims t.value) _ may.value_is_new))
-    (grants-then _ (grants-bounds 9 4 t.bounds fits.bounds)
-    (grants-then _ (grants-name 9 5 claims t.name may.is_name may.name_is_new)
+    (grants-then _ (grants-length TYPE_LEN (length t.name) may.is_name.some fits.len)
+    (grants-then _ (grants-value TYPE_VALUE nprim t.value fits.value may.least may.most)
+    (grants-then _ (grants-number_if TYPE_PROPERTIES 4 t.properties _ fits.properties (new-primary (is_primary_type t.properties) (has_value claims t.value) _ may.value_is_new))
+    (grants-then _ (grants-bounds TYPE_BOUNDS t.bounds fits.bounds)
+    (grants-then _ (grants-name TYPE_NAME claims t.name may.is_name may.name_is_new)
     (grants-done t refl))))))
     (simp (append_assoc, append-nil))
 
@@ -132,10 +133,10 @@ pub boolean-granted : (claims : Claims) (nprim : ℕ) (boolean : BooleanRec) →
 unfolding boolean_at
 boolean-granted claims nprim boolean fits may state =
     grants-as
-    (grants-then _ (grants-new_value 11 1 nprim claims boolean.value fits.value may.least may.most may.value_is_new)
-    (grants-then _ (grants-flag 11 2 boolean.state state)
-    (grants-then _ (grants-length 11 3 (length boolean.name) may.is_name.some fits.len)
-    (grants-then _ (grants-name 11 4 claims boolean.name may.is_name may.name_is_new)
+    (grants-then _ (grants-new_value BOOLEAN_VALUE nprim claims boolean.value fits.value may.least may.most may.value_is_new)
+    (grants-then _ (grants-flag BOOLEAN_STATE boolean.state state)
+    (grants-then _ (grants-length BOOLEAN_LEN (length boolean.name) may.is_name.some fits.len)
+    (grants-then _ (grants-name BOOLEAN_NAME claims boolean.name may.is_name may.name_is_new)
     (grants-done boolean refl)))))
     (simp (append_assoc, append-nil))
 
@@ -143,10 +144,10 @@ pub level-granted : (claims : Claims) (nprim : ℕ) (level : SensitivityRec) →
 unfolding sensitivity_at sens_at
 level-granted claims nprim level fits may isalias categories =
     grants-as
-    (grants-then _ (grants-length 12 1 (length level.name) may.is_name.some fits.len)
-    (grants-then _ (grants-flag 12 2 level.isalias isalias)
-    (grants-then _ (grants-name 12 3 claims level.name may.is_name may.name_is_new)
-    (grants-then _ (grants-number_if (field 12 4) 4 level.sens _ fits.sens (rw (le-leb 1 level.sens may.least, le-leb level.sens nprim may.most) (new-primary (is_primary_flag level.isalias) (has_value claims level.sens) _ may.value_is_new)))
+    (grants-then _ (grants-length SENSITIVITY_LEN (length level.name) may.is_name.some fits.len)
+    (grants-then _ (grants-flag SENSITIVITY_ISALIAS level.isalias isalias)
+    (grants-then _ (grants-name SENSITIVITY_NAME claims level.name may.is_name may.name_is_new)
+    (grants-then _ (grants-number_if SENSITIVITY_SENS 4 level.sens _ fits.sens (rw (le-leb 1 level.sens may.least, le-leb level.sens nprim may.most) (new-primary (is_primary_flag level.isalias) (has_value claims level.sens) _ may.value_is_new)))
     (grants-then _ categories
     (grants-done level refl))))))
     (simp (append_assoc, append-nil))
@@ -155,9 +156,9 @@ pub category-granted : (claims : Claims) (nprim : ℕ) (category : CategoryRec) 
 unfolding category_at
 category-granted claims nprim category fits may isalias =
     grants-as
-    (grants-then _ (grants-length 13 1 (length category.name) may.is_name.some fits.len)
-    (grants-then _ (grants-value 13 2 nprim category.value fits.value may.least may.most)
-    (grants-then _ (grants-number_if (field 13 3) 4 category.isalias _ fits.isalias (rw (le-leb category.isalias 1 isalias) (new-primary (is_primary_flag category.isalias) (has_value claims category.value) _ may.value_is_new)))
-    (grants-then _ (grants-name 13 4 claims category.name may.is_name may.name_is_new)
+    (grants-then _ (grants-length CATEGORY_LEN (length category.name) may.is_name.some fits.len)
+    (grants-then _ (grants-value CATEGORY_VALUE nprim category.value fits.value may.least may.most)
+    (grants-then _ (grants-number_if CATEGORY_ISALIAS 4 category.isalias _ fits.isalias (rw (le-leb category.isalias 1 isalias) (new-primary (is_primary_flag category.isalias) (has_value claims category.value) _ may.value_is_new)))
+    (grants-then _ (grants-name CATEGORY_NAME claims category.name may.is_name may.name_is_new)
     (grants-done category refl)))))
     (simp (append_assoc, append-nil))

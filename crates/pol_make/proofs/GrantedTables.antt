@@ -4,7 +4,9 @@ use Rattle.std.specs.List.{flat_map, AllByRecursion}
 use Rattle.std.proofs.lemmas.List.{append-nil}
 use Rattle.std.proofs.lemmas.Bool.{le-leb}
 use Rattle.pol_cursor.specs.declared.Field.{Field}
-use Rattle.pol_cursor.specs.Outcome.{Reader, field}
+use Rattle.pol_cursor.specs.declared.field.Field.{Field}
+use Rattle.pol_cursor.specs.declared.fields.TheConstants.{TABLE_NPRIM, TABLE_NEL}
+use Rattle.pol_cursor.specs.Outcome.{Reader}
 use Rattle.pol_cursor.specs.Parts.{number, list_of, records_at, counted, spell_counted}
 use Rattle.pol_cursor.specs.References.{Placed, placed, values_of}
 use Rattle.pol_cursor.specs.Contexts.{records_after}
@@ -53,8 +55,8 @@ unfolding table_head_at
 head-granted nprim nel small few =
     let meets : nprim_test nprim ≡ None = rw (le-leb nprim 65535 small) refl in
     grants-as
-    (grants-then _ (grants-number_if (field 3 1) 4 nprim _ (omega (arith, small)) meets)
-    (grants-then _ (grants-number (field 3 2) 4 nel few)
+    (grants-then _ (grants-number_if TABLE_NPRIM 4 nprim _ (omega (arith, small)) meets)
+    (grants-then _ (grants-number TABLE_NEL 4 nel few)
     (grants-done (record { nprim = nprim; nel = nel }) refl)))
     (simp append-nil)
 

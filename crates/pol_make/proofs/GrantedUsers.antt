@@ -2,7 +2,8 @@
 use Rattle.std.proofs.Common.{◌≡◌, ℕ, true, None, length, refl, append_assoc, arith}
 use Rattle.std.specs.List.{AllByRecursion}
 use Rattle.std.proofs.lemmas.List.{append-nil}
-use Rattle.pol_cursor.specs.Outcome.{Reader, field}
+use Rattle.pol_cursor.specs.declared.fields.TheConstants.{USER_LEN, USER_VALUE, USER_BOUNDS, USER_NAME, LEVEL_SENS, RANGE_N, RANGE_LOW, RANGE_HIGH}
+use Rattle.pol_cursor.specs.Outcome.{Reader}
 use Rattle.pol_bitmap.specs.Bitmap.{bitmap_at, spell_bitmap}
 use Rattle.pol_mls.specs.LevelRecord.{level_at, spell_level, LevelFits}
 use Rattle.pol_mls.specs.RangeRecord.{range_at, spell_range, RangeFits}
@@ -28,7 +29,7 @@ bare_level-granted : GrantsOf level_at bare_level (spell_level bare_level)
 unfolding level_at
 bare_level-granted =
     grants-as
-    (grants-then _ (grants-number (field 14 1) 4 1 (omega arith))
+    (grants-then _ (grants-number LEVEL_SENS 4 1 (omega arith))
     (grants-then _ nothing-granted
     (grants-done bare_level refl)))
     (simp (append_assoc, append-nil))
@@ -40,9 +41,9 @@ whole_range-granted : GrantsOf range_at whole_range (spell_range whole_range)
 unfolding range_at
 whole_range-granted =
     grants-as
-    (grants-then _ (grants-number_if (field 15 1) 4 2 _ (omega arith) refl)
-    (grants-then _ (grants-number (field 15 2) 4 1 (omega arith))
-    (grants-then _ (grants-some (grants-number (field 15 3) 4 1 (omega arith)))
+    (grants-then _ (grants-number_if RANGE_N 4 2 _ (omega arith) refl)
+    (grants-then _ (grants-number RANGE_LOW 4 1 (omega arith))
+    (grants-then _ (grants-some (grants-number RANGE_HIGH 4 1 (omega arith)))
     (grants-then _ nothing-granted
     (grants-then _ (grants-some (first_bits-granted 1024 (omega arith)))
     (grants-done whole_range refl))))))
@@ -55,10 +56,10 @@ user-granted : (claims : Claims) (nprim : ℕ) (user : UserRec) → UserFits use
 unfolding user_at
 user-granted claims nprim user fits may roles range level =
     grants-as
-    (grants-then _ (grants-length 10 1 (length user.name) may.is_name.some fits.len)
-    (grants-then _ (grants-new_value 10 2 nprim claims user.value fits.value may.least may.most may.value_is_new)
-    (grants-then _ (grants-bounds 10 3 user.bounds fits.bounds)
-    (grants-then _ (grants-name 10 4 claims user.name may.is_name may.name_is_new)
+    (grants-then _ (grants-length USER_LEN (length user.name) may.is_name.some fits.len)
+    (grants-then _ (grants-new_value USER_VALUE nprim claims user.value fits.value may.least may.most may.value_is_new)
+    (grants-then _ (grants-bounds USER_BOUNDS user.bounds fits.bounds)
+    (grants-then _ (grants-name USER_NAME claims user.name may.is_name may.name_is_new)
     (grants-then _ roles
     (grants-then _ range
     (grants-then _ level

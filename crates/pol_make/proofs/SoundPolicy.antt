@@ -2,7 +2,8 @@
 use Rattle.std.proofs.Common.{◌≡◌, ℕ, ◌+◌, ◌≤◌, None, [], ◌++◌, length, refl, sym, ap, subst, append_assoc, arith}
 use Rattle.std.proofs.lemmas.List.{append-nil}
 use Rattle.std.proofs.lemmas.Bool.{le-leb}
-use Rattle.pol_cursor.specs.Outcome.{Outcome, Got, Bad, field}
+use Rattle.pol_cursor.specs.declared.fields.TheConstants.{END_END}
+use Rattle.pol_cursor.specs.Outcome.{Outcome, Got, Bad}
 use Rattle.pol_header.specs.declared.HeaderRec.{HeaderRec}
 use Rattle.pol_symtab.specs.SymbolTables.{BareTable}
 use Rattle.pol_datums.specs.declared.TypeRec.{TypeRec}
@@ -49,7 +50,7 @@ policy-granted n allowed =
     grants-to_last _ (subst (λ (version : ℕ). Grants (rule_lists_at version) (HasRules (made n)) (spell_rules (made n))) same (rule_lists-granted n many most)) λ rules has_rules.
     let labels-granted = subst (λ (types : ℕ). Grants (label_lists_at 31 types) (HasLabels (made n)) (spell_labels (made n))) (type-count n symbols has_symbols) (label_lists-granted n many most) in
     grants-to_last _ (subst (λ (version : ℕ). Grants (label_lists_at version symbols.types.nprim) (HasLabels (made n)) (spell_labels (made n))) same labels-granted) λ labels has_labels.
-    grants-end (field 36 1) (record { front = front; symbols = symbols; rules = rules; labels = labels }) (all-declared n many (record { front = front; symbols = symbols; rules = rules; labels = labels }) has_symbols has_rules has_labels))
+    grants-end END_END (record { front = front; symbols = symbols; rules = rules; labels = labels }) (all-declared n many (record { front = front; symbols = symbols; rules = rules; labels = labels }) has_symbols has_rules has_labels))
     (simp (append_assoc, append-nil))
 
 -- ---- it is accepted

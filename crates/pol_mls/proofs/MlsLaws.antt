@@ -2,7 +2,8 @@
 use Rattle.std.proofs.Common.{[], subst, Bool, Option, Some, None, List, ◌<◌, ◌^◌, ◌≡◌, ℕ, refl, sym, append_assoc}
 use Rattle.std.proofs.lemmas.List.{append-nil}
 use Rattle.std.specs.Prelude.{◌==◌, option_map}
-use Rattle.pol_cursor.specs.Outcome.{done, field}
+use Rattle.pol_cursor.specs.declared.fields.TheConstants.{LEVEL_SENS, RANGE_N, RANGE_LOW, RANGE_HIGH}
+use Rattle.pol_cursor.specs.Outcome.{done}
 use Rattle.pol_cursor.specs.Parts.{spell_optional, OptionFits}
 use Rattle.pol_cursor.specs.Spelling.{bytes_of}
 use Rattle.pol_cursor.specs.Laws.{Again, IsReadAgain, IsReadFromSpelling}
@@ -19,7 +20,7 @@ use Rattle.pol_mls.specs.RangeRecord.{level_of, range_at, spell_range, RangeFits
 pub level_spelled : IsReadFromSpelling level_at spell_level LevelFits
 unfolding level_at
 level_spelled =
-    Reads-part (Reads-number (field 14 1) 4) λ sens sens-fits.
+    Reads-part (Reads-number LEVEL_SENS 4) λ sens sens-fits.
     Reads-part (bitmap_spelled None) λ categories categories-fits.
     Reads-done _ (record { sens = sens; categories = categories }) (record {
       same = simp (append_assoc, append-nil);
@@ -30,7 +31,7 @@ pub level_again : IsReadAgain level_at spell_level LevelFits
 unfolding level_at
 level_again level fits =
     Again-as
-    (Again-part _ (Again-number (field 14 1) 4 level.sens fits.sens)
+    (Again-part _ (Again-number LEVEL_SENS 4 level.sens fits.sens)
     (Again-part _ (bitmap_again None level.categories fits.categories)
     (Again-done level)))
     (simp (append_assoc, append-nil))
@@ -75,9 +76,9 @@ level_of_parts (Some level) = refl
 pub range_spelled : IsReadFromSpelling range_at spell_range RangeFits
 unfolding range_at
 range_spelled =
-    Reads-part (Reads-number_if (field 15 1) 4) λ n n-fits.
-    Reads-part (Reads-number (field 15 2) 4) λ low low-fits.
-    Reads-part (Reads-optional (n == 2) (Reads-number (field 15 3) 4)) λ high high-is.
+    Reads-part (Reads-number_if RANGE_N 4) λ n n-fits.
+    Reads-part (Reads-number RANGE_LOW 4) λ low low-fits.
+    Reads-part (Reads-optional (n == 2) (Reads-number RANGE_HIGH 4)) λ high high-is.
     Reads-part (bitmap_spelled None) λ low_categories low_categories-fits.
     Reads-part (Reads-optional (n == 2) (bitmap_spelled None)) λ high_categories more-is.
     Reads-done _ (record { n = n; low = low; low_categories = low_categories; high = level_of high high_categories }) (record {
@@ -91,9 +92,9 @@ range_again range fits =
     let whole : Again (done (record range { high = level_of (option_map (λ level. level.sens) range.high) (option_map (λ level. level.categories) range.high) })) range [] =
     subst (λ (high : Option LevelRec). Again (done (record range { high = high })) range []) (sym (level_of_parts range.high)) (Again-done range) in
     Again-as
-    (Again-part _ (Again-number_if (field 15 1) 4 range.n _ fits.n)
-    (Again-part _ (Again-number (field 15 2) 4 range.low fits.low)
-    (Again-part _ (Again-optional (range.n == 2) (bytes_of 4) (λ n. n < 256 ^ 4) (option_map (λ level. level.sens) range.high) (λ n lt. Again-number (field 15 3) 4 n lt) (sens_fits (range.n == 2) range.high fits.high))
+    (Again-part _ (Again-number_if RANGE_N 4 range.n _ fits.n)
+    (Again-part _ (Again-number RANGE_LOW 4 range.low fits.low)
+    (Again-part _ (Again-optional (range.n == 2) (bytes_of 4) (λ n. n < 256 ^ 4) (option_map (λ level. level.sens) range.high) (λ n lt. Again-number RANGE_HIGH 4 n lt) (sens_fits (range.n == 2) range.high fits.high))
     (Again-part _ (bitmap_again None range.low_categories fits.low_categories)
     (Again-part _ (Again-optional (range.n == 2) spell_bitmap BitmapFits (option_map (λ level. level.categories) range.high) (bitmap_again None) (categories_fit (range.n == 2) range.high fits.high))
     whole)))))

@@ -1,7 +1,8 @@
 -- Record 14: a level of MLS, which is a sensitivity and a set of categories (libsepol's mls_read_level).
 use Rattle.std.specs.Prelude.{ℕ, ◌+◌, ◌*◌, ◌^◌, ◌<◌, None, List, [], ◌∷◌, ◌++◌, length}
 use Rattle.pol_cursor.specs.declared.table_kind.TableKind.TheVariants.{Levels}
-use Rattle.pol_cursor.specs.Outcome.{Reader, field, ◌>>=◌, done}
+use Rattle.pol_cursor.specs.declared.fields.TheConstants.{LEVEL_SENS}
+use Rattle.pol_cursor.specs.Outcome.{Reader, ◌>>=◌, done}
 use Rattle.pol_cursor.specs.Parts.{num, number}
 use Rattle.pol_cursor.specs.References.{Placed, Reference}
 use Rattle.pol_cursor.specs.Spelling.{bytes_of}
@@ -13,7 +14,7 @@ use Rattle.pol_mls.specs.declared.level_rec.LevelRec.{LevelRec}
 
 unfoldable pub level_at : Reader LevelRec
 level_at = do
-  sens ← number (field 14 1) 4
+  sens ← number LEVEL_SENS 4
   categories ← bitmap_at None
   done (record { sens = sens; categories = categories })
 
@@ -46,4 +47,4 @@ HasLevel bytes place = HasBitmap bytes (place + 4)
 
 -- the sensitivity
 abbrev pub level_references : Placed LevelRec → List Reference
-level_references level = record { place = level.place; field = field 14 1; table = Levels; value = level.value.sens } ∷ []
+level_references level = record { place = level.place; field = LEVEL_SENS; table = Levels; value = level.value.sens } ∷ []

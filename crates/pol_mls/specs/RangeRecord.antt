@@ -3,7 +3,8 @@ use Rattle.std.specs.Prelude.{ℕ, ◌+◌, ◌*◌, ◌^◌, ◌<◌, ◌≡◌
 use Rattle.pol_cursor.specs.declared.fault.Cause.{Cause}
 use Rattle.pol_cursor.specs.declared.fault.Cause.TheVariants.{BadRange}
 use Rattle.pol_cursor.specs.declared.table_kind.TableKind.TheVariants.{Levels}
-use Rattle.pol_cursor.specs.Outcome.{Reader, field, ◌>>=◌, done}
+use Rattle.pol_cursor.specs.declared.fields.TheConstants.{RANGE_N, RANGE_LOW, RANGE_HIGH}
+use Rattle.pol_cursor.specs.Outcome.{Reader, ◌>>=◌, done}
 use Rattle.pol_cursor.specs.Parts.{num, number, number_if, unless, optional, spell_optional, OptionFits}
 use Rattle.pol_cursor.specs.References.{Placed, Reference}
 use Rattle.pol_cursor.specs.Spelling.{bytes_of}
@@ -29,9 +30,9 @@ level_of None categories = None
 -- Both numbers stand before both bitmaps.
 unfoldable pub range_at : Reader RangeRec
 range_at = do
-  n ← number_if (field 15 1) 4 n_test
-  low ← number (field 15 2) 4
-  high ← optional (n == 2) (number (field 15 3) 4)
+  n ← number_if RANGE_N 4 n_test
+  low ← number RANGE_LOW 4
+  high ← optional (n == 2) (number RANGE_HIGH 4)
   low_categories ← bitmap_at None
   high_categories ← optional (n == 2) (bitmap_at None)
   done (record { n = n; low = low; low_categories = low_categories; high = level_of high high_categories })
@@ -95,8 +96,8 @@ HasRange bytes place = (n_test (num bytes place 4) ≡ None) × HasBitmap bytes 
 
 abbrev pub high_references : ℕ → Option LevelRec → List Reference
 high_references place None = []
-high_references place (Some level) = record { place = place; field = field 15 3; table = Levels; value = level.sens } ∷ []
+high_references place (Some level) = record { place = place; field = RANGE_HIGH; table = Levels; value = level.sens } ∷ []
 
 -- the low sensitivity, and then the high one
 abbrev pub range_references : Placed RangeRec → List Reference
-range_references range = record { place = range.place + 4; field = field 15 2; table = Levels; value = range.value.low } ∷ high_references (range.place + 8) range.value.high
+range_references range = record { place = range.place + 4; field = RANGE_LOW; table = Levels; value = range.value.low } ∷ high_references (range.place + 8) range.value.high

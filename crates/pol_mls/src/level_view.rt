@@ -5,12 +5,10 @@ ghost use Rattle.pol_mls.specs.LevelRecord.{level_at, level_in, level_length, le
 
 use crate::level_rec::LevelRec;
 use pol_bitmap::{BitmapView, Set};
-use pol_cursor::{Cursor, Fault, Field, Names, TableKind, dangling, u32_in};
+use pol_cursor::fields::LEVEL_SENS;
+use pol_cursor::{Cursor, Fault, Names, TableKind, dangling, u32_in};
 use std::alloc::{AllocError, Global};
 use std::marker::Model;
-
-// The code of a level's record.
-const LEVEL: u8 = 14;
 
 /// A level in the buffer.
 #[derive(Drop)]
@@ -66,11 +64,13 @@ impl<'a> LevelView<'a> {
     pub fn dangling<N: Names>(&self, names: &N) -> Option<Fault>
         ensures { result ≡ dangling_of (N.named names.now) (level_references self.now) }
     {
-        let field = Field {
-            row: LEVEL,
-            part: 1,
-        };
-        dangling(names, self.place, field, TableKind::Levels, self.sens())
+        dangling(
+            names,
+            self.place,
+            LEVEL_SENS,
+            TableKind::Levels,
+            self.sens(),
+        )
     }
 
     /// A copy of the level.
@@ -93,10 +93,7 @@ pub fn read_level<'a>(c: &mut Cursor<'a>) -> Result<LevelView<'a>, Fault>
 {
     let bytes = c.bytes();
     let place = c.place();
-    c.u32(Field {
-        row: LEVEL,
-        part: 1,
-    })?;
+    c.u32(LEVEL_SENS)?;
     BitmapView::read(c)?;
     Ok(LevelView { bytes, place })
 }

@@ -1,5 +1,5 @@
 ghost use Rattle.std.specs.Prelude.{◌≡◌, ◌+◌, ◌==◌, ◌||◌, IfOk, OnOk, IsTrue, option_map, Some, None, if◌then◌else◌};
-ghost use Rattle.pol_cursor.specs.Outcome.{Answers, field};
+ghost use Rattle.pol_cursor.specs.Outcome.{Answers};
 ghost use Rattle.pol_cursor.specs.Parts.{num, number, optional};
 ghost use Rattle.pol_cursor.specs.References.{dangling_of};
 ghost use Rattle.pol_bitmap.specs.Bitmap.{bitmap_at};
@@ -10,12 +10,10 @@ use crate::causes::n_cause;
 use crate::level_rec::LevelRec;
 use crate::range_rec::RangeRec;
 use pol_bitmap::{BitmapView, Set};
-use pol_cursor::{Cursor, Fault, Field, Names, TableKind, dangling, refuse, u32_in};
+use pol_cursor::fields::{RANGE_HIGH, RANGE_LOW, RANGE_N};
+use pol_cursor::{Cursor, Fault, Names, TableKind, dangling, refuse, u32_in};
 use std::alloc::{AllocError, Global};
 use std::marker::Model;
-
-// The code of a range's record.
-const RANGE: u8 = 15;
 
 /// A range of levels in the buffer.
 #[derive(Drop)]
@@ -106,11 +104,13 @@ impl<'a> RangeView<'a> {
     pub fn dangling<N: Names>(&self, names: &N) -> Option<Fault>
         ensures { result ≡ dangling_of (N.named names.now) (range_references self.now) }
     {
-        let field = Field {
-            row: RANGE,
-            part: 2,
-        };
-        match dangling(names, self.place + 4, field, TableKind::Levels, self.low()) {
+        match dangling(
+            names,
+            self.place + 4,
+            RANGE_LOW,
+            TableKind::Levels,
+            self.low(),
+        ) {
             Some(fault) => Some(fault),
             None => self.dangling_high(names),
         }
@@ -119,12 +119,8 @@ impl<'a> RangeView<'a> {
     fn dangling_high<N: Names>(&self, names: &N) -> Option<Fault>
         ensures { result ≡ dangling_of (N.named names.now) (high_references (self.now.place + 8) self.now.value.high) }
     {
-        let field = Field {
-            row: RANGE,
-            part: 3,
-        };
         match self.high() {
-            Some(high) => dangling(names, self.place + 8, field, TableKind::Levels, high),
+            Some(high) => dangling(names, self.place + 8, RANGE_HIGH, TableKind::Levels, high),
             None => None,
         }
     }
@@ -170,16 +166,9 @@ pub fn read_range<'a>(c: &mut Cursor<'a>) -> Result<RangeView<'a>, Fault>
 {
     let bytes = c.bytes();
     let place = c.place();
-    let field = Field {
-        row: RANGE,
-        part: 1,
-    };
-    let n = c.u32(field)?;
-    refuse(n_cause(n), place, field)?;
-    c.u32(Field {
-        row: RANGE,
-        part: 2,
-    })?;
+    let n = c.u32(RANGE_N)?;
+    refuse(n_cause(n), place, RANGE_N)?;
+    c.u32(RANGE_LOW)?;
     pass_high(c, n == 2)?;
     BitmapView::read(c)?;
     pass_high_categories(c, n == 2)?;
@@ -189,15 +178,12 @@ pub fn read_range<'a>(c: &mut Cursor<'a>) -> Result<RangeView<'a>, Fault>
 // Reads the high number, where there is one.
 #[tactic(auto, unfolding(pol_cursor::specs::Parts::optional), using(pol_cursor::proofs::Facts::number_is))]
 fn pass_high(c: &mut Cursor<'_>, there: bool) -> Result<Option<u32>, Fault>
-    ensures exact { Answers (λ high. high) result (optional there (number (field 15 3) 4)) c.old c.new }
+    ensures exact { Answers (λ high. high) result (optional there (number RANGE_HIGH 4)) c.old c.new }
     ensures is { IfOk result (λ high. high ≡ (if there then Some (num c.old.bytes c.old.place 4) else None)) }
     ensures next { OnOk result (c.new.place ≡ c.old.place + (if there then 4 else 0)) }
 {
     if there {
-        let high = c.u32(Field {
-            row: RANGE,
-            part: 3,
-        })?;
+        let high = c.u32(RANGE_HIGH)?;
         Ok(Some(high))
     } else {
         Ok(None)

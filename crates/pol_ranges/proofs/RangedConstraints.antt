@@ -2,8 +2,8 @@
 use Rattle.std.proofs.Common.{ℕ, ◌<◌, ◌^◌, None, refl, arith}
 use Rattle.std.specs.Prelude.{IfSome}
 use Rattle.std.proofs.lemmas.List.{length-append}
+use Rattle.pol_cursor.specs.declared.fields.TheConstants.{CONSTRAINT_FLAGS}
 use Rattle.pol_cursor.proofs.Numbers.{length-bytes_of}
-use Rattle.pol_cursor.specs.Outcome.{field}
 use Rattle.pol_bitmap.specs.Bitmap.{spell_bitmap, BitmapFits}
 use Rattle.pol_constraints.specs.declared.TypeSet.{TypeSet}
 use Rattle.pol_constraints.specs.declared.ConstraintItem.{ConstraintItem}
@@ -36,8 +36,8 @@ item_ranged version item kind attr op names type_set = record {
         kind = kind;
         attr = attr;
         op = op;
-        names = optional_fits BitmapFits spell_bitmap (has_names item.kind) item.names (field 7 6) names rights.0 (omega (arith, each));
-        type_set = optional_fits TypeSetFits spell_type_set (has_type_set version item.kind) item.type_set (field 7 6) type_set (none_each _ _ rights.1).0 (omega (arith, each));
+        names = optional_fits BitmapFits spell_bitmap (has_names item.kind) item.names CONSTRAINT_FLAGS names rights.0 (omega (arith, each));
+        type_set = optional_fits TypeSetFits spell_type_set (has_type_set version item.kind) item.type_set CONSTRAINT_FLAGS type_set (none_each _ _ rights.1).0 (omega (arith, each));
       };
 }
 

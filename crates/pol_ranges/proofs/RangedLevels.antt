@@ -2,8 +2,8 @@
 use Rattle.std.proofs.Common.{◌≡◌, ◌+◌, ◌<◌, ◌^◌, ◌==◌, Option, Some, None, length, refl, arith}
 use Rattle.std.specs.Prelude.{IfSome}
 use Rattle.std.proofs.lemmas.List.{length-append}
+use Rattle.pol_cursor.specs.declared.fields.TheConstants.{RANGE_HIGH}
 use Rattle.pol_cursor.proofs.Numbers.{length-bytes_of}
-use Rattle.pol_cursor.specs.Outcome.{field}
 use Rattle.pol_cursor.specs.Parts.{spell_optional}
 use Rattle.pol_cursor.specs.Spelling.{bytes_of}
 use Rattle.pol_bitmap.specs.Bitmap.{spell_bitmap, BitmapFits}
@@ -38,6 +38,6 @@ range_ranged range n low low_categories high = record {
         n = n;
         low = low;
         low_categories = low_categories.fitting refl (simp length-append (omega (arith, each)));
-        high = optional_fits LevelFits spell_level (range.n == 2) range.high (field 15 3) high right (omega (arith, high_length range.high, each));
+        high = optional_fits LevelFits spell_level (range.n == 2) range.high RANGE_HIGH high right (omega (arith, high_length range.high, each));
       };
 }

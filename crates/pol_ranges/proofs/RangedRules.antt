@@ -2,9 +2,10 @@
 use Rattle.std.proofs.Common.{◌≡◌, ◌<◌, ◌^◌, Bool, true, false, Option, Some, None, refl, subst, arith}
 use Rattle.std.specs.Prelude.{is_some}
 use Rattle.std.proofs.lemmas.List.{length-append}
+use Rattle.pol_cursor.specs.declared.field.Field.{Field}
+use Rattle.pol_cursor.specs.declared.fields.TheConstants.{AV_XKIND}
 use Rattle.pol_cursor.proofs.Numbers.{length-bytes_of}
 use Rattle.pol_cursor.specs.declared.Field.{Field}
-use Rattle.pol_cursor.specs.Outcome.{field}
 use Rattle.pol_expr.specs.declared.ConditionItem.{ConditionItem}
 use Rattle.pol_expr.specs.declared.ConditionRec.{ConditionRec}
 use Rattle.pol_expr.specs.ConditionRecord.{spell_item, ItemFits, spell_condition, ConditionFits}
@@ -43,7 +44,7 @@ pub av_ranged : (av : AvRec) → av.source < 2 ^ 16 → av.target < 2 ^ 16 → a
 av_ranged av source target class specified part = record {
   some = simp length-append (omega (arith, length-bytes_of 2 av.source));
   fitting = λ right few.
-      let kind = present (is_extended av.specified) (xperms_of av.part) (field 16 5) right in
+      let kind = present (is_extended av.specified) (xperms_of av.part) AV_XKIND right in
       record { source = source; target = target; class = class; specified = specified; part = subst (λ (there : Bool). PartFits there av.part) kind part };
 }
 

@@ -4,7 +4,9 @@ use Rattle.std.specs.Prelude.{nat_le, if◌then◌else◌}
 use Rattle.std.specs.List.{flat_map, range_with_len}
 use Rattle.std.proofs.lemmas.List.{length-map, length-append, append_assoc}
 use Rattle.std.proofs.lemmas.List.Sums.{length-filter, count_by-le-length}
-use Rattle.pol_cursor.specs.Outcome.{Got, Reader, field, ◌>>=◌, done}
+use Rattle.pol_cursor.specs.declared.field.Field.{Field}
+use Rattle.pol_cursor.specs.declared.fields.TheConstants.{CONDNODE_NTRUE, CONDNODE_NFALSE, NAMETRANS_LEN, NAMETRANS_NAME, NAMEGROUP_LEN, NAMEGROUP_NAME, GENFS_COUNT, RANGETRANS_COUNT, END_END}
+use Rattle.pol_cursor.specs.Outcome.{Got, Reader, ◌>>=◌, done}
 use Rattle.pol_cursor.specs.Parts.{end_at, counted, records_at}
 use Rattle.pol_cursor.specs.References.{Placed}
 use Rattle.pol_cursor.proofs.Laws.{and_then_got}
@@ -104,15 +106,15 @@ room-condition =
 abbrev node_room : CondNodeRec → ℕ
 node_room node = 3 * length node.true_rules + 3 * length node.false_rules
 
-room-rules : (version part : ℕ) → HasRoom (counted (field 19 part) (records_at (av_at version None))) 0 (λ rules. 3 * length rules)
-room-rules version part = room-less (room-counted (field 19 part) (λ av. 3) (room-av version None)) (λ rules. rw (total_same 3 rules) (omega arith))
+room-rules : (version : ℕ) (count : Field) → HasRoom (counted count (records_at (av_at version None))) 0 (λ rules. 3 * length rules)
+room-rules version count = room-less (room-counted count (λ av. 3) (room-av version None)) (λ rules. rw (total_same 3 rules) (omega arith))
 
 room-condnode : (version : ℕ) → HasRoom (condnode_at version) 0 node_room
 unfolding condnode_at
 room-condnode version =
     room-then room-condition λ condition.
-    room-then (room-rules version 5) λ true_rules.
-    room-then (room-rules version 6) λ false_rules.
+    room-then (room-rules version CONDNODE_NTRUE) λ true_rules.
+    room-then (room-rules version CONDNODE_NFALSE) λ false_rules.
     room-done _ node_room _ (omega arith)
 
 room-conditionals : (version : ℕ) → HasRoom (conditionals_at version) 0 (total (λ node. node_room node.value))
@@ -175,7 +177,7 @@ room-role_allow =
 room-name_trans : HasRoom name_trans_at 0 (λ trans. 3)
 unfolding name_trans_at
 room-name_trans =
-    room-then (room-name 22 2) λ name.
+    room-then (room-name NAMETRANS_LEN NAMETRANS_NAME) λ name.
     room-then (room-number _ 4 3 (omega arith)) λ source.
     room-then (room-number _ 4 0 (omega arith)) λ target.
     room-then (room-number _ 4 0 (omega arith)) λ class.
@@ -199,7 +201,7 @@ room-datum =
 room-group : HasRoom name_group_at 0 group_room
 unfolding name_group_at
 room-group =
-    room-then (room-name 23 2) λ name.
+    room-then (room-name NAMEGROUP_LEN NAMEGROUP_NAME) λ name.
     room-then (room-number _ 4 0 (omega arith)) λ target.
     room-then (room-number _ 4 0 (omega arith)) λ class.
     room-then (room-counted _ datum_room room-datum) λ datums.
@@ -317,8 +319,8 @@ labels-keep : (size version types : ℕ) → Keeps size (label_lists_at version 
 unfolding label_lists_at
 labels-keep size version types =
     keeps-then (keeps-any (contexts_at version)) λ contexts known.
-    keeps-then (keeps-any (context_table_at 34 genfs_at)) λ genfs known.
-    keeps-then (keeps-room (room-counted (field 35 1) (λ trans. 192) (room-placed room-range_trans))) λ range_trans few.
+    keeps-then (keeps-any (context_table_at GENFS_COUNT genfs_at)) λ genfs known.
+    keeps-then (keeps-room (room-counted RANGETRANS_COUNT (λ trans. 192) (room-placed room-range_trans))) λ range_trans few.
     keeps-then (keeps-any (type_map_at types)) λ type_map known.
     keeps-done _ _ (rw (← total_same 192 range_trans) few)
 
@@ -329,7 +331,7 @@ policy-keeps size =
     keeps-then (keeps-any (symbols_at front.header.version)) λ symbols known.
     keeps-then (keeps-room (room-rule_lists symbols front.header.version)) λ rules few.
     keeps-then (labels-keep size front.header.version symbols.types.nprim) λ labels few_ranges.
-    keeps-then (keeps-any (end_at (field 36 1))) λ ended known.
+    keeps-then (keeps-any (end_at END_END)) λ ended known.
     keeps-done (AreFew size) _ (record { lists = few; ranges = few_ranges })
 
 pub accepted_has_few_rules : (bytes : List ℕ) (policy : Parts) → length bytes ≤ 67108864 → accept bytes ≡ Ok policy → length (stored_rules policy) ≤ 400000000

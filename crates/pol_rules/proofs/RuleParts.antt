@@ -5,7 +5,8 @@ use Rattle.std.proofs.lemmas.Bool.{eqb-true}
 use Rattle.std.proofs.lemmas.Nat.{and_assoc}
 use Rattle.pol_cursor.specs.declared.Cause.{Cause}
 use Rattle.pol_cursor.specs.declared.Cause.TheVariants.{BadSpecified}
-use Rattle.pol_cursor.specs.Outcome.{Got, Reader, field}
+use Rattle.pol_cursor.specs.declared.fields.TheConstants.{AV_SOURCE, AV_TARGET, AV_CLASS, AV_SPECIFIED, AV_XKIND, AV_DRIVER, AV_BITS, AV_DATA, AVTAB_NEL, CONDLIST_COUNT, CONDNODE_NTRUE, CONDNODE_NFALSE, ROLETRANS_COUNT, ROLEALLOW_COUNT, END_END}
+use Rattle.pol_cursor.specs.Outcome.{Got, Reader}
 use Rattle.pol_cursor.specs.Parts.{number, number_if, string, end_at, counted, records_at}
 use Rattle.pol_cursor.specs.References.{placed}
 use Rattle.pol_symtab.specs.Freshness.{Gives}
@@ -103,15 +104,15 @@ tested_kind false x e = absurd cc
 extended_is : Gives extended_at (PartIs true)
 unfolding extended_at
 extended_is =
-    gives-others (number_if (field 16 5) 1 xkind_test) λ xkind.
-    gives-others (number (field 16 6) 1) λ driver.
-    gives-others (string (field 16 7) 32) λ bits.
+    gives-others (number_if AV_XKIND 1 xkind_test) λ xkind.
+    gives-others (number AV_DRIVER 1) λ driver.
+    gives-others (string AV_BITS 32) λ bits.
     Gives-done _ (Extended xkind driver bits) refl
 
 data_is : Gives data_at (PartIs false)
 unfolding data_at
 data_is =
-    gives-others (number (field 16 8) 4) λ mask.
+    gives-others (number AV_DATA 4) λ mask.
     Gives-done _ (Data mask) refl
 
 part_is : (extended : Bool) → Gives (part_at extended) (PartIs extended)
@@ -122,10 +123,10 @@ part_is false = data_is
 av_is_right : (version : ℕ) (earlier : Option (List AvKey)) → Gives (av_at version earlier) HasRightPart
 unfolding av_at
 av_is_right version earlier =
-    gives-others (number (field 16 1) 2) λ source.
-    gives-others (number (field 16 2) 2) λ target.
-    gives-others (number (field 16 3) 2) λ class.
-    Gives-part (Gives-number_if (field 16 4) 2) λ specified tested.
+    gives-others (number AV_SOURCE 2) λ source.
+    gives-others (number AV_TARGET 2) λ target.
+    gives-others (number AV_CLASS 2) λ class.
+    Gives-part (Gives-number_if AV_SPECIFIED 2) λ specified tested.
     Gives-part (part_is (is_extended specified)) λ part is.
     Gives-done HasRightPart (record { source = source; target = target; class = class; specified = specified; part = part }) (right_part version specified part (tested_kind _ _ tested) is)
 
@@ -141,21 +142,21 @@ records_are {A} {r} {P} h n = gives-weaker (gives-list_of {S = Unit {0}} (λ lef
 table_is_right : (version : ℕ) → Gives (rule_table_at version) (All (λ av. HasRightPart av.value))
 unfolding rule_table_at placed_rules_at
 table_is_right version =
-    gives-others (number (field 17 1) 4) λ n.
+    gives-others (number AVTAB_NEL 4) λ n.
     gives-weaker (gives-records_after rule_at after_rule (λ context. Unit {0}) HasRightPart (λ context known. av_is_right context.version (Some context.keys)) (λ context av known. tt) n (no_rules version) tt) (λ rules are. are.each)
 
 condnode_is_right : (version : ℕ) → Gives (condnode_at version) HaveRightParts
 unfolding condnode_at
 condnode_is_right version =
     gives-others condition_at λ condition.
-    Gives-part (gives-others (number (field 19 5) 4) λ n. records_are (av_is_right version None) n) λ true_rules true_are.
-    Gives-part (gives-others (number (field 19 6) 4) λ n. records_are (av_is_right version None) n) λ false_rules false_are.
+    Gives-part (gives-others (number CONDNODE_NTRUE 4) λ n. records_are (av_is_right version None) n) λ true_rules true_are.
+    Gives-part (gives-others (number CONDNODE_NFALSE 4) λ n. records_are (av_is_right version None) n) λ false_rules false_are.
     Gives-done HaveRightParts _ (true_are, false_are)
 
 conditionals_are_right : (version : ℕ) → Gives (conditionals_at version) (All (λ node. HaveRightParts node.value))
 unfolding conditionals_at
 conditionals_are_right version =
-    gives-others (number (field 18 1) 4) λ n.
+    gives-others (number CONDLIST_COUNT 4) λ n.
     records_are (gives-placed (condnode_is_right version)) n
 
 -- ---- the policy
@@ -169,8 +170,8 @@ unfolding rule_lists_at
 rule_lists_are_right version =
     Gives-part (table_is_right version) λ table table-is.
     Gives-part (conditionals_are_right version) λ conditionals conditionals-are.
-    gives-others (counted (field 20 1) (records_at (placed role_trans_at))) λ role_trans.
-    gives-others (counted (field 21 1) (records_at (placed role_allow_at))) λ role_allows.
+    gives-others (counted ROLETRANS_COUNT (records_at (placed role_trans_at))) λ role_trans.
+    gives-others (counted ROLEALLOW_COUNT (records_at (placed role_allow_at))) λ role_allows.
     gives-others (name_transitions_at version) λ name_trans.
     Gives-done HaveParts _ (record { table = table-is; conditionals = conditionals-are })
 
@@ -181,7 +182,7 @@ policy_is_right =
     gives-others (symbols_at front.header.version) λ symbols.
     Gives-part (rule_lists_are_right front.header.version) λ rules right.
     gives-others (label_lists_at front.header.version symbols.types.nprim) λ labels.
-    gives-others (end_at (field 36 1)) λ ended.
+    gives-others (end_at END_END) λ ended.
     Gives-done _ _ right
 
 pub parts_read : (bytes : List ℕ) (policy : Parts) (next : ℕ) → policy_at bytes 0 ≡ Got policy next → HaveParts policy.rules

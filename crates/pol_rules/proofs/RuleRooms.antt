@@ -12,6 +12,7 @@ use Rattle.std.proofs.lemmas.List.Sums.{length-filter, count_by-le-length}
 use Rattle.pol_cursor.specs.declared.Field.{Field}
 use Rattle.pol_cursor.specs.declared.Cause.{Cause}
 use Rattle.pol_cursor.specs.declared.Cause.TheVariants.{Short}
+use Rattle.pol_cursor.specs.declared.field.Field.{Field}
 use Rattle.pol_cursor.specs.Outcome.{Got, Reader, fault, ◌>>=◌, done, judged, checked}
 use Rattle.pol_cursor.specs.Parts.{num, number, string, list_of, records_at, counted, optional}
 use Rattle.pol_cursor.specs.References.{Placed, placed}
@@ -196,9 +197,9 @@ room-bits limit = room-less (room-bitmap limit) (λ ns. omega arith)
 
 -- ---- names
 
-pub room-name : (row part : ℕ) → HasRoom (name_at row part) 0 (λ name. 0)
+pub room-name : (len_field name_field : Field) → HasRoom (name_at len_field name_field) 0 (λ name. 0)
 unfolding name_at name_length_at name_bytes_at
-room-name row part =
+room-name len_field name_field =
     room-then (room-number_if _ 4 0 _ (omega arith)) λ len.
     room-then (room-checked _ _ _ (room-string _ len)) λ name.
     room-done _ _ name (omega arith)

@@ -8,7 +8,7 @@ use Rattle.std.proofs.lemmas.List.FromFn.{length-range_with_len, get_or-range_wi
 use Rattle.std.proofs.lemmas.Option.{none-some, same_Some, slice_get_within, get_or_from_slice_get}
 use Rattle.pol_cursor.specs.declared.Fault.{Fault}
 use Rattle.pol_cursor.specs.declared.TableKind.TheVariants.{Types, Classes}
-use Rattle.pol_cursor.specs.Outcome.{field}
+use Rattle.pol_cursor.specs.declared.fields.TheConstants.{AV_SOURCE, AV_TARGET, AV_CLASS, AV_DATA, NAMEGROUP_TARGET, NAMEGROUP_CLASS}
 use Rattle.pol_cursor.specs.References.{Placed, Reference, Named, dangling_of}
 use Rattle.pol_bitmap.specs.Nodes.{bits_of}
 use Rattle.pol_symbols.specs.PolicySymbols.{name_in}
@@ -136,9 +136,9 @@ module _ (policy : Parts) where
 
   -- ---- access vectors
 
-  plain_default : (k place mask shown : ℕ) (b : Bool) → dangling_of named (if b then record { place = place; field = field 16 8; table = Types; value = mask } ∷ [] else []) ≡ None
+  plain_default : (k place mask shown : ℕ) (b : Bool) → dangling_of named (if b then record { place = place; field = AV_DATA; table = Types; value = mask } ∷ [] else []) ≡ None
       → DefaultIsDeclared policy.symbols (rule_kind k) (if b then parts.Default mask else parts.Perms shown)
-  plain_default k place mask shown true e = rw (default_of k) (first named (record { place = place; field = field 16 8; table = Types; value = mask }) [] e).0
+  plain_default k place mask shown true e = rw (default_of k) (first named (record { place = place; field = AV_DATA; table = Types; value = mask }) [] e).0
   plain_default k place mask shown false e = tt
 
   default_is : (k place specified : ℕ) (part : AvPart) → dangling_of named (part_references place (is_default specified) part) ≡ None → DefaultIsDeclared policy.symbols (rule_kind k) (rule_part specified part)
@@ -147,9 +147,9 @@ module _ (policy : Parts) where
 
   av_declared : (condition : Option Condition) (av : Placed AvRec) → StandsUnder policy.rules.conditionals condition → dangling_of named (av_references av) ≡ None → HasRightPart av.value → Declared (av_rule condition av)
   av_declared condition av under e right =
-      let source : Reference = record { place = av.place; field = field 16 1; table = Types; value = av.value.source } in
-      let target : Reference = record { place = av.place + 2; field = field 16 2; table = Types; value = av.value.target } in
-      let class : Reference = record { place = av.place + 4; field = field 16 3; table = Classes; value = av.value.class } in
+      let source : Reference = record { place = av.place; field = AV_SOURCE; table = Types; value = av.value.source } in
+      let target : Reference = record { place = av.place + 2; field = AV_TARGET; table = Types; value = av.value.target } in
+      let class : Reference = record { place = av.place + 4; field = AV_CLASS; table = Classes; value = av.value.class } in
       let default = part_references (av.place + 8) (is_default av.value.specified) av.value.part in
       let one = first named source (target ∷ class ∷ default) e in
       let two = first named target (class ∷ default) one.1 in
@@ -253,8 +253,8 @@ module _ (policy : Parts) where
 
   group_declared : (group : Placed NameGroupRec) → dangling_of named (name_group_references group) ≡ None → All Declared (rules_of_group policy.symbols group)
   group_declared group e =
-      let target : Reference = record { place = group.place + 4 + length group.value.name; field = field 23 4; table = Types; value = group.value.target } in
-      let class : Reference = record { place = group.place + 8 + length group.value.name; field = field 23 5; table = Classes; value = group.value.class } in
+      let target : Reference = record { place = group.place + 4 + length group.value.name; field = NAMEGROUP_TARGET; table = Types; value = group.value.target } in
+      let class : Reference = record { place = group.place + 8 + length group.value.name; field = NAMEGROUP_CLASS; table = Classes; value = group.value.class } in
       let defaults_of = map name_datum_reference (name_data_of group) in
       let one = first named target (class ∷ defaults_of) e in
       let two = first named class defaults_of one.1 in

@@ -1,7 +1,7 @@
 -- The two laws of users.
 use Rattle.std.proofs.Common.{ℕ, None, length, append_assoc}
 use Rattle.std.proofs.lemmas.List.{append-nil}
-use Rattle.pol_cursor.specs.Outcome.{field}
+use Rattle.pol_cursor.specs.declared.fields.TheConstants.{USER_LEN, USER_VALUE, USER_BOUNDS, USER_NAME}
 use Rattle.pol_cursor.specs.Laws.{IsReadAgain, IsReadFromSpelling}
 use Rattle.pol_cursor.proofs.Laws.{Reads-done, Reads-part, Reads-number, Reads-number_if, Again-done, Again-part, Again-as, Again-number, Again-number_if}
 use Rattle.pol_bitmap.proofs.Laws.{bitmap_spelled, bitmap_again}
@@ -16,10 +16,10 @@ use Rattle.pol_symbols.specs.UserRecord.{user_at, spell_user, UserFits}
 pub user_spelled : (claims : Claims) (nprim : ℕ) → IsReadFromSpelling (user_at claims nprim) spell_user UserFits
 unfolding user_at new_value_at bounds_at
 user_spelled claims nprim =
-    Reads-part (Reads-symbol_length 10 1) λ len len-fits.
-    Reads-part (Reads-number_if (field 10 2) 4) λ value value-fits.
-    Reads-part (Reads-number (field 10 3) 4) λ bounds bounds-fits.
-    Reads-part (Reads-symbol_name 10 4 claims len) λ name name-fits.
+    Reads-part (Reads-symbol_length USER_LEN) λ len len-fits.
+    Reads-part (Reads-number_if USER_VALUE 4) λ value value-fits.
+    Reads-part (Reads-number USER_BOUNDS 4) λ bounds bounds-fits.
+    Reads-part (Reads-symbol_name USER_NAME claims len) λ name name-fits.
     Reads-part (bitmap_spelled None) λ roles roles-fits.
     Reads-part range_spelled λ range range-fits.
     Reads-part level_spelled λ level level-fits.
@@ -32,10 +32,10 @@ pub user_again : (claims : Claims) (nprim : ℕ) → IsReadAgain (user_at claims
 unfolding user_at new_value_at bounds_at
 user_again claims nprim user fits =
     Again-as
-    (Again-part _ (Again-symbol_length 10 1 (length user.name) fits.len)
-    (Again-part _ (Again-number_if (field 10 2) 4 user.value _ fits.value)
-    (Again-part _ (Again-number (field 10 3) 4 user.bounds fits.bounds)
-    (Again-part _ (Again-symbol_name 10 4 claims user.name)
+    (Again-part _ (Again-symbol_length USER_LEN (length user.name) fits.len)
+    (Again-part _ (Again-number_if USER_VALUE 4 user.value _ fits.value)
+    (Again-part _ (Again-number USER_BOUNDS 4 user.bounds fits.bounds)
+    (Again-part _ (Again-symbol_name USER_NAME claims user.name)
     (Again-part _ (bitmap_again None user.roles fits.roles)
     (Again-part _ (range_again user.range fits.range)
     (Again-part _ (level_again user.level fits.level)

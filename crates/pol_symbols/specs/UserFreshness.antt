@@ -1,6 +1,6 @@
 -- A user that was read has a new name and a new value.
 use Rattle.std.proofs.Common.{ℕ, None, true}
-use Rattle.pol_cursor.specs.Outcome.{field}
+use Rattle.pol_cursor.specs.declared.fields.TheConstants.{USER_LEN, USER_VALUE, USER_BOUNDS, USER_NAME}
 use Rattle.pol_bitmap.specs.Bitmap.{bitmap_at}
 use Rattle.pol_mls.specs.LevelRecord.{level_at}
 use Rattle.pol_mls.specs.RangeRecord.{range_at}
@@ -13,10 +13,10 @@ use Rattle.pol_symbols.specs.UserRecord.{user_at}
 pub user_is_fresh : (claims : Claims) (nprim : ℕ) → Gives (user_at claims nprim) (λ user. IsFresh nprim claims user.name true user.value)
 unfolding user_at new_value_at
 user_is_fresh claims nprim =
-    Gives-part (Gives-symbol_length 10 1) λ len len-fits.
-    Gives-part (Gives-number_if (field 10 2) 4) λ value value-fits.
-    Gives-part (Gives-any (bounds_at 10 3)) λ bounds bounds-fits.
-    Gives-part (Gives-symbol_name 10 4 claims len) λ name name-fits.
+    Gives-part (Gives-symbol_length USER_LEN) λ len len-fits.
+    Gives-part (Gives-number_if USER_VALUE 4) λ value value-fits.
+    Gives-part (Gives-any (bounds_at USER_BOUNDS)) λ bounds bounds-fits.
+    Gives-part (Gives-symbol_name USER_NAME claims len) λ name name-fits.
     Gives-part (Gives-any (bitmap_at None)) λ roles roles-fits.
     Gives-part (Gives-any range_at) λ range range-fits.
     Gives-part (Gives-any level_at) λ level level-fits.

@@ -1,7 +1,8 @@
 -- Record 10: a user, with its roles, its range and its default level (libsepol's user_read).
 use Rattle.std.specs.Prelude.{ℕ, ◌+◌, ◌*◌, ◌<◌, ◌^◌, None, List, ◌++◌, length, take, drop}
 use Rattle.pol_cursor.specs.declared.table_kind.TableKind.TheVariants.{Users}
-use Rattle.pol_cursor.specs.Outcome.{Reader, field, ◌>>=◌, done}
+use Rattle.pol_cursor.specs.declared.fields.TheConstants.{USER_LEN, USER_VALUE, USER_BOUNDS, USER_NAME}
+use Rattle.pol_cursor.specs.Outcome.{Reader, ◌>>=◌, done}
 use Rattle.pol_cursor.specs.Parts.{num}
 use Rattle.pol_cursor.specs.References.{Placed, Reference}
 use Rattle.pol_cursor.specs.Spelling.{bytes_of}
@@ -19,10 +20,10 @@ use Rattle.pol_symbols.specs.declared.user_rec.UserRec.{UserRec}
 
 unfoldable pub user_at : Claims → ℕ → Reader UserRec
 user_at claims nprim = do
-  len ← symbol_length_at 10 1
-  value ← new_value_at 10 2 nprim claims
-  bounds ← bounds_at 10 3
-  name ← symbol_name_at 10 4 claims len
+  len ← symbol_length_at USER_LEN
+  value ← new_value_at USER_VALUE nprim claims
+  bounds ← bounds_at USER_BOUNDS
+  name ← symbol_name_at USER_NAME claims len
   roles ← bitmap_at None
   range ← range_at
   level ← level_at
@@ -86,5 +87,5 @@ level_mentions user =
 -- the user that bounds it, and then those
 abbrev pub user_references : Placed UserRec → List Reference
 user_references user =
-    bounds_reference (record { place = user.place + 8; field = field 10 3; table = Users; value = user.value.bounds })
+    bounds_reference (record { place = user.place + 8; field = USER_BOUNDS; table = Users; value = user.value.bounds })
     ++ level_mentions user

@@ -6,6 +6,7 @@ ghost use Rattle.pol_symbols.specs.UserRecord.{user_at, user_in, HasUser, roles_
 use crate::user_kind::User;
 use crate::user_rec::UserRec;
 use pol_bitmap::{BitmapView, Set};
+use pol_cursor::fields::{USER_BOUNDS, USER_LEN, USER_NAME, USER_VALUE};
 use pol_cursor::{
     ByteList, Copied, Cursor, Fault, Mention, Names, Referring, TableKind, string_in, u32_in,
 };
@@ -14,9 +15,6 @@ use pol_mls::{LevelView, RangeView, read_level, read_range};
 use pol_symtab::{Taken, read_symbol_length, read_symbol_name};
 use std::alloc::{AllocError, Global};
 use std::marker::Model;
-
-// The code of a user's record.
-const USER: u8 = 10;
 
 /// A user in the buffer.
 #[derive(Drop)]
@@ -111,7 +109,7 @@ impl<'a> Referring<'a> for User {
     /// The first reference, in file order, whose value no primary record declares, as a fault at its field: the user that
     /// bounds it, and the sensitivities of its range and of its level.
     fn dangling<N: Names>(view: &UserView<'a>, names: &N) -> Option<Fault> {
-        let bounds = Mention::new(USER, 3, view.place + 8, TableKind::Users, view.bounds());
+        let bounds = Mention::new(USER_BOUNDS, view.place + 8, TableKind::Users, view.bounds());
         match dangling_bounds(names, bounds) {
             Some(fault) => Some(fault),
             None => view.dangling_levels(names),
@@ -163,10 +161,10 @@ pub fn read_user<'a>(
 {
     let bytes = c.bytes();
     let place = c.place();
-    let len = read_symbol_length(c, USER, 1)?;
-    read_new_value(c, USER, 2, nprim, taken)?;
-    read_bounds(c, USER, 3)?;
-    read_symbol_name(c, USER, 4, len, taken)?;
+    let len = read_symbol_length(c, USER_LEN)?;
+    read_new_value(c, USER_VALUE, nprim, taken)?;
+    read_bounds(c, USER_BOUNDS)?;
+    read_symbol_name(c, USER_NAME, len, taken)?;
     BitmapView::read(c)?;
     read_range(c)?;
     read_level(c)?;

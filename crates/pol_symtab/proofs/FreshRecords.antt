@@ -45,13 +45,13 @@ Gives-checked {A} d r {test} = record {
 pub Gives-number_if : (d : Field) (w : ℕ) {test : ℕ → Option Cause} → Gives (checked d (number d w) test) (λ n. test n ≡ None)
 Gives-number_if d w = Gives-checked d (number d w)
 
-pub Gives-symbol_length : (row part : ℕ) → Gives (symbol_length_at row part) (λ len. length_test len ≡ None)
+pub Gives-symbol_length : (field : Field) → Gives (symbol_length_at field) (λ len. length_test len ≡ None)
 unfolding symbol_length_at
-Gives-symbol_length row part = Gives-number_if (record { row = row; part = part }) 4
+Gives-symbol_length field = Gives-number_if field 4
 
-pub Gives-symbol_name : (row part : ℕ) (claims : Claims) (len : ℕ) → Gives (symbol_name_at row part claims len) (λ name. name_test claims name ≡ None)
+pub Gives-symbol_name : (field : Field) (claims : Claims) (len : ℕ) → Gives (symbol_name_at field claims len) (λ name. name_test claims name ≡ None)
 unfolding symbol_name_at
-Gives-symbol_name row part claims len = Gives-checked (record { row = row; part = part }) (string (record { row = row; part = part }) len)
+Gives-symbol_name field claims len = Gives-checked field (string field len)
 
 -- ---- what the conditions say that have refused nothing
 

@@ -1,7 +1,8 @@
 -- The two laws of a table, from those of its records.
 use Rattle.std.proofs.Common.{◌≡◌, ℕ, ◌<◌, ◌^◌, List, ◌++◌, length, refl, ap, ◌∙◌, append_assoc}
 use Rattle.std.proofs.lemmas.List.{append-nil}
-use Rattle.pol_cursor.specs.Outcome.{Outcome, Reader, Got, Bad, and_then, field}
+use Rattle.pol_cursor.specs.declared.fields.TheConstants.{TABLE_NPRIM, TABLE_NEL}
+use Rattle.pol_cursor.specs.Outcome.{Outcome, Reader, Got, Bad, and_then}
 use Rattle.pol_cursor.specs.Laws.{IsReadAgain, IsReadFromSpelling}
 use Rattle.pol_cursor.specs.Spelling.{bytes_of}
 use Rattle.pol_symtab.specs.declared.table_head.TableHead.{TableHead}
@@ -24,16 +25,16 @@ record HeadFits (head : TableHead) : Type 0 where
 head_spelled : IsReadFromSpelling table_head_at spell_head HeadFits
 unfolding table_head_at
 head_spelled =
-    Reads-part (Reads-number_if (field 3 1) 4) λ nprim nprim-fits.
-    Reads-part (Reads-number (field 3 2) 4) λ nel nel-fits.
+    Reads-part (Reads-number_if TABLE_NPRIM 4) λ nprim nprim-fits.
+    Reads-part (Reads-number TABLE_NEL 4) λ nel nel-fits.
     Reads-done _ (record { nprim = nprim; nel = nel }) (record { same = simp append-nil; fitting = record { nprim = nprim-fits.0; nel = nel-fits } })
 
 head_again : IsReadAgain table_head_at spell_head HeadFits
 unfolding table_head_at
 head_again head h =
     Again-as
-    (Again-part _ (Again-number_if (field 3 1) 4 head.nprim _ h.nprim)
-    (Again-part _ (Again-number (field 3 2) 4 head.nel h.nel)
+    (Again-part _ (Again-number_if TABLE_NPRIM 4 head.nprim _ h.nprim)
+    (Again-part _ (Again-number TABLE_NEL 4 head.nel h.nel)
     (Again-done head)))
     (simp append-nil)
 

@@ -3,7 +3,8 @@ use Rattle.std.specs.Prelude.{ℕ, Bool, ◌&&◌, Option, Some, None, List, nat
 use Rattle.std.specs.List.{list_all}
 use Rattle.pol_cursor.specs.declared.fault.Cause.{Cause}
 use Rattle.pol_cursor.specs.declared.fault.Cause.TheVariants.{EmptyName, BadNameByte, DuplicateName, DuplicateValue, ValueOut}
-use Rattle.pol_cursor.specs.Outcome.{Reader, field}
+use Rattle.pol_cursor.specs.declared.field.Field.{Field}
+use Rattle.pol_cursor.specs.Outcome.{Reader}
 use Rattle.pol_cursor.specs.Parts.{number_if, string_if, unless}
 use Rattle.pol_symtab.specs.Claims.{Claims, has_name, has_value}
 
@@ -31,10 +32,10 @@ new_value_test nprim claims value = if nat_le 1 value && nat_le value nprim then
 abbrev pub primary_value_test : Claims → Bool → ℕ → Option Cause
 primary_value_test claims primary value = if primary && has_value claims value then Some DuplicateValue else None
 
--- the length of a name, which is the part of that number
-unfoldable pub symbol_length_at : ℕ → ℕ → Reader ℕ
-symbol_length_at row part = number_if (field row part) 4 length_test
+-- the length of a name
+unfoldable pub symbol_length_at : Field → Reader ℕ
+symbol_length_at field = number_if field 4 length_test
 
 -- a name of that length, under the claims of the records before
-unfoldable pub symbol_name_at : ℕ → ℕ → Claims → ℕ → Reader (List ℕ)
-symbol_name_at row part claims len = string_if (field row part) len (name_test claims)
+unfoldable pub symbol_name_at : Field → Claims → ℕ → Reader (List ℕ)
+symbol_name_at field claims len = string_if field len (name_test claims)

@@ -6,7 +6,8 @@ use Rattle.std.specs.Ordering.{is_lt, nat_cmp}
 use Rattle.std.specs.Cmp.Lexicographic.{slice_cmp}
 use Rattle.pol_cursor.specs.declared.fault.Cause.{Cause}
 use Rattle.pol_cursor.specs.declared.fault.Cause.TheVariants.{TableTooLarge}
-use Rattle.pol_cursor.specs.Outcome.{Reader, field, ◌>>=◌, done}
+use Rattle.pol_cursor.specs.declared.fields.TheConstants.{TABLE_NPRIM, TABLE_NEL}
+use Rattle.pol_cursor.specs.Outcome.{Reader, ◌>>=◌, done}
 use Rattle.pol_cursor.specs.Parts.{number, number_if, unless, list_of}
 use Rattle.pol_cursor.specs.Spelling.{bytes_of}
 use Rattle.pol_cursor.specs.References.{Placed, values_of}
@@ -29,8 +30,8 @@ nprim_test nprim = unless (nat_le nprim 65535) TableTooLarge
 -- the two numbers before the records: the greatest value, and how many records there are
 unfoldable pub table_head_at : Reader TableHead
 table_head_at = do
-  nprim ← number_if (field 3 1) 4 nprim_test
-  nel ← number (field 3 2) 4
+  nprim ← number_if TABLE_NPRIM 4 nprim_test
+  nel ← number TABLE_NEL 4
   done (record { nprim = nprim; nel = nel })
 
 -- so many records, each under the context that the ones before it made

@@ -9,13 +9,12 @@ use pol_cursor::{Cursor, Fault, Field, refuse};
 
 /// The length of a symbol's name. `EmptyName` where it is 0.
 #[tactic(auto, unfolding(crate::specs::SymbolFields::symbol_length_at), using(pol_cursor::proofs::Facts::number_is))]
-pub fn read_symbol_length(c: &mut Cursor<'_>, row: u8, part: u8) -> Result<u32, Fault>
-    ensures exact { Answers (λ len. len) result (symbol_length_at row part) c.old c.new }
+pub fn read_symbol_length(c: &mut Cursor<'_>, field: Field) -> Result<u32, Fault>
+    ensures exact { Answers (λ len. len) result (symbol_length_at field) c.old c.new }
     ensures same { IfOk result (λ len. len ≡ num c.old.bytes c.old.place 4) }
     ensures next { OnOk result ((c.new.place ≡ c.old.place + 4) × (c.new.place ≤ length c.old.bytes)) }
 {
     let place = c.place();
-    let field = Field { row, part };
     let len = c.u32(field)?;
     refuse(length_cause(len), place, field)?;
     Ok(len)
@@ -25,17 +24,15 @@ pub fn read_symbol_length(c: &mut Cursor<'_>, row: u8, part: u8) -> Result<u32, 
 #[tactic(auto, unfolding(crate::specs::SymbolFields::symbol_name_at), using(pol_cursor::proofs::Facts::string_is))]
 pub fn read_symbol_name<'a>(
     c: &mut Cursor<'a>,
-    row: u8,
-    part: u8,
+    field: Field,
     len: u32,
     taken: &Taken<'a>,
 ) -> Result<&'a [u8], Fault>
-    ensures exact { Answers (λ name. name.now) result (symbol_name_at row part taken.now len) c.old c.new }
+    ensures exact { Answers (λ name. name.now) result (symbol_name_at field taken.now len) c.old c.new }
     ensures same { IfOk result (λ name. name.now ≡ take len (drop c.old.place c.old.bytes)) }
     ensures next { OnOk result ((c.new.place ≡ c.old.place + len) × (c.new.place ≤ length c.old.bytes)) }
 {
     let place = c.place();
-    let field = Field { row, part };
     let name = c.take(len, field)?;
     refuse(name_cause(taken, name), place, field)?;
     Ok(name)

@@ -2,10 +2,8 @@ ghost use Rattle.std.specs.Prelude.{◌≡◌, ◌≤◌, IfOk};
 ghost use Rattle.pol_cursor.specs.Outcome.{Answers};
 ghost use Rattle.pol_symtab.specs.SymbolTables.{nprim_test, table_head_at};
 
-use pol_cursor::{Cause, Cursor, Fault, Field, refuse};
-
-// The code of a table's record.
-const TABLE: u8 = 3;
+use pol_cursor::fields::{TABLE_NEL, TABLE_NPRIM};
+use pol_cursor::{Cause, Cursor, Fault, refuse};
 
 /// The numbers before the records of a table.
 #[derive(Clone, Copy, Debug, PartialEq, Eq)]
@@ -34,15 +32,8 @@ pub fn read_table_head(c: &mut Cursor<'_>) -> Result<TableHead, Fault>
     ensures small { IfOk result (λ head. head.nprim ≤ 65535) }
 {
     let place = c.place();
-    let field = Field {
-        row: TABLE,
-        part: 1,
-    };
-    let nprim = c.u32(field)?;
-    refuse(nprim_cause(nprim), place, field)?;
-    let nel = c.u32(Field {
-        row: TABLE,
-        part: 2,
-    })?;
+    let nprim = c.u32(TABLE_NPRIM)?;
+    refuse(nprim_cause(nprim), place, TABLE_NPRIM)?;
+    let nel = c.u32(TABLE_NEL)?;
     Ok(TableHead { nprim, nel })
 }

@@ -2,7 +2,8 @@
 -- sources and the default type that objects of theirs have (libsepol's filename_trans_read_one).
 use Rattle.std.specs.Prelude.{ℕ, ◌+◌, ◌*◌, ◌^◌, ◌<◌, ◌≤◌, None, List, ◌∷◌, ◌++◌, length, map}
 use Rattle.pol_cursor.specs.declared.table_kind.TableKind.TheVariants.{Types, Classes}
-use Rattle.pol_cursor.specs.Outcome.{Reader, field, ◌>>=◌, done}
+use Rattle.pol_cursor.specs.declared.fields.TheConstants.{NAMEGROUP_LEN, NAMEGROUP_NAME, NAMEGROUP_TARGET, NAMEGROUP_CLASS, NAMEGROUP_NDATUM, NAMEGROUP_DEFAULT}
+use Rattle.pol_cursor.specs.Outcome.{Reader, ◌>>=◌, done}
 use Rattle.pol_cursor.specs.Parts.{num, number, counted, records_at, spell_counted, CountedFits}
 use Rattle.pol_cursor.specs.References.{Placed, Reference, values_of}
 use Rattle.pol_cursor.specs.Runs.{run_in, HasRun, placed_from}
@@ -18,15 +19,15 @@ use Rattle.pol_cursor.specs.FileNames.{name_at, spell_name, name_in, name_end}
 unfoldable pub name_datum_at : Reader NameDatumRec
 name_datum_at = do
   sources ← bitmap_at None
-  default ← number (field 23 7) 4
+  default ← number NAMEGROUP_DEFAULT 4
   done (record { sources = sources; default = default })
 
 unfoldable pub name_group_at : Reader NameGroupRec
 name_group_at = do
-  name ← name_at 23 2
-  target ← number (field 23 4) 4
-  class ← number (field 23 5) 4
-  datums ← counted (field 23 6) (records_at name_datum_at)
+  name ← name_at NAMEGROUP_LEN NAMEGROUP_NAME
+  target ← number NAMEGROUP_TARGET 4
+  class ← number NAMEGROUP_CLASS 4
+  datums ← counted NAMEGROUP_NDATUM (records_at name_datum_at)
   done (record { name = name; target = target; class = class; datums = datums })
 
 abbrev pub spell_name_datum : NameDatumRec → List ℕ
@@ -93,11 +94,11 @@ name_data_of group = placed_from name_datum_length (group.place + 16 + length gr
 
 -- the default of a datum
 abbrev pub name_datum_reference : Placed NameDatumRec → Reference
-name_datum_reference datum = record { place = datum.place + 12 + 12 * length datum.value.sources; field = field 23 7; table = Types; value = datum.value.default }
+name_datum_reference datum = record { place = datum.place + 12 + 12 * length datum.value.sources; field = NAMEGROUP_DEFAULT; table = Types; value = datum.value.default }
 
 -- the target and the class, whose places the name's length moves, and then the default of each datum
 abbrev pub name_group_references : Placed NameGroupRec → List Reference
 name_group_references group =
-    record { place = group.place + 4 + length group.value.name; field = field 23 4; table = Types; value = group.value.target } ∷
-    record { place = group.place + 8 + length group.value.name; field = field 23 5; table = Classes; value = group.value.class } ∷
+    record { place = group.place + 4 + length group.value.name; field = NAMEGROUP_TARGET; table = Types; value = group.value.target } ∷
+    record { place = group.place + 8 + length group.value.name; field = NAMEGROUP_CLASS; table = Classes; value = group.value.class } ∷
     map name_datum_reference (name_data_of group)

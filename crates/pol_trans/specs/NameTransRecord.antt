@@ -2,7 +2,8 @@
 -- has the default type (libsepol's filename_trans_read_one_compat).
 use Rattle.std.specs.Prelude.{ℕ, ◌+◌, ◌^◌, ◌<◌, ◌≤◌, List, [], ◌∷◌, ◌++◌, length}
 use Rattle.pol_cursor.specs.declared.table_kind.TableKind.TheVariants.{Types, Classes}
-use Rattle.pol_cursor.specs.Outcome.{Reader, field, ◌>>=◌, done}
+use Rattle.pol_cursor.specs.declared.fields.TheConstants.{NAMETRANS_LEN, NAMETRANS_NAME, NAMETRANS_SOURCE, NAMETRANS_TARGET, NAMETRANS_CLASS, NAMETRANS_DEFAULT}
+use Rattle.pol_cursor.specs.Outcome.{Reader, ◌>>=◌, done}
 use Rattle.pol_cursor.specs.Parts.{num, number}
 use Rattle.pol_cursor.specs.References.{Placed, Reference}
 use Rattle.pol_cursor.specs.Spelling.{bytes_of}
@@ -13,11 +14,11 @@ use Rattle.pol_cursor.specs.FileNames.{name_at, spell_name, name_in, name_end}
 
 unfoldable pub name_trans_at : Reader NameTransRec
 name_trans_at = do
-  name ← name_at 22 2
-  source ← number (field 22 4) 4
-  target ← number (field 22 5) 4
-  class ← number (field 22 6) 4
-  default ← number (field 22 7) 4
+  name ← name_at NAMETRANS_LEN NAMETRANS_NAME
+  source ← number NAMETRANS_SOURCE 4
+  target ← number NAMETRANS_TARGET 4
+  class ← number NAMETRANS_CLASS 4
+  default ← number NAMETRANS_DEFAULT 4
   done (record { name = name; source = source; target = target; class = class; default = default })
 
 abbrev pub spell_name_trans : NameTransRec → List ℕ
@@ -52,10 +53,10 @@ HasNameTrans bytes place = (name_end bytes place + 16 ≤ length bytes) × (leng
 -- the same from the place behind the name
 abbrev pub references_behind_name : ℕ → NameTransRec → List Reference
 references_behind_name place trans =
-    record { place = place; field = field 22 4; table = Types; value = trans.source } ∷
-    record { place = place + 4; field = field 22 5; table = Types; value = trans.target } ∷
-    record { place = place + 8; field = field 22 6; table = Classes; value = trans.class } ∷
-    record { place = place + 12; field = field 22 7; table = Types; value = trans.default } ∷
+    record { place = place; field = NAMETRANS_SOURCE; table = Types; value = trans.source } ∷
+    record { place = place + 4; field = NAMETRANS_TARGET; table = Types; value = trans.target } ∷
+    record { place = place + 8; field = NAMETRANS_CLASS; table = Classes; value = trans.class } ∷
+    record { place = place + 12; field = NAMETRANS_DEFAULT; table = Types; value = trans.default } ∷
     []
 
 abbrev pub name_trans_references : Placed NameTransRec → List Reference

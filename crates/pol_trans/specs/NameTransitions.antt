@@ -1,6 +1,7 @@
 -- The file-name transitions of a policy, which are groups from version 33 on (libsepol's filename_trans_read).
 use Rattle.std.specs.Prelude.{ℕ, nat_le, if◌then◌else◌}
-use Rattle.pol_cursor.specs.Outcome.{Reader, field, ◌>>=◌, done}
+use Rattle.pol_cursor.specs.declared.fields.TheConstants.{NAMETRANS_COUNT, NAMEGROUP_COUNT}
+use Rattle.pol_cursor.specs.Outcome.{Reader, ◌>>=◌, done}
 use Rattle.pol_cursor.specs.Parts.{counted, records_at}
 use Rattle.pol_cursor.specs.References.{placed}
 use Rattle.pol_trans.specs.declared.name_trans.NameTrans.{NameTrans}
@@ -9,10 +10,10 @@ use Rattle.pol_trans.specs.NameTransRecord.{name_trans_at}
 use Rattle.pol_trans.specs.NameGroupRecord.{name_group_at}
 
 abbrev pub entries_at : Reader NameTrans
-entries_at = counted (field 22 1) (records_at (placed name_trans_at)) >>= λ entries. done (Entries entries)
+entries_at = counted NAMETRANS_COUNT (records_at (placed name_trans_at)) >>= λ entries. done (Entries entries)
 
 abbrev pub groups_at : Reader NameTrans
-groups_at = counted (field 23 1) (records_at (placed name_group_at)) >>= λ groups. done (Groups groups)
+groups_at = counted NAMEGROUP_COUNT (records_at (placed name_group_at)) >>= λ groups. done (Groups groups)
 
 abbrev pub name_transitions_at : ℕ → Reader NameTrans
 name_transitions_at version = if nat_le 33 version then groups_at else entries_at

@@ -2,7 +2,8 @@
 -- range_read).
 use Rattle.std.specs.Prelude.{ℕ, ◌+◌, ◌^◌, ◌<◌, List, ◌∷◌, ◌++◌}
 use Rattle.pol_cursor.specs.declared.table_kind.TableKind.TheVariants.{Types, Classes}
-use Rattle.pol_cursor.specs.Outcome.{Reader, field, ◌>>=◌, done}
+use Rattle.pol_cursor.specs.declared.fields.TheConstants.{RANGETRANS_SOURCE, RANGETRANS_TARGET, RANGETRANS_CLASS}
+use Rattle.pol_cursor.specs.Outcome.{Reader, ◌>>=◌, done}
 use Rattle.pol_cursor.specs.Parts.{num, number}
 use Rattle.pol_cursor.specs.References.{Placed, Reference}
 use Rattle.pol_cursor.specs.Spelling.{bytes_of}
@@ -14,9 +15,9 @@ use Rattle.pol_trans.specs.declared.range_trans_rec.RangeTransRec.{RangeTransRec
 
 unfoldable pub range_trans_at : Reader RangeTransRec
 range_trans_at = do
-  source ← number (field 35 2) 4
-  target ← number (field 35 3) 4
-  class ← number (field 35 4) 4
+  source ← number RANGETRANS_SOURCE 4
+  target ← number RANGETRANS_TARGET 4
+  class ← number RANGETRANS_CLASS 4
   range ← range_at
   done (record { source = source; target = target; class = class; range = range })
 
@@ -53,7 +54,7 @@ range_of trans = record { place = trans.place + 12; value = trans.value.range }
 -- the types and the class, and then the sensitivities of its range
 abbrev pub range_trans_references : Placed RangeTransRec → List Reference
 range_trans_references trans =
-    record { place = trans.place; field = field 35 2; table = Types; value = trans.value.source } ∷
-    record { place = trans.place + 4; field = field 35 3; table = Types; value = trans.value.target } ∷
-    record { place = trans.place + 8; field = field 35 4; table = Classes; value = trans.value.class } ∷
+    record { place = trans.place; field = RANGETRANS_SOURCE; table = Types; value = trans.value.source } ∷
+    record { place = trans.place + 4; field = RANGETRANS_TARGET; table = Types; value = trans.value.target } ∷
+    record { place = trans.place + 8; field = RANGETRANS_CLASS; table = Classes; value = trans.value.class } ∷
     range_references (range_of trans)

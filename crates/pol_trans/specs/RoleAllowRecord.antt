@@ -1,7 +1,8 @@
 -- Record 21: a role allow, by which a process may change from one role to another (libsepol's role_allow_read).
 use Rattle.std.specs.Prelude.{ℕ, ◌+◌, ◌^◌, ◌<◌, ◌≤◌, List, [], ◌∷◌, ◌++◌, length}
 use Rattle.pol_cursor.specs.declared.table_kind.TableKind.TheVariants.{Roles}
-use Rattle.pol_cursor.specs.Outcome.{Reader, field, ◌>>=◌, done}
+use Rattle.pol_cursor.specs.declared.fields.TheConstants.{ROLEALLOW_ROLE, ROLEALLOW_NEWROLE}
+use Rattle.pol_cursor.specs.Outcome.{Reader, ◌>>=◌, done}
 use Rattle.pol_cursor.specs.Parts.{num, number}
 use Rattle.pol_cursor.specs.References.{Placed, Reference}
 use Rattle.pol_cursor.specs.Spelling.{bytes_of}
@@ -11,8 +12,8 @@ use Rattle.pol_trans.specs.declared.role_allow_rec.RoleAllowRec.{RoleAllowRec}
 
 unfoldable pub role_allow_at : Reader RoleAllowRec
 role_allow_at = do
-  role ← number (field 21 2) 4
-  newrole ← number (field 21 3) 4
+  role ← number ROLEALLOW_ROLE 4
+  newrole ← number ROLEALLOW_NEWROLE 4
   done (record { role = role; newrole = newrole })
 
 abbrev pub spell_role_allow : RoleAllowRec → List ℕ
@@ -36,6 +37,6 @@ HasRoleAllow bytes place = (place + 8 ≤ length bytes) × (length bytes ≤ 671
 
 abbrev pub role_allow_references : Placed RoleAllowRec → List Reference
 role_allow_references allow =
-    record { place = allow.place; field = field 21 2; table = Roles; value = allow.value.role } ∷
-    record { place = allow.place + 4; field = field 21 3; table = Roles; value = allow.value.newrole } ∷
+    record { place = allow.place; field = ROLEALLOW_ROLE; table = Roles; value = allow.value.role } ∷
+    record { place = allow.place + 4; field = ROLEALLOW_NEWROLE; table = Roles; value = allow.value.newrole } ∷
     []

@@ -2,7 +2,8 @@
 -- role_trans_read). Its class is that of the new object.
 use Rattle.std.specs.Prelude.{ℕ, ◌+◌, ◌^◌, ◌<◌, ◌≤◌, List, [], ◌∷◌, ◌++◌, length}
 use Rattle.pol_cursor.specs.declared.table_kind.TableKind.TheVariants.{Roles, Types, Classes}
-use Rattle.pol_cursor.specs.Outcome.{Reader, field, ◌>>=◌, done}
+use Rattle.pol_cursor.specs.declared.fields.TheConstants.{ROLETRANS_ROLE, ROLETRANS_TYPE, ROLETRANS_NEWROLE, ROLETRANS_CLASS}
+use Rattle.pol_cursor.specs.Outcome.{Reader, ◌>>=◌, done}
 use Rattle.pol_cursor.specs.Parts.{num, number}
 use Rattle.pol_cursor.specs.References.{Placed, Reference}
 use Rattle.pol_cursor.specs.Spelling.{bytes_of}
@@ -12,10 +13,10 @@ use Rattle.pol_trans.specs.declared.role_trans_rec.RoleTransRec.{RoleTransRec}
 
 unfoldable pub role_trans_at : Reader RoleTransRec
 role_trans_at = do
-  role ← number (field 20 2) 4
-  type_value ← number (field 20 3) 4
-  newrole ← number (field 20 4) 4
-  class ← number (field 20 5) 4
+  role ← number ROLETRANS_ROLE 4
+  type_value ← number ROLETRANS_TYPE 4
+  newrole ← number ROLETRANS_NEWROLE 4
+  class ← number ROLETRANS_CLASS 4
   done (record { role = role; type_value = type_value; newrole = newrole; class = class })
 
 abbrev pub spell_role_trans : RoleTransRec → List ℕ
@@ -46,8 +47,8 @@ HasRoleTrans bytes place = (place + 16 ≤ length bytes) × (length bytes ≤ 67
 
 abbrev pub role_trans_references : Placed RoleTransRec → List Reference
 role_trans_references trans =
-    record { place = trans.place; field = field 20 2; table = Roles; value = trans.value.role } ∷
-    record { place = trans.place + 4; field = field 20 3; table = Types; value = trans.value.type_value } ∷
-    record { place = trans.place + 8; field = field 20 4; table = Roles; value = trans.value.newrole } ∷
-    record { place = trans.place + 12; field = field 20 5; table = Classes; value = trans.value.class } ∷
+    record { place = trans.place; field = ROLETRANS_ROLE; table = Roles; value = trans.value.role } ∷
+    record { place = trans.place + 4; field = ROLETRANS_TYPE; table = Types; value = trans.value.type_value } ∷
+    record { place = trans.place + 8; field = ROLETRANS_NEWROLE; table = Roles; value = trans.value.newrole } ∷
+    record { place = trans.place + 12; field = ROLETRANS_CLASS; table = Classes; value = trans.value.class } ∷
     []

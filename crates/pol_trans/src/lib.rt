@@ -23,7 +23,6 @@ mod role_allow_write;
 mod role_trans_rec;
 mod role_trans_view;
 mod role_trans_write;
-mod rows;
 mod transition;
 
 pub use lists::{

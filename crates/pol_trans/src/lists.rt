@@ -1,5 +1,5 @@
 // The lists of a policy: a count, and so many records, in file order.
-ghost use Rattle.pol_cursor.specs.Outcome.{Yields, field};
+ghost use Rattle.pol_cursor.specs.Outcome.{Yields};
 ghost use Rattle.pol_cursor.specs.Parts.{counted, records_at};
 ghost use Rattle.pol_cursor.specs.References.{placed};
 ghost use Rattle.pol_trans.specs.RoleTransRecord.{role_trans_at};
@@ -11,8 +11,8 @@ use crate::name_trans_rec::NameTransRec;
 use crate::range_trans_rec::RangeTransRec;
 use crate::role_allow_rec::RoleAllowRec;
 use crate::role_trans_rec::RoleTransRec;
-use crate::rows::{RANGE_TRANS, ROLE_ALLOW, ROLE_TRANS};
 use crate::transition::TransitionKind;
+use pol_cursor::fields::{RANGETRANS_COUNT, ROLEALLOW_COUNT, ROLETRANS_COUNT};
 use pol_cursor::{Cursor, Field, ReadAlone, ReadError, Records, read_counted};
 use std::alloc::Global;
 
@@ -31,15 +31,15 @@ pub type NameTransList<'a> = Records<'a, TransitionKind<NameTransRec>>;
 /// The file-name transitions of a policy, in groups. Contracts see the list of them, each with its place.
 pub type NameGroupList<'a> = Records<'a, TransitionKind<NameGroupRec>>;
 
-/// Reads the list of that code: a count, which is its first part, and so many records.
+/// Reads a list: a count, at that field, and so many records.
 pub fn read_list<'a, K: ReadAlone + Drop>(
     alloc: Global,
     c: &mut Cursor<'a>,
-    row: u8,
+    count: Field,
 ) -> Result<Records<'a, K>, ReadError>
-    ensures { Yields (λ list. list) result (counted (field row 1) (records_at (placed K.reads))) c.old c.new }
+    ensures { Yields (λ list. list) result (counted count (records_at (placed K.reads))) c.old c.new }
 {
-    read_counted(alloc, c, Field { row, part: 1 })
+    read_counted(alloc, c, count)
 }
 
 /// Reads the count and the role transitions, which are the same in each version.
@@ -48,9 +48,9 @@ pub fn read_role_trans<'a>(
     c: &mut Cursor<'a>,
     _version: u32,
 ) -> Result<RoleTransList<'a>, ReadError>
-    ensures { Yields (λ list. list) result (counted (field 20 1) (records_at (placed role_trans_at))) c.old c.new }
+    ensures { Yields (λ list. list) result (counted ROLETRANS_COUNT (records_at (placed role_trans_at))) c.old c.new }
 {
-    read_list(alloc, c, ROLE_TRANS)
+    read_list(alloc, c, ROLETRANS_COUNT)
 }
 
 /// Reads the count and the role allows, which are the same in each version.
@@ -59,9 +59,9 @@ pub fn read_role_allows<'a>(
     c: &mut Cursor<'a>,
     _version: u32,
 ) -> Result<RoleAllowList<'a>, ReadError>
-    ensures { Yields (λ list. list) result (counted (field 21 1) (records_at (placed role_allow_at))) c.old c.new }
+    ensures { Yields (λ list. list) result (counted ROLEALLOW_COUNT (records_at (placed role_allow_at))) c.old c.new }
 {
-    read_list(alloc, c, ROLE_ALLOW)
+    read_list(alloc, c, ROLEALLOW_COUNT)
 }
 
 /// Reads the count and the range transitions, which are the same in each version.
@@ -70,7 +70,7 @@ pub fn read_range_trans<'a>(
     c: &mut Cursor<'a>,
     _version: u32,
 ) -> Result<RangeTransList<'a>, ReadError>
-    ensures { Yields (λ list. list) result (counted (field 35 1) (records_at (placed range_trans_at))) c.old c.new }
+    ensures { Yields (λ list. list) result (counted RANGETRANS_COUNT (records_at (placed range_trans_at))) c.old c.new }
 {
-    read_list(alloc, c, RANGE_TRANS)
+    read_list(alloc, c, RANGETRANS_COUNT)
 }

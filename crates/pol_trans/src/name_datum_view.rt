@@ -3,21 +3,13 @@ ghost use Rattle.pol_cursor.specs.References.{dangling_of};
 ghost use Rattle.pol_trans.specs.NameGroupRecord.{name_datum_in, HasNameDatum, name_datum_reference};
 
 use crate::name_datum_rec::NameDatumRec;
-use crate::rows::NAME_GROUP;
 use crate::transition::{Stored, TransitionView};
 use pol_bitmap::{BitmapView, Set};
 use pol_cursor::TableKind::Types;
-use pol_cursor::{
-    Copied, Cursor, Fault, Field, Inner, Names, Record, RecordView, dangling, u32_in,
-};
+use pol_cursor::fields::NAMEGROUP_DEFAULT;
+use pol_cursor::{Copied, Cursor, Fault, Inner, Names, Record, RecordView, dangling, u32_in};
 use std::alloc::{AllocError, Global};
 use std::marker::PhantomData;
-
-// The default's field.
-const DEFAULT: Field = Field {
-    row: NAME_GROUP,
-    part: 7,
-};
 
 /// A datum of a group of file-name transitions in the buffer.
 pub type NameDatumView<'a> = TransitionView<'a, NameDatumRec>;
@@ -51,7 +43,7 @@ impl<'a> NameDatumView<'a> {
         ensures { result ≡ dangling_of (N.named names.now) (name_datum_reference self.now ∷ []) }
     {
         let place = self.place + self.sources().size();
-        dangling(names, place, DEFAULT, Types, self.default())
+        dangling(names, place, NAMEGROUP_DEFAULT, Types, self.default())
     }
 }
 
@@ -97,7 +89,7 @@ impl Inner for NameDatum {
     #[tactic(auto, unfolding(crate::specs::NameGroupRecord::name_datum_at), using(pol_cursor::proofs::Facts::number_is))]
     fn pass(c: &mut Cursor<'_>, _given: &()) -> Result<(), Fault> {
         BitmapView::read(c)?;
-        c.u32(DEFAULT)?;
+        c.u32(NAMEGROUP_DEFAULT)?;
         Ok(())
     }
 }

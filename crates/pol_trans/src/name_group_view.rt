@@ -6,10 +6,12 @@ ghost use Rattle.pol_trans.specs.NameGroupRecord.{name_group_at, name_group_in, 
 use crate::name_datum_view::NameDatum;
 use crate::name_group_rec::NameGroupRec;
 use crate::name_parts::{behind_name, name_standing};
-use crate::rows::{NAME_GROUP, part};
 use crate::transition::{Stored, Transition, TransitionView, read_transition};
 use pol_bitmap::BitmapView;
 use pol_cursor::TableKind::{Classes, Types};
+use pol_cursor::fields::{
+    NAMEGROUP_CLASS, NAMEGROUP_LEN, NAMEGROUP_NAME, NAMEGROUP_NDATUM, NAMEGROUP_TARGET,
+};
 use pol_cursor::{
     ByteList, Cursor, Fault, Mention, Names, Run, first_dangling, read_name, read_run, u32_in,
 };
@@ -98,10 +100,10 @@ impl Transition for NameGroupRec {
     // `BadName` where the name is empty or has a byte 0.
     #[tactic(auto, unfolding(crate::specs::NameGroupRecord::name_group_at), using(pol_cursor::proofs::Facts::number_is, pol_cursor::proofs::Facts::string_is))]
     fn pass(c: &mut Cursor<'_>) -> Result<(), Fault> {
-        read_name(c, NAME_GROUP, 2)?;
-        c.u32(part(NAME_GROUP, 4))?;
-        c.u32(part(NAME_GROUP, 5))?;
-        let n = c.u32(part(NAME_GROUP, 6))?;
+        read_name(c, NAMEGROUP_LEN, NAMEGROUP_NAME)?;
+        c.u32(NAMEGROUP_TARGET)?;
+        c.u32(NAMEGROUP_CLASS)?;
+        let n = c.u32(NAMEGROUP_NDATUM)?;
         read_run::<NameDatum>(c, n, &())?;
         Ok(())
     }
@@ -111,8 +113,8 @@ impl Transition for NameGroupRec {
         let own = first_dangling(
             names,
             &[
-                Mention::new(NAME_GROUP, 4, place, Types, view.target()),
-                Mention::new(NAME_GROUP, 5, place + 4, Classes, view.class()),
+                Mention::new(NAMEGROUP_TARGET, place, Types, view.target()),
+                Mention::new(NAMEGROUP_CLASS, place + 4, Classes, view.class()),
             ],
         );
         match own {

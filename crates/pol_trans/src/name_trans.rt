@@ -2,7 +2,7 @@ ghost use Rattle.pol_cursor.specs.Outcome.{Yields};
 ghost use Rattle.pol_trans.specs.NameTransitions.{name_transitions_at};
 
 use crate::lists::{NameGroupList, NameTransList, read_list};
-use crate::rows::{NAME_GROUP, NAME_TRANS};
+use pol_cursor::fields::{NAMEGROUP_COUNT, NAMETRANS_COUNT};
 use pol_cursor::{Cursor, ReadError};
 use std::alloc::Global;
 
@@ -24,8 +24,8 @@ pub fn read_name_trans<'a>(
     ensures { Yields (λ trans. trans) result (name_transitions_at version) c.old c.new }
 {
     if version >= 33 {
-        Ok(NameTrans::Groups(read_list(alloc, c, NAME_GROUP)?))
+        Ok(NameTrans::Groups(read_list(alloc, c, NAMEGROUP_COUNT)?))
     } else {
-        Ok(NameTrans::Entries(read_list(alloc, c, NAME_TRANS)?))
+        Ok(NameTrans::Entries(read_list(alloc, c, NAMETRANS_COUNT)?))
     }
 }

@@ -4,9 +4,12 @@ ghost use Rattle.pol_trans.specs.NameTransRecord.{name_trans_at, name_trans_in, 
 
 use crate::name_parts::{behind_name, name_standing};
 use crate::name_trans_rec::NameTransRec;
-use crate::rows::{NAME_TRANS, part};
 use crate::transition::{Stored, Transition, TransitionView, read_transition};
 use pol_cursor::TableKind::{Classes, Types};
+use pol_cursor::fields::{
+    NAMETRANS_CLASS, NAMETRANS_DEFAULT, NAMETRANS_LEN, NAMETRANS_NAME, NAMETRANS_SOURCE,
+    NAMETRANS_TARGET,
+};
 use pol_cursor::{ByteList, Cursor, Fault, Mention, Names, first_dangling, read_name, u32_in};
 use std::alloc::{AllocError, Global};
 
@@ -77,11 +80,11 @@ impl Transition for NameTransRec {
     // `BadName` where the name is empty or has a byte 0.
     #[tactic(auto, unfolding(crate::specs::NameTransRecord::name_trans_at), using(pol_cursor::proofs::Facts::number_is, pol_cursor::proofs::Facts::string_is))]
     fn pass(c: &mut Cursor<'_>) -> Result<(), Fault> {
-        read_name(c, NAME_TRANS, 2)?;
-        c.u32(part(NAME_TRANS, 4))?;
-        c.u32(part(NAME_TRANS, 5))?;
-        c.u32(part(NAME_TRANS, 6))?;
-        c.u32(part(NAME_TRANS, 7))?;
+        read_name(c, NAMETRANS_LEN, NAMETRANS_NAME)?;
+        c.u32(NAMETRANS_SOURCE)?;
+        c.u32(NAMETRANS_TARGET)?;
+        c.u32(NAMETRANS_CLASS)?;
+        c.u32(NAMETRANS_DEFAULT)?;
         Ok(())
     }
 
@@ -90,10 +93,10 @@ impl Transition for NameTransRec {
         first_dangling(
             names,
             &[
-                Mention::new(NAME_TRANS, 4, place, Types, view.source()),
-                Mention::new(NAME_TRANS, 5, place + 4, Types, view.target()),
-                Mention::new(NAME_TRANS, 6, place + 8, Classes, view.class()),
-                Mention::new(NAME_TRANS, 7, place + 12, Types, view.default()),
+                Mention::new(NAMETRANS_SOURCE, place, Types, view.source()),
+                Mention::new(NAMETRANS_TARGET, place + 4, Types, view.target()),
+                Mention::new(NAMETRANS_CLASS, place + 8, Classes, view.class()),
+                Mention::new(NAMETRANS_DEFAULT, place + 12, Types, view.default()),
             ],
         )
     }

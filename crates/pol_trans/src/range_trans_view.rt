@@ -3,9 +3,9 @@ ghost use Rattle.pol_cursor.specs.Outcome.{Answers};
 ghost use Rattle.pol_trans.specs.RangeTransRecord.{range_trans_at, range_trans_in, HasRangeTrans, range_trans_references, range_of};
 
 use crate::range_trans_rec::RangeTransRec;
-use crate::rows::{RANGE_TRANS, part};
 use crate::transition::{Stored, Transition, TransitionView, read_transition};
 use pol_cursor::TableKind::{Classes, Types};
+use pol_cursor::fields::{RANGETRANS_CLASS, RANGETRANS_SOURCE, RANGETRANS_TARGET};
 use pol_cursor::{Cursor, Fault, Mention, Names, first_dangling, u32_in};
 use pol_mls::{RangeView, read_range};
 use std::alloc::{AllocError, Global};
@@ -65,9 +65,9 @@ impl Transition for RangeTransRec {
 
     #[tactic(auto, unfolding(crate::specs::RangeTransRecord::range_trans_at), using(pol_cursor::proofs::Facts::number_is))]
     fn pass(c: &mut Cursor<'_>) -> Result<(), Fault> {
-        c.u32(part(RANGE_TRANS, 2))?;
-        c.u32(part(RANGE_TRANS, 3))?;
-        c.u32(part(RANGE_TRANS, 4))?;
+        c.u32(RANGETRANS_SOURCE)?;
+        c.u32(RANGETRANS_TARGET)?;
+        c.u32(RANGETRANS_CLASS)?;
         read_range(c)?;
         Ok(())
     }
@@ -76,9 +76,9 @@ impl Transition for RangeTransRec {
         let own = first_dangling(
             names,
             &[
-                Mention::new(RANGE_TRANS, 2, view.place, Types, view.source()),
-                Mention::new(RANGE_TRANS, 3, view.place + 4, Types, view.target()),
-                Mention::new(RANGE_TRANS, 4, view.place + 8, Classes, view.class()),
+                Mention::new(RANGETRANS_SOURCE, view.place, Types, view.source()),
+                Mention::new(RANGETRANS_TARGET, view.place + 4, Types, view.target()),
+                Mention::new(RANGETRANS_CLASS, view.place + 8, Classes, view.class()),
             ],
         );
         match own {

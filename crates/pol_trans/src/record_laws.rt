@@ -1,6 +1,6 @@
 // The two laws of records, each claimed by a function that does nothing.
+ghost use Rattle.pol_cursor.specs.declared.fields.TheConstants.{ROLETRANS_COUNT, ROLEALLOW_COUNT, NAMETRANS_COUNT, NAMEGROUP_COUNT, RANGETRANS_COUNT};
 ghost use Rattle.pol_cursor.specs.Laws.{IsReadAgain, IsReadFromSpelling};
-ghost use Rattle.pol_cursor.specs.Outcome.{field};
 ghost use Rattle.pol_cursor.specs.Parts.{counted, records_at, spell_counted, CountedFits};
 ghost use Rattle.pol_trans.specs.RoleAllowRecord.{role_allow_at, spell_role_allow, RoleAllowFits};
 ghost use Rattle.pol_trans.specs.RoleTransRecord.{role_trans_at, spell_role_trans, RoleTransFits};
@@ -13,38 +13,38 @@ ghost use Rattle.pol_trans.specs.RangeTransRecord.{range_trans_at, spell_range_t
 pub fn role_allows_have_laws()
     ensures again { IsReadAgain role_allow_at spell_role_allow RoleAllowFits }
     ensures spelled { IsReadFromSpelling role_allow_at spell_role_allow RoleAllowFits }
-    ensures list_again { IsReadAgain (counted (field 21 1) (records_at role_allow_at)) (spell_counted spell_role_allow) (CountedFits RoleAllowFits) }
-    ensures list_spelled { IsReadFromSpelling (counted (field 21 1) (records_at role_allow_at)) (spell_counted spell_role_allow) (CountedFits RoleAllowFits) }
+    ensures list_again { IsReadAgain (counted ROLEALLOW_COUNT (records_at role_allow_at)) (spell_counted spell_role_allow) (CountedFits RoleAllowFits) }
+    ensures list_spelled { IsReadFromSpelling (counted ROLEALLOW_COUNT (records_at role_allow_at)) (spell_counted spell_role_allow) (CountedFits RoleAllowFits) }
 {}
 
 /// The same of a role transition and of the list of them.
 pub fn role_transitions_have_laws()
     ensures again { IsReadAgain role_trans_at spell_role_trans RoleTransFits }
     ensures spelled { IsReadFromSpelling role_trans_at spell_role_trans RoleTransFits }
-    ensures list_again { IsReadAgain (counted (field 20 1) (records_at role_trans_at)) (spell_counted spell_role_trans) (CountedFits RoleTransFits) }
-    ensures list_spelled { IsReadFromSpelling (counted (field 20 1) (records_at role_trans_at)) (spell_counted spell_role_trans) (CountedFits RoleTransFits) }
+    ensures list_again { IsReadAgain (counted ROLETRANS_COUNT (records_at role_trans_at)) (spell_counted spell_role_trans) (CountedFits RoleTransFits) }
+    ensures list_spelled { IsReadFromSpelling (counted ROLETRANS_COUNT (records_at role_trans_at)) (spell_counted spell_role_trans) (CountedFits RoleTransFits) }
 {}
 
 /// The same of a file-name transition and of the list of them.
 pub fn name_transitions_have_laws()
     ensures again { IsReadAgain name_trans_at spell_name_trans NameTransFits }
     ensures spelled { IsReadFromSpelling name_trans_at spell_name_trans NameTransFits }
-    ensures list_again { IsReadAgain (counted (field 22 1) (records_at name_trans_at)) (spell_counted spell_name_trans) (CountedFits NameTransFits) }
-    ensures list_spelled { IsReadFromSpelling (counted (field 22 1) (records_at name_trans_at)) (spell_counted spell_name_trans) (CountedFits NameTransFits) }
+    ensures list_again { IsReadAgain (counted NAMETRANS_COUNT (records_at name_trans_at)) (spell_counted spell_name_trans) (CountedFits NameTransFits) }
+    ensures list_spelled { IsReadFromSpelling (counted NAMETRANS_COUNT (records_at name_trans_at)) (spell_counted spell_name_trans) (CountedFits NameTransFits) }
 {}
 
 /// The same of a group of file-name transitions and of the list of them.
 pub fn name_groups_have_laws()
     ensures again { IsReadAgain name_group_at spell_name_group NameGroupFits }
     ensures spelled { IsReadFromSpelling name_group_at spell_name_group NameGroupFits }
-    ensures list_again { IsReadAgain (counted (field 23 1) (records_at name_group_at)) (spell_counted spell_name_group) (CountedFits NameGroupFits) }
-    ensures list_spelled { IsReadFromSpelling (counted (field 23 1) (records_at name_group_at)) (spell_counted spell_name_group) (CountedFits NameGroupFits) }
+    ensures list_again { IsReadAgain (counted NAMEGROUP_COUNT (records_at name_group_at)) (spell_counted spell_name_group) (CountedFits NameGroupFits) }
+    ensures list_spelled { IsReadFromSpelling (counted NAMEGROUP_COUNT (records_at name_group_at)) (spell_counted spell_name_group) (CountedFits NameGroupFits) }
 {}
 
 /// The same of a range transition and of the list of them.
 pub fn range_transitions_have_laws()
     ensures again { IsReadAgain range_trans_at spell_range_trans RangeTransFits }
     ensures spelled { IsReadFromSpelling range_trans_at spell_range_trans RangeTransFits }
-    ensures list_again { IsReadAgain (counted (field 35 1) (records_at range_trans_at)) (spell_counted spell_range_trans) (CountedFits RangeTransFits) }
-    ensures list_spelled { IsReadFromSpelling (counted (field 35 1) (records_at range_trans_at)) (spell_counted spell_range_trans) (CountedFits RangeTransFits) }
+    ensures list_again { IsReadAgain (counted RANGETRANS_COUNT (records_at range_trans_at)) (spell_counted spell_range_trans) (CountedFits RangeTransFits) }
+    ensures list_spelled { IsReadFromSpelling (counted RANGETRANS_COUNT (records_at range_trans_at)) (spell_counted spell_range_trans) (CountedFits RangeTransFits) }
 {}

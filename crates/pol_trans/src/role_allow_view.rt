@@ -3,9 +3,9 @@ ghost use Rattle.pol_cursor.specs.Outcome.{Answers};
 ghost use Rattle.pol_trans.specs.RoleAllowRecord.{role_allow_at, role_allow_in, HasRoleAllow, role_allow_references};
 
 use crate::role_allow_rec::RoleAllowRec;
-use crate::rows::{ROLE_ALLOW, part};
 use crate::transition::{Stored, Transition, TransitionView, read_transition};
 use pol_cursor::TableKind::Roles;
+use pol_cursor::fields::{ROLEALLOW_NEWROLE, ROLEALLOW_ROLE};
 use pol_cursor::{Cursor, Fault, Mention, Names, first_dangling, u32_in};
 use std::alloc::{AllocError, Global};
 
@@ -48,8 +48,8 @@ impl Transition for RoleAllowRec {
 
     #[tactic(auto, unfolding(crate::specs::RoleAllowRecord::role_allow_at), using(pol_cursor::proofs::Facts::number_is))]
     fn pass(c: &mut Cursor<'_>) -> Result<(), Fault> {
-        c.u32(part(ROLE_ALLOW, 2))?;
-        c.u32(part(ROLE_ALLOW, 3))?;
+        c.u32(ROLEALLOW_ROLE)?;
+        c.u32(ROLEALLOW_NEWROLE)?;
         Ok(())
     }
 
@@ -57,8 +57,8 @@ impl Transition for RoleAllowRec {
         first_dangling(
             names,
             &[
-                Mention::new(ROLE_ALLOW, 2, view.place, Roles, view.role()),
-                Mention::new(ROLE_ALLOW, 3, view.place + 4, Roles, view.newrole()),
+                Mention::new(ROLEALLOW_ROLE, view.place, Roles, view.role()),
+                Mention::new(ROLEALLOW_NEWROLE, view.place + 4, Roles, view.newrole()),
             ],
         )
     }

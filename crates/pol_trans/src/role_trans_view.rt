@@ -3,9 +3,9 @@ ghost use Rattle.pol_cursor.specs.Outcome.{Answers};
 ghost use Rattle.pol_trans.specs.RoleTransRecord.{role_trans_at, role_trans_in, HasRoleTrans, role_trans_references};
 
 use crate::role_trans_rec::RoleTransRec;
-use crate::rows::{ROLE_TRANS, part};
 use crate::transition::{Stored, Transition, TransitionView, read_transition};
 use pol_cursor::TableKind::{Classes, Roles, Types};
+use pol_cursor::fields::{ROLETRANS_CLASS, ROLETRANS_NEWROLE, ROLETRANS_ROLE, ROLETRANS_TYPE};
 use pol_cursor::{Cursor, Fault, Mention, Names, first_dangling, u32_in};
 use std::alloc::{AllocError, Global};
 
@@ -64,10 +64,10 @@ impl Transition for RoleTransRec {
 
     #[tactic(auto, unfolding(crate::specs::RoleTransRecord::role_trans_at), using(pol_cursor::proofs::Facts::number_is))]
     fn pass(c: &mut Cursor<'_>) -> Result<(), Fault> {
-        c.u32(part(ROLE_TRANS, 2))?;
-        c.u32(part(ROLE_TRANS, 3))?;
-        c.u32(part(ROLE_TRANS, 4))?;
-        c.u32(part(ROLE_TRANS, 5))?;
+        c.u32(ROLETRANS_ROLE)?;
+        c.u32(ROLETRANS_TYPE)?;
+        c.u32(ROLETRANS_NEWROLE)?;
+        c.u32(ROLETRANS_CLASS)?;
         Ok(())
     }
 
@@ -75,10 +75,10 @@ impl Transition for RoleTransRec {
         first_dangling(
             names,
             &[
-                Mention::new(ROLE_TRANS, 2, view.place, Roles, view.role()),
-                Mention::new(ROLE_TRANS, 3, view.place + 4, Types, view.type_value()),
-                Mention::new(ROLE_TRANS, 4, view.place + 8, Roles, view.newrole()),
-                Mention::new(ROLE_TRANS, 5, view.place + 12, Classes, view.class()),
+                Mention::new(ROLETRANS_ROLE, view.place, Roles, view.role()),
+                Mention::new(ROLETRANS_TYPE, view.place + 4, Types, view.type_value()),
+                Mention::new(ROLETRANS_NEWROLE, view.place + 8, Roles, view.newrole()),
+                Mention::new(ROLETRANS_CLASS, view.place + 12, Classes, view.class()),
             ],
         )
     }

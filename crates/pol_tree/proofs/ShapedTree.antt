@@ -2,7 +2,8 @@
 use Rattle.std.proofs.Common.{◌≡◌, ℕ, ◌==◌, Bool, true, false, not, Option, Some, None, List, [], ◌∷◌, length, refl}
 use Rattle.std.proofs.lemmas.List.{length-map}
 use Rattle.pol_cursor.specs.declared.Field.{Field}
-use Rattle.pol_cursor.specs.Outcome.{field}
+use Rattle.pol_cursor.specs.declared.field.Field.{Field}
+use Rattle.pol_cursor.specs.declared.fields.TheConstants.{BITMAP_UNIT, NAMETRANS_COUNT, NAMEGROUP_COUNT, IBPKEY_COUNT, IBENDPORT_COUNT}
 use Rattle.pol_cursor.specs.References.{Placed, values_of}
 use Rattle.pol_trans.specs.declared.NameTrans.{NameTrans}
 use Rattle.pol_trans.specs.declared.NameTrans.TheVariants.{Entries, Groups}
@@ -51,16 +52,16 @@ listed-there (x ∷ xs) field = refl
 
 -- ---- the file-name transitions
 
-entries-shaped : (grouped : Bool) (trans : NameTrans) → shape_of_name_transitions grouped trans ≡ None → shape_of_list (not grouped) (entries_of trans) (field 22 1) ≡ None
+entries-shaped : (grouped : Bool) (trans : NameTrans) → shape_of_name_transitions grouped trans ≡ None → shape_of_list (not grouped) (entries_of trans) NAMETRANS_COUNT ≡ None
 unfolding shape_of_name_transitions
 entries-shaped true (Entries entries) e = absurd cc
-entries-shaped false (Entries entries) e = listed-there (values_of entries) (field 22 1)
+entries-shaped false (Entries entries) e = listed-there (values_of entries) NAMETRANS_COUNT
 entries-shaped grouped (Groups groups) e = refl
 
-groups-shaped : (grouped : Bool) (trans : NameTrans) → shape_of_name_transitions grouped trans ≡ None → shape_of_list grouped (groups_of trans) (field 23 1) ≡ None
+groups-shaped : (grouped : Bool) (trans : NameTrans) → shape_of_name_transitions grouped trans ≡ None → shape_of_list grouped (groups_of trans) NAMEGROUP_COUNT ≡ None
 unfolding shape_of_name_transitions
 groups-shaped grouped (Entries entries) e = refl
-groups-shaped true (Groups groups) e = listed-there (values_of groups) (field 23 1)
+groups-shaped true (Groups groups) e = listed-there (values_of groups) NAMEGROUP_COUNT
 groups-shaped false (Groups groups) e = absurd cc
 
 -- ---- the parts of a tree
@@ -96,9 +97,9 @@ contexts-shaped policy =
     (then-first _ _ _ _ (unplaced-shape (shape_of_address {width = 4}) contexts.node)
     (then-first _ _ _ _ (unplaced-shape shape_of_fsuse contexts.fsuse)
     (then-first _ _ _ _ (unplaced-shape (shape_of_address {width = 16}) contexts.node6)
-    (then-first _ _ _ _ (unplaced-list there contexts.ibpkey (field 32 1))
+    (then-first _ _ _ _ (unplaced-list there contexts.ibpkey IBPKEY_COUNT)
     (then-first _ _ _ _ (unplaced-shape shape_of_ibpkey contexts.ibpkey)
-    (then-first _ _ _ _ (unplaced-list there contexts.ibendport (field 33 1))
+    (then-first _ _ _ _ (unplaced-list there contexts.ibendport IBENDPORT_COUNT)
     (then-first _ _ _ _ (unplaced-shape shape_of_ibendport contexts.ibendport) then-last))))))))))
 
 rows-shaped : {A : Type 0} (rows : List (Placed A)) (types : ℕ) (field : Field) → wrong_if (not (length rows == types)) field ≡ None → wrong_if (not (length (values_of rows) == types)) field ≡ None
@@ -110,7 +111,7 @@ labels-shaped policy =
     then-first _ _ _ _ (contexts-shaped policy)
     (then-first _ _ _ _ (unplaced-shape shape_of_genfs policy.labels.genfs)
     (then-first _ _ _ _ (unplaced-shape shape_of_range_trans policy.labels.range_trans)
-    (then-first _ _ _ _ (rows-shaped policy.labels.type_map policy.symbols.types.nprim (field 2 1)) then-last)))
+    (then-first _ _ _ _ (rows-shaped policy.labels.type_map policy.symbols.types.nprim BITMAP_UNIT) then-last)))
 
 pub tree-shaped : (policy : Parts) → policy_shape policy ≡ None → shape (tree_of policy) ≡ None
 unfolding policy_shape shape

@@ -1,7 +1,8 @@
 -- The first wrong optional part of a tree, in the order of the file.
 use Rattle.std.specs.Prelude.{◌==◌, not, Option, [], ◌∷◌, length, slice_index}
 use Rattle.pol_cursor.specs.declared.Field.{Field}
-use Rattle.pol_cursor.specs.Outcome.{field}
+use Rattle.pol_cursor.specs.declared.field.Field.{Field}
+use Rattle.pol_cursor.specs.declared.fields.TheConstants.{BITMAP_UNIT, NAMETRANS_COUNT, NAMEGROUP_COUNT, IBPKEY_COUNT, IBENDPORT_COUNT}
 use Rattle.pol_contexts.specs.ContextTables.{has_infiniband}
 use Rattle.pol_laws.specs.OptionalParts.{wrong_if, shape_of_list, first_of, first_in}
 use Rattle.pol_laws.specs.RecordShapes.{shape_of_class, shape_of_user, shape_of_av, shape_of_condnode, shape_of_range_trans, shape_of_genfs, shape_of_sid, shape_of_named, shape_of_port, shape_of_address, shape_of_fsuse, shape_of_ibpkey, shape_of_ibendport}
@@ -19,8 +20,8 @@ shape_of_rules tree =
     first_of (
     first_in shape_of_av tree.avtab
     ∷ first_in shape_of_condnode tree.condlist
-    ∷ shape_of_list (not (has_groups tree.version)) tree.nametrans (field 22 1)
-    ∷ shape_of_list (has_groups tree.version) tree.namegroup (field 23 1)
+    ∷ shape_of_list (not (has_groups tree.version)) tree.nametrans NAMETRANS_COUNT
+    ∷ shape_of_list (has_groups tree.version) tree.namegroup NAMEGROUP_COUNT
     ∷ [])
 
 -- the tables of contexts; those of InfiniBand are empty in the versions that do not have them (libsepol's ocontext_write_selinux)
@@ -34,9 +35,9 @@ shape_of_contexts tree =
     ∷ first_in shape_of_address tree.node
     ∷ first_in shape_of_fsuse tree.fsuse
     ∷ first_in shape_of_address tree.node6
-    ∷ shape_of_list (has_infiniband tree.version) tree.ibpkey (field 32 1)
+    ∷ shape_of_list (has_infiniband tree.version) tree.ibpkey IBPKEY_COUNT
     ∷ first_in shape_of_ibpkey tree.ibpkey
-    ∷ shape_of_list (has_infiniband tree.version) tree.ibendport (field 33 1)
+    ∷ shape_of_list (has_infiniband tree.version) tree.ibendport IBENDPORT_COUNT
     ∷ first_in shape_of_ibendport tree.ibendport
     ∷ [])
 
@@ -47,7 +48,7 @@ shape_of_labels tree =
     shape_of_contexts tree
     ∷ first_in shape_of_genfs tree.genfs
     ∷ first_in shape_of_range_trans tree.rangetrans
-    ∷ wrong_if (not (length tree.typemap == slice_index tree.nprims 3)) (field 2 1)
+    ∷ wrong_if (not (length tree.typemap == slice_index tree.nprims 3)) BITMAP_UNIT
     ∷ [])
 
 -- a whole tree

@@ -7,6 +7,7 @@ use pol_constraints::{ConstraintItem, ConstraintRec};
 use pol_context::ContextRec;
 use pol_contexts::{AddressRec, FsUseRec, IbEndPortRec, IbPkeyRec, NamedRec, PortRec, SidRec};
 use pol_cursor::Field;
+use pol_cursor::fields::{AV_XKIND, CONSTRAINT_FLAGS, RANGE_HIGH};
 use pol_genfs::{GenfsPathRec, GenfsRec};
 use pol_mls::RangeRec;
 use pol_symbols::UserRec;
@@ -18,7 +19,7 @@ impl Shaped for RangeRec {
     ghost shape = { λ version range. shape_of_range range };
 
     fn wrong_part(&self, _version: u32) -> Option<Field> {
-        wrong_presence(self.n == 2, &self.high, Field { row: 15, part: 3 })
+        wrong_presence(self.n == 2, &self.high, RANGE_HIGH)
     }
 }
 
@@ -28,12 +29,11 @@ impl Shaped for ConstraintItem {
     ghost shape = { shape_of_item };
 
     fn wrong_part(&self, version: u32) -> Option<Field> {
-        let field = Field { row: 7, part: 6 };
         let has_names = self.kind == 5;
         let has_type_set = has_names && version >= 29;
         first_wrong(&[
-            wrong_presence(has_names, &self.names, field),
-            wrong_presence(has_type_set, &self.type_set, field),
+            wrong_presence(has_names, &self.names, CONSTRAINT_FLAGS),
+            wrong_presence(has_type_set, &self.type_set, CONSTRAINT_FLAGS),
         ])
     }
 }
@@ -77,11 +77,10 @@ impl Shaped for AvRec {
     ghost shape = { λ version av. shape_of_av av };
 
     fn wrong_part(&self, _version: u32) -> Option<Field> {
-        let field = Field { row: 16, part: 5 };
         let extended = self.specified & 0x700 != 0;
         match self.part {
-            AvPart::Data(_) => wrong_where(extended, field),
-            AvPart::Extended { .. } => wrong_where(!extended, field),
+            AvPart::Data(_) => wrong_where(extended, AV_XKIND),
+            AvPart::Extended { .. } => wrong_where(!extended, AV_XKIND),
         }
     }
 }

@@ -5,6 +5,9 @@ ghost use Rattle.pol_tree.specs.TreeShape.{shape_of_symbols, shape_of_rules, sha
 use crate::shaped::{Shaped, first_wrong, wrong_list, wrong_where};
 use crate::tree::Tree;
 use pol_cursor::Field;
+use pol_cursor::fields::{
+    BITMAP_UNIT, IBENDPORT_COUNT, IBPKEY_COUNT, NAMEGROUP_COUNT, NAMETRANS_COUNT,
+};
 
 /// The field of the first optional part of a tree, in the order of the file, that is there and must not be or is not there and has
 /// to be. It takes no memory.
@@ -41,8 +44,8 @@ fn wrong_in_rules(tree: &Tree) -> Option<Field>
     first_wrong(&[
         tree.avtab.wrong_part(version),
         tree.condlist.wrong_part(version),
-        wrong_list(!grouped, &tree.nametrans, Field { row: 22, part: 1 }),
-        wrong_list(grouped, &tree.namegroup, Field { row: 23, part: 1 }),
+        wrong_list(!grouped, &tree.nametrans, NAMETRANS_COUNT),
+        wrong_list(grouped, &tree.namegroup, NAMEGROUP_COUNT),
     ])
 }
 
@@ -61,9 +64,9 @@ fn wrong_in_contexts(tree: &Tree) -> Option<Field>
         tree.node.wrong_part(version),
         tree.fsuse.wrong_part(version),
         tree.node6.wrong_part(version),
-        wrong_list(infiniband, &tree.ibpkey, Field { row: 32, part: 1 }),
+        wrong_list(infiniband, &tree.ibpkey, IBPKEY_COUNT),
         tree.ibpkey.wrong_part(version),
-        wrong_list(infiniband, &tree.ibendport, Field { row: 33, part: 1 }),
+        wrong_list(infiniband, &tree.ibendport, IBENDPORT_COUNT),
         tree.ibendport.wrong_part(version),
     ])
 }
@@ -79,6 +82,6 @@ fn wrong_in_labels(tree: &Tree) -> Option<Field>
         wrong_in_contexts(tree),
         tree.genfs.wrong_part(version),
         tree.rangetrans.wrong_part(version),
-        wrong_where(!rows, Field { row: 2, part: 1 }),
+        wrong_where(!rows, BITMAP_UNIT),
     ])
 }

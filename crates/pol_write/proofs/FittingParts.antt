@@ -2,7 +2,8 @@
 use Rattle.std.proofs.Common.{ℕ, Bool, true, false, None, List, [], refl, if◌then◌else◌, lit<}
 use Rattle.std.specs.List.{AllByRecursion}
 use Rattle.pol_cursor.specs.declared.Field.{Field}
-use Rattle.pol_cursor.specs.Outcome.{field}
+use Rattle.pol_cursor.specs.declared.field.Field.{Field}
+use Rattle.pol_cursor.specs.declared.fields.TheConstants.{FS_COUNT, FS_LEN, FS_NAME, NETIF_COUNT, NETIF_LEN, NETIF_NAME, NODE_COUNT, NODE_ADDRESS, NODE_MASK, NODE6_COUNT, NODE6_ADDRESS, NODE6_MASK, END_END}
 use Rattle.pol_cursor.specs.Parts.{end_at, CountedFits}
 use Rattle.pol_cursor.specs.References.{values_of}
 use Rattle.pol_cursor.proofs.Laws.{Reads-as}
@@ -172,12 +173,12 @@ contexts-fit : (version : ℕ) → Fit (contexts_at version) ContextsFit
 unfolding contexts_at
 contexts-fit version =
     fit-part sid-laws.fitting λ sid sid-fits.
-    fit-part ((named-laws 26).fitting) λ fs fs-fits.
+    fit-part ((named-laws FS_COUNT FS_LEN FS_NAME).fitting) λ fs fs-fits.
     fit-part port-laws.fitting λ port port-fits.
-    fit-part ((named-laws 28).fitting) λ netif netif-fits.
-    fit-part ((address-laws 29 4).fitting) λ node node-fits.
+    fit-part ((named-laws NETIF_COUNT NETIF_LEN NETIF_NAME).fitting) λ netif netif-fits.
+    fit-part ((address-laws NODE_COUNT NODE_ADDRESS NODE_MASK 4).fitting) λ node node-fits.
     fit-part fsuse-laws.fitting λ fsuse fsuse-fits.
-    fit-part ((address-laws 31 16).fitting) λ node6 node6-fits.
+    fit-part ((address-laws NODE6_COUNT NODE6_ADDRESS NODE6_MASK 16).fitting) λ node6 node6-fits.
     fit-part ((ibpkey-laws (has_infiniband version)).fitting) λ ibpkey ibpkey-fits.
     fit-part ((ibendport-laws (has_infiniband version)).fitting) λ ibendport ibendport-fits.
     fit-done _ (record {
@@ -258,5 +259,5 @@ policy-fits =
     fit-part (symbols-fit front.header.version) λ symbols symbols-fits.
     fit-part (rules-fit front.header.version) λ rules rules-fits.
     fit-part (labels-fit front.header.version symbols.types.nprim) λ labels labels-fits.
-    fit-part (end-fits (field 36 1)) λ ended ended-fits.
+    fit-part (end-fits END_END) λ ended ended-fits.
     fit-done _ (tree-fits (record { front = front; symbols = symbols; rules = rules; labels = labels }) front-fit symbols-fits rules-fits labels-fits)

@@ -1,6 +1,7 @@
 -- The bytes of a tree, read again: each part is bad, or gives what the tree has.
 use Rattle.std.proofs.Common.{◌≡◌, ℕ, Bool, true, false, None, List, [], ◌++◌, length, refl, sym, append_assoc, if◌then◌else◌}
 use Rattle.std.proofs.lemmas.List.{append-nil}
+use Rattle.pol_cursor.specs.declared.fields.TheConstants.{FS_COUNT, FS_LEN, FS_NAME, NETIF_COUNT, NETIF_LEN, NETIF_NAME, NODE_COUNT, NODE_ADDRESS, NODE_MASK, NODE6_COUNT, NODE6_ADDRESS, NODE6_MASK}
 use Rattle.pol_cursor.specs.Parts.{spell_counted, CountedFits}
 use Rattle.pol_cursor.specs.References.{values_of}
 use Rattle.pol_bitmap.specs.Bitmap.{bitmap_at, spell_bitmap, BitmapFits}
@@ -211,12 +212,12 @@ contexts-found tree fits none =
     let there = has_infiniband tree.version in
     finds-as
     (finds-part _ (sid-laws.again tree.sid fits.sid) λ sid is_sid.
-    finds-part _ ((named-laws 26).again tree.fs fits.fs) λ fs is_fs.
+    finds-part _ ((named-laws FS_COUNT FS_LEN FS_NAME).again tree.fs fits.fs) λ fs is_fs.
     finds-part _ (port-laws.again tree.port fits.port) λ port is_port.
-    finds-part _ ((named-laws 28).again tree.netif fits.netif) λ netif is_netif.
-    finds-part _ ((address-laws 29 4).again tree.node fits.node) λ node is_node.
+    finds-part _ ((named-laws NETIF_COUNT NETIF_LEN NETIF_NAME).again tree.netif fits.netif) λ netif is_netif.
+    finds-part _ ((address-laws NODE_COUNT NODE_ADDRESS NODE_MASK 4).again tree.node fits.node) λ node is_node.
     finds-part _ (fsuse-laws.again tree.fsuse fits.fsuse) λ fsuse is_fsuse.
-    finds-part _ ((address-laws 31 16).again tree.node6 fits.node6) λ node6 is_node6.
+    finds-part _ ((address-laws NODE6_COUNT NODE6_ADDRESS NODE6_MASK 16).again tree.node6 fits.node6) λ node6 is_node6.
     finds-part _ ((ibpkey-laws there).again tree.ibpkey (fits-if there _ tree.ibpkey fits.ibpkey none.ibpkey)) λ ibpkey is_ibpkey.
     finds-part _ ((ibendport-laws there).again tree.ibendport (fits-if there _ tree.ibendport fits.ibendport none.ibendport)) λ ibendport is_ibendport.
     finds-done _ (record { sid = is_sid; fs = is_fs; port = is_port; netif = is_netif; node = is_node; fsuse = is_fsuse; node6 = is_node6; ibpkey = is_ibpkey; ibendport = is_ibendport }))

@@ -5,7 +5,9 @@ use Rattle.std.proofs.lemmas.List.{append-nil}
 use Rattle.std.proofs.lemmas.Bool.{eqb-true}
 use Rattle.pol_cursor.specs.declared.Fault.{Fault}
 use Rattle.pol_cursor.specs.declared.Field.{Field}
-use Rattle.pol_cursor.specs.Outcome.{Outcome, Got, Bad, field}
+use Rattle.pol_cursor.specs.declared.field.Field.{Field}
+use Rattle.pol_cursor.specs.declared.fields.TheConstants.{BITMAP_UNIT, NAMETRANS_COUNT, NAMEGROUP_COUNT, IBPKEY_COUNT, IBENDPORT_COUNT, END_END}
+use Rattle.pol_cursor.specs.Outcome.{Outcome, Got, Bad}
 use Rattle.pol_cursor.specs.Parts.{end_at}
 use Rattle.pol_cursor.specs.References.{values_of}
 use Rattle.pol_header.specs.declared.HeaderRec.{HeaderRec}
@@ -51,9 +53,9 @@ record HasShape (tree : Tree) : Type 0 where
   infiniband : HasNoInfiniband tree
   rows : length tree.typemap ≡ slice_index tree.nprims 3
 
-one-form : (grouped : Bool) (tree : Tree) → shape_of_list (not grouped) tree.nametrans (field 22 1) ≡ None → shape_of_list grouped tree.namegroup (field 23 1) ≡ None → HasOneForm grouped tree
-one-form true tree entries groups = list-empty false tree.nametrans (field 22 1) entries refl
-one-form false tree entries groups = list-empty false tree.namegroup (field 23 1) groups refl
+one-form : (grouped : Bool) (tree : Tree) → shape_of_list (not grouped) tree.nametrans NAMETRANS_COUNT ≡ None → shape_of_list grouped tree.namegroup NAMEGROUP_COUNT ≡ None → HasOneForm grouped tree
+one-form true tree entries groups = list-empty false tree.nametrans NAMETRANS_COUNT entries refl
+one-form false tree entries groups = list-empty false tree.namegroup NAMEGROUP_COUNT groups refl
 
 has-shape : (tree : Tree) → shape tree ≡ None → HasShape tree
 unfolding shape shape_of_rules shape_of_labels shape_of_contexts
@@ -69,10 +71,10 @@ has-shape tree e =
     record {
       form = one-form (has_groups tree.version) tree (none-each _ _ trans).0 (none-each _ _ (none-each _ _ trans).1).0;
       infiniband = record {
-        ibpkey = list-empty (has_infiniband tree.version) tree.ibpkey (field 32 1) (none-each _ _ node6).0;
-        ibendport = list-empty (has_infiniband tree.version) tree.ibendport (field 33 1) (none-each _ _ ibendport).0;
+        ibpkey = list-empty (has_infiniband tree.version) tree.ibpkey IBPKEY_COUNT (none-each _ _ node6).0;
+        ibendport = list-empty (has_infiniband tree.version) tree.ibendport IBENDPORT_COUNT (none-each _ _ ibendport).0;
       };
-      rows = same-count (length tree.typemap) (slice_index tree.nprims 3) (field 2 1) (none-each _ _ typemap).0;
+      rows = same-count (length tree.typemap) (slice_index tree.nprims 3) BITMAP_UNIT (none-each _ _ typemap).0;
     }
 
 -- ---- the tree of what is read
@@ -136,7 +138,7 @@ tree-found tree fits shapely =
     finds-part _ (subst (λ (version : ℕ). FindsAgain (rule_lists_at version) (HasRules tree) (spell_rules tree)) same (rules-found tree fits has.form)) λ rules has_rules.
     let rows : length tree.typemap ≡ symbols.types.nprim = has.rows ∙ sym (table-prims symbols.types _ has_symbols.types) in
     finds-part _ (subst (λ (version : ℕ). FindsAgain (label_lists_at version symbols.types.nprim) (HasLabels tree) (spell_labels tree)) same (labels-found tree symbols.types.nprim fits has.infiniband rows)) λ labels has_labels.
-    finds-part _ (end-found (field 36 1)) λ ended is_ended.
+    finds-part _ (end-found END_END) λ ended is_ended.
     finds-done _ (tree-same tree (record { front = front; symbols = symbols; rules = rules; labels = labels }) long has_front has_symbols has_rules has_labels))
     (simp (append_assoc, append-nil))
 

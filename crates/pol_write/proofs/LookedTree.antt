@@ -3,7 +3,8 @@ use Rattle.std.proofs.Common.{◌≡◌, ℕ, ◌<◌, ◌^◌, Bool, true, fals
 use Rattle.std.specs.List.{flat_map}
 use Rattle.std.proofs.lemmas.List.{length-append}
 use Rattle.pol_cursor.specs.declared.Field.{Field}
-use Rattle.pol_cursor.specs.Outcome.{field}
+use Rattle.pol_cursor.specs.declared.field.Field.{Field}
+use Rattle.pol_cursor.specs.declared.fields.TheConstants.{NAMETRANS_COUNT, NAMEGROUP_COUNT, IBPKEY_COUNT, IBENDPORT_COUNT}
 use Rattle.pol_cursor.specs.Parts.{spell_counted, CountedFits}
 use Rattle.pol_symtab.specs.SymbolTables.{BareTable, TableFits}
 use Rattle.pol_contexts.specs.ContextTables.{has_infiniband}
@@ -35,8 +36,8 @@ pub record Rights (tree : Tree) : Type 0 where
   pub users : first_in shape_of_user tree.users ≡ None
   pub avtab : first_in shape_of_av tree.avtab ≡ None
   pub condlist : first_in shape_of_condnode tree.condlist ≡ None
-  pub nametrans : shape_of_list (not (has_groups tree.version)) tree.nametrans (field 22 1) ≡ None
-  pub namegroup : shape_of_list (has_groups tree.version) tree.namegroup (field 23 1) ≡ None
+  pub nametrans : shape_of_list (not (has_groups tree.version)) tree.nametrans NAMETRANS_COUNT ≡ None
+  pub namegroup : shape_of_list (has_groups tree.version) tree.namegroup NAMEGROUP_COUNT ≡ None
   pub sid : first_in shape_of_sid tree.sid ≡ None
   pub fs : first_in shape_of_named tree.fs ≡ None
   pub port : first_in shape_of_port tree.port ≡ None
@@ -44,9 +45,9 @@ pub record Rights (tree : Tree) : Type 0 where
   pub node : first_in shape_of_address tree.node ≡ None
   pub fsuse : first_in shape_of_fsuse tree.fsuse ≡ None
   pub node6 : first_in shape_of_address tree.node6 ≡ None
-  pub ibpkey_there : shape_of_list (has_infiniband tree.version) tree.ibpkey (field 32 1) ≡ None
+  pub ibpkey_there : shape_of_list (has_infiniband tree.version) tree.ibpkey IBPKEY_COUNT ≡ None
   pub ibpkey : first_in shape_of_ibpkey tree.ibpkey ≡ None
-  pub ibendport_there : shape_of_list (has_infiniband tree.version) tree.ibendport (field 33 1) ≡ None
+  pub ibendport_there : shape_of_list (has_infiniband tree.version) tree.ibendport IBENDPORT_COUNT ≡ None
   pub ibendport : first_in shape_of_ibendport tree.ibendport ≡ None
   pub genfs : first_in shape_of_genfs tree.genfs ≡ None
   pub rangetrans : first_in shape_of_range_trans tree.rangetrans ≡ None

@@ -1,7 +1,9 @@
 -- Both laws of each list of a policy.
 use Rattle.std.proofs.Common.{ℕ, Bool, Some, List}
 use Rattle.std.specs.List.{flat_map}
-use Rattle.pol_cursor.specs.Outcome.{Reader, field}
+use Rattle.pol_cursor.specs.declared.field.Field.{Field}
+use Rattle.pol_cursor.specs.declared.fields.TheConstants.{ROLETRANS_COUNT, ROLEALLOW_COUNT, NAMETRANS_COUNT, NAMEGROUP_COUNT, SID_COUNT, PORT_COUNT, FSUSE_COUNT, IBPKEY_COUNT, IBENDPORT_COUNT, GENFS_COUNT, RANGETRANS_COUNT}
+use Rattle.pol_cursor.specs.Outcome.{Reader}
 use Rattle.pol_cursor.specs.Parts.{counted, records_at, spell_counted, CountedFits}
 use Rattle.pol_cursor.specs.References.{placed, values_of}
 use Rattle.pol_cursor.specs.Laws.{IsReadAgain, IsReadFromSpelling}
@@ -104,63 +106,64 @@ condlist-laws version =
     (conditionals_again version)
 
 -- a list of records behind its count
-abbrev HasListLaws : {A : Type 0} → ℕ → Reader A → (A → List ℕ) → (A → Type 0) → Type 0
-HasListLaws row record_at spell fits = HasLaws (counted (field row 1) (records_at (placed record_at))) (λ records. values_of records) (spell_counted spell) (CountedFits fits)
+abbrev HasListLaws : {A : Type 0} → Field → Reader A → (A → List ℕ) → (A → Type 0) → Type 0
+HasListLaws count record_at spell fits = HasLaws (counted count (records_at (placed record_at))) (λ records. values_of records) (spell_counted spell) (CountedFits fits)
 
-pub roletrans-laws : HasListLaws 20 role_trans_at spell_role_trans RoleTransFits
-roletrans-laws = list-laws (field 20 1) role_trans_at spell_role_trans RoleTransFits role_trans_spelled role_trans_again
+pub roletrans-laws : HasListLaws ROLETRANS_COUNT role_trans_at spell_role_trans RoleTransFits
+roletrans-laws = list-laws ROLETRANS_COUNT role_trans_at spell_role_trans RoleTransFits role_trans_spelled role_trans_again
 
-pub roleallow-laws : HasListLaws 21 role_allow_at spell_role_allow RoleAllowFits
-roleallow-laws = list-laws (field 21 1) role_allow_at spell_role_allow RoleAllowFits role_allow_spelled role_allow_again
+pub roleallow-laws : HasListLaws ROLEALLOW_COUNT role_allow_at spell_role_allow RoleAllowFits
+roleallow-laws = list-laws ROLEALLOW_COUNT role_allow_at spell_role_allow RoleAllowFits role_allow_spelled role_allow_again
 
-pub nametrans-laws : HasListLaws 22 name_trans_at spell_name_trans NameTransFits
-nametrans-laws = list-laws (field 22 1) name_trans_at spell_name_trans NameTransFits name_trans_spelled name_trans_again
+pub nametrans-laws : HasListLaws NAMETRANS_COUNT name_trans_at spell_name_trans NameTransFits
+nametrans-laws = list-laws NAMETRANS_COUNT name_trans_at spell_name_trans NameTransFits name_trans_spelled name_trans_again
 
-pub namegroup-laws : HasListLaws 23 name_group_at spell_name_group NameGroupFits
-namegroup-laws = list-laws (field 23 1) name_group_at spell_name_group NameGroupFits name_group_spelled name_group_again
+pub namegroup-laws : HasListLaws NAMEGROUP_COUNT name_group_at spell_name_group NameGroupFits
+namegroup-laws = list-laws NAMEGROUP_COUNT name_group_at spell_name_group NameGroupFits name_group_spelled name_group_again
 
-pub rangetrans-laws : HasListLaws 35 range_trans_at spell_range_trans RangeTransFits
-rangetrans-laws = list-laws (field 35 1) range_trans_at spell_range_trans RangeTransFits range_trans_spelled range_trans_again
+pub rangetrans-laws : HasListLaws RANGETRANS_COUNT range_trans_at spell_range_trans RangeTransFits
+rangetrans-laws = list-laws RANGETRANS_COUNT range_trans_at spell_range_trans RangeTransFits range_trans_spelled range_trans_again
 
 -- ---- the tables of contexts
 
--- the table of that code
-abbrev HasEntryLaws : {A : Type 0} → ℕ → Reader A → (A → List ℕ) → (A → Type 0) → Type 0
-HasEntryLaws row entry_at spell fits = HasLaws (entry_table_at row entry_at) (λ entries. values_of entries) (spell_counted spell) (CountedFits fits)
+-- a table
+abbrev HasEntryLaws : {A : Type 0} → Field → Reader A → (A → List ℕ) → (A → Type 0) → Type 0
+HasEntryLaws count entry_at spell fits = HasLaws (entry_table_at count entry_at) (λ entries. values_of entries) (spell_counted spell) (CountedFits fits)
 
-entries-laws : {A : Type 0} (row : ℕ) (entry_at : Reader A) (spell : A → List ℕ) (fits : A → Type 0) → IsReadFromSpelling entry_at spell fits → IsReadAgain entry_at spell fits → HasEntryLaws row entry_at spell fits
+entries-laws : {A : Type 0} (count : Field) (entry_at : Reader A) (spell : A → List ℕ) (fits : A → Type 0) → IsReadFromSpelling entry_at spell fits → IsReadAgain entry_at spell fits → HasEntryLaws count entry_at spell fits
 unfolding entry_table_at
-entries-laws row entry_at spell fits spelled again = list-laws (field row 1) entry_at spell fits spelled again
+entries-laws count entry_at spell fits spelled again = list-laws count entry_at spell fits spelled again
 
-pub sid-laws : HasEntryLaws 25 sid_at spell_sid SidFits
-sid-laws = entries-laws 25 sid_at spell_sid SidFits sid_spelled sid_again
+pub sid-laws : HasEntryLaws SID_COUNT sid_at spell_sid SidFits
+sid-laws = entries-laws SID_COUNT sid_at spell_sid SidFits sid_spelled sid_again
 
-pub named-laws : (row : ℕ) → HasEntryLaws row (named_at row) spell_named NamedFits
-named-laws row = entries-laws row (named_at row) spell_named NamedFits (named_spelled row) (named_again row)
+pub named-laws : (count len_field name_field : Field) → HasEntryLaws count (named_at len_field name_field) spell_named NamedFits
+named-laws count len_field name_field = entries-laws count (named_at len_field name_field) spell_named NamedFits (named_spelled len_field name_field) (named_again len_field name_field)
 
-pub port-laws : HasEntryLaws 27 port_at spell_port PortFits
-port-laws = entries-laws 27 port_at spell_port PortFits port_spelled port_again
+pub port-laws : HasEntryLaws PORT_COUNT port_at spell_port PortFits
+port-laws = entries-laws PORT_COUNT port_at spell_port PortFits port_spelled port_again
 
-pub address-laws : (row width : ℕ) → HasEntryLaws row (address_at row width) (spell_address {width = width}) (AddressFits width)
-address-laws row width = entries-laws row (address_at row width) (spell_address {width = width}) (AddressFits width) (address_spelled row width) (address_again row width)
+pub address-laws : (count address_field mask_field : Field) (width : ℕ) → HasEntryLaws count (address_at address_field mask_field width) (spell_address {width = width}) (AddressFits width)
+address-laws count address_field mask_field width =
+    entries-laws count (address_at address_field mask_field width) (spell_address {width = width}) (AddressFits width) (address_spelled address_field mask_field width) (address_again address_field mask_field width)
 
-pub fsuse-laws : HasEntryLaws 30 fsuse_at spell_fsuse FsUseFits
-fsuse-laws = entries-laws 30 fsuse_at spell_fsuse FsUseFits fsuse_spelled fsuse_again
+pub fsuse-laws : HasEntryLaws FSUSE_COUNT fsuse_at spell_fsuse FsUseFits
+fsuse-laws = entries-laws FSUSE_COUNT fsuse_at spell_fsuse FsUseFits fsuse_spelled fsuse_again
 
 -- one that is in the file or is empty
-abbrev HasLawsIf : {A : Type 0} → Bool → ℕ → Reader A → (A → List ℕ) → (A → Type 0) → Type 0
-HasLawsIf there row entry_at spell fits = HasLaws (table_if there (entry_table_at row entry_at)) (λ entries. values_of entries) (λ xs. spell_if there (spell_counted spell xs)) (FitsIf there (CountedFits fits))
+abbrev HasLawsIf : {A : Type 0} → Bool → Field → Reader A → (A → List ℕ) → (A → Type 0) → Type 0
+HasLawsIf there count entry_at spell fits = HasLaws (table_if there (entry_table_at count entry_at)) (λ entries. values_of entries) (λ xs. spell_if there (spell_counted spell xs)) (FitsIf there (CountedFits fits))
 
-pub ibpkey-laws : (there : Bool) → HasLawsIf there 32 ibpkey_at spell_ibpkey IbPkeyFits
-ibpkey-laws there = list_if-laws there (entry_table_at 32 ibpkey_at) (spell_counted spell_ibpkey) (CountedFits IbPkeyFits) (entries-laws 32 ibpkey_at spell_ibpkey IbPkeyFits ibpkey_spelled ibpkey_again)
+pub ibpkey-laws : (there : Bool) → HasLawsIf there IBPKEY_COUNT ibpkey_at spell_ibpkey IbPkeyFits
+ibpkey-laws there = list_if-laws there (entry_table_at IBPKEY_COUNT ibpkey_at) (spell_counted spell_ibpkey) (CountedFits IbPkeyFits) (entries-laws IBPKEY_COUNT ibpkey_at spell_ibpkey IbPkeyFits ibpkey_spelled ibpkey_again)
 
-pub ibendport-laws : (there : Bool) → HasLawsIf there 33 ibendport_at spell_ibendport IbEndPortFits
-ibendport-laws there = list_if-laws there (entry_table_at 33 ibendport_at) (spell_counted spell_ibendport) (CountedFits IbEndPortFits) (entries-laws 33 ibendport_at spell_ibendport IbEndPortFits ibendport_spelled ibendport_again)
+pub ibendport-laws : (there : Bool) → HasLawsIf there IBENDPORT_COUNT ibendport_at spell_ibendport IbEndPortFits
+ibendport-laws there = list_if-laws there (entry_table_at IBENDPORT_COUNT ibendport_at) (spell_counted spell_ibendport) (CountedFits IbEndPortFits) (entries-laws IBENDPORT_COUNT ibendport_at spell_ibendport IbEndPortFits ibendport_spelled ibendport_again)
 
 -- ---- what stands behind those
 
-pub genfs-laws : HasEntryLaws 34 genfs_at spell_genfs GenfsFits
-genfs-laws = entries-laws 34 genfs_at spell_genfs GenfsFits genfs_spelled genfs_again
+pub genfs-laws : HasEntryLaws GENFS_COUNT genfs_at spell_genfs GenfsFits
+genfs-laws = entries-laws GENFS_COUNT genfs_at spell_genfs GenfsFits genfs_spelled genfs_again
 
 pub typemap-laws : (types : ℕ) → HasLaws (type_map_at types) (λ rows. values_of rows) (flat_map spell_bitmap) (AreSoManyFitting types BitmapFits)
 unfolding type_map_at

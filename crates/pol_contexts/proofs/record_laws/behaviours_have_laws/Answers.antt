@@ -1,3 +1,4 @@
+use Rattle.pol_cursor.specs.declared.fields.TheConstants.{FSUSE_COUNT}
 use Rattle.pol_context.proofs.ContextLaws.{entries_spelled, entries_again}
 use Rattle.pol_contexts.specs.FsUseRecord.{fsuse_at, spell_fsuse, FsUseFits}
 use Rattle.pol_contexts.proofs.ContextLaws.{fsuse_spelled, fsuse_again}
@@ -10,7 +11,7 @@ pub returns-clause-spelled : goal.returns-clause-spelled
 returns-clause-spelled c = fsuse_spelled
 
 pub returns-clause-list_again : goal.returns-clause-list_again
-returns-clause-list_again c = entries_again 30 fsuse_at spell_fsuse FsUseFits fsuse_again
+returns-clause-list_again c = entries_again FSUSE_COUNT fsuse_at spell_fsuse FsUseFits fsuse_again
 
 pub returns-clause-list_spelled : goal.returns-clause-list_spelled
-returns-clause-list_spelled c = entries_spelled 30 fsuse_at spell_fsuse FsUseFits fsuse_spelled
+returns-clause-list_spelled c = entries_spelled FSUSE_COUNT fsuse_at spell_fsuse FsUseFits fsuse_spelled

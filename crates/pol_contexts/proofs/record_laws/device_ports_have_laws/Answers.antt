@@ -1,3 +1,4 @@
+use Rattle.pol_cursor.specs.declared.fields.TheConstants.{IBENDPORT_COUNT}
 use Rattle.pol_context.proofs.ContextLaws.{entries_spelled, entries_again}
 use Rattle.pol_contexts.specs.IbEndPortRecord.{ibendport_at, spell_ibendport, IbEndPortFits}
 use Rattle.pol_contexts.proofs.ContextLaws.{ibendport_spelled, ibendport_again}
@@ -10,7 +11,7 @@ pub returns-clause-spelled : goal.returns-clause-spelled
 returns-clause-spelled c = ibendport_spelled
 
 pub returns-clause-list_again : goal.returns-clause-list_again
-returns-clause-list_again c = entries_again 33 ibendport_at spell_ibendport IbEndPortFits ibendport_again
+returns-clause-list_again c = entries_again IBENDPORT_COUNT ibendport_at spell_ibendport IbEndPortFits ibendport_again
 
 pub returns-clause-list_spelled : goal.returns-clause-list_spelled
-returns-clause-list_spelled c = entries_spelled 33 ibendport_at spell_ibendport IbEndPortFits ibendport_spelled
+returns-clause-list_spelled c = entries_spelled IBENDPORT_COUNT ibendport_at spell_ibendport IbEndPortFits ibendport_spelled

@@ -1,16 +1,17 @@
+use Rattle.pol_cursor.specs.declared.fields.TheConstants.{NETIF_COUNT, NETIF_LEN, NETIF_NAME}
 use Rattle.pol_context.proofs.ContextLaws.{entries_spelled, entries_again}
 use Rattle.pol_contexts.specs.NamedRecord.{named_at, spell_named, NamedFits}
 use Rattle.pol_contexts.proofs.ContextLaws.{named_spelled, named_again}
 use Rattle.pol_contexts.proofs.record_laws.interfaces_have_laws.Goals as goal
 
 pub returns-clause-again : goal.returns-clause-again
-returns-clause-again c = named_again 28
+returns-clause-again c = named_again NETIF_LEN NETIF_NAME
 
 pub returns-clause-spelled : goal.returns-clause-spelled
-returns-clause-spelled c = named_spelled 28
+returns-clause-spelled c = named_spelled NETIF_LEN NETIF_NAME
 
 pub returns-clause-list_again : goal.returns-clause-list_again
-returns-clause-list_again c = entries_again 28 (named_at 28) spell_named NamedFits (named_again 28)
+returns-clause-list_again c = entries_again NETIF_COUNT (named_at NETIF_LEN NETIF_NAME) spell_named NamedFits (named_again NETIF_LEN NETIF_NAME)
 
 pub returns-clause-list_spelled : goal.returns-clause-list_spelled
-returns-clause-list_spelled c = entries_spelled 28 (named_at 28) spell_named NamedFits (named_spelled 28)
+returns-clause-list_spelled c = entries_spelled NETIF_COUNT (named_at NETIF_LEN NETIF_NAME) spell_named NamedFits (named_spelled NETIF_LEN NETIF_NAME)

@@ -1,3 +1,4 @@
+use Rattle.pol_cursor.specs.declared.fields.TheConstants.{IBPKEY_COUNT}
 use Rattle.pol_context.proofs.ContextLaws.{entries_spelled, entries_again}
 use Rattle.pol_contexts.specs.IbPkeyRecord.{ibpkey_at, spell_ibpkey, IbPkeyFits}
 use Rattle.pol_contexts.proofs.ContextLaws.{ibpkey_spelled, ibpkey_again}
@@ -10,7 +11,7 @@ pub returns-clause-spelled : goal.returns-clause-spelled
 returns-clause-spelled c = ibpkey_spelled
 
 pub returns-clause-list_again : goal.returns-clause-list_again
-returns-clause-list_again c = entries_again 32 ibpkey_at spell_ibpkey IbPkeyFits ibpkey_again
+returns-clause-list_again c = entries_again IBPKEY_COUNT ibpkey_at spell_ibpkey IbPkeyFits ibpkey_again
 
 pub returns-clause-list_spelled : goal.returns-clause-list_spelled
-returns-clause-list_spelled c = entries_spelled 32 ibpkey_at spell_ibpkey IbPkeyFits ibpkey_spelled
+returns-clause-list_spelled c = entries_spelled IBPKEY_COUNT ibpkey_at spell_ibpkey IbPkeyFits ibpkey_spelled

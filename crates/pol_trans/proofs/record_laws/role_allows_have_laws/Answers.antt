@@ -1,4 +1,4 @@
-use Rattle.pol_cursor.specs.Outcome.{field}
+use Rattle.pol_cursor.specs.declared.fields.TheConstants.{ROLEALLOW_COUNT}
 use Rattle.pol_trans.specs.RoleAllowRecord.{role_allow_at, spell_role_allow, RoleAllowFits}
 use Rattle.pol_trans.proofs.TransLaws.{role_allow_spelled, role_allow_again, list_spelled, list_again}
 use Rattle.pol_trans.proofs.record_laws.role_allows_have_laws.Goals as goal
@@ -10,7 +10,7 @@ pub returns-clause-spelled : goal.returns-clause-spelled
 returns-clause-spelled c = role_allow_spelled
 
 pub returns-clause-list_again : goal.returns-clause-list_again
-returns-clause-list_again c = list_again (field 21 1) role_allow_at spell_role_allow RoleAllowFits role_allow_again
+returns-clause-list_again c = list_again ROLEALLOW_COUNT role_allow_at spell_role_allow RoleAllowFits role_allow_again
 
 pub returns-clause-list_spelled : goal.returns-clause-list_spelled
-returns-clause-list_spelled c = list_spelled (field 21 1) role_allow_at spell_role_allow RoleAllowFits role_allow_spelled
+returns-clause-list_spelled c = list_spelled ROLEALLOW_COUNT role_allow_at spell_role_allow RoleAllowFits role_allow_spelled

@@ -1,5 +1,5 @@
 use Rattle.std.proofs.Common.{not, refl, arith, length-append}
-use Rattle.pol_cursor.specs.Outcome.{field}
+use Rattle.pol_cursor.specs.declared.fields.TheConstants.{NAMETRANS_COUNT, NAMEGROUP_COUNT, IBPKEY_COUNT, IBENDPORT_COUNT}
 use Rattle.pol_cursor.specs.Parts.{spell_counted}
 use Rattle.pol_trans.specs.NameTransRecord.{spell_name_trans}
 use Rattle.pol_trans.specs.NameGroupRecord.{spell_name_group}
@@ -43,8 +43,8 @@ returns c right few =
       condlist = rules.condlist.fitting rights.condlist (omega (arith, each));
       roletrans = rules.roletrans.fitting (none_in tree.roletrans) (omega (arith, each));
       roleallow = rules.roleallow.fitting (none_in tree.roleallow) (omega (arith, each));
-      nametrans = list_fits_if (not grouped) tree.nametrans (field 22 1) rules.nametrans rights.nametrans (none_in tree.nametrans) (few_unless spell_name_trans grouped tree.nametrans (spell_counted spell_name_group tree.namegroup) (omega (arith, each)));
-      namegroup = list_fits_if grouped tree.namegroup (field 23 1) rules.namegroup rights.namegroup (none_in tree.namegroup) (few_if spell_name_group grouped tree.namegroup (spell_counted spell_name_trans tree.nametrans) (omega (arith, each)));
+      nametrans = list_fits_if (not grouped) tree.nametrans NAMETRANS_COUNT rules.nametrans rights.nametrans (none_in tree.nametrans) (few_unless spell_name_trans grouped tree.nametrans (spell_counted spell_name_group tree.namegroup) (omega (arith, each)));
+      namegroup = list_fits_if grouped tree.namegroup NAMEGROUP_COUNT rules.namegroup rights.namegroup (none_in tree.namegroup) (few_if spell_name_group grouped tree.namegroup (spell_counted spell_name_trans tree.nametrans) (omega (arith, each)));
       sid = contexts.sid.fitting rights.sid (omega (arith, each));
       fs = contexts.fs.fitting rights.fs (omega (arith, each));
       port = contexts.port.fitting rights.port (omega (arith, each));
@@ -52,8 +52,8 @@ returns c right few =
       node = contexts.node.fitting rights.node (omega (arith, each));
       fsuse = contexts.fsuse.fitting rights.fsuse (omega (arith, each));
       node6 = contexts.node6.fitting rights.node6 (omega (arith, each));
-      ibpkey = list_fits_if there tree.ibpkey (field 32 1) contexts.ibpkey rights.ibpkey_there rights.ibpkey (few_first spell_ibpkey spell_ibendport there tree.ibpkey tree.ibendport (omega (arith, each)));
-      ibendport = list_fits_if there tree.ibendport (field 33 1) contexts.ibendport rights.ibendport_there rights.ibendport (few_second spell_ibpkey spell_ibendport there tree.ibpkey tree.ibendport (omega (arith, each)));
+      ibpkey = list_fits_if there tree.ibpkey IBPKEY_COUNT contexts.ibpkey rights.ibpkey_there rights.ibpkey (few_first spell_ibpkey spell_ibendport there tree.ibpkey tree.ibendport (omega (arith, each)));
+      ibendport = list_fits_if there tree.ibendport IBENDPORT_COUNT contexts.ibendport rights.ibendport_there rights.ibendport (few_second spell_ibpkey spell_ibendport there tree.ibpkey tree.ibendport (omega (arith, each)));
       genfs = labels.genfs.fitting rights.genfs (omega (arith, each));
       rangetrans = labels.rangetrans.fitting rights.rangetrans (omega (arith, each));
       typemap = (labels.typemap.fitting (none_in tree.typemap) (omega (arith, each))).items;
