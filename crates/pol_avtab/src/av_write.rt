@@ -1,17 +1,9 @@
 ghost use Rattle.pol_cursor.specs.Writing.{Writes};
-ghost use Rattle.pol_avtab.specs.AvRecord.{spell_av};
 ghost use Rattle.pol_avtab.specs.AvTables.{spell_table};
 
 use crate::av_rec::{AvPart, AvRec, AvRecList};
 use pol_cursor::{Part, Written};
 use std::alloc::AllocError;
-
-/// Appends the bytes of an access vector, which are the same in each version. Out of memory, a beginning of them was appended.
-pub fn write_av(av: &AvRec, _version: u32, out: &mut Vec<u8>) -> Result<(), AllocError>
-    ensures { Writes out.old.items out.new.items (spell_av av.now) result }
-{
-    av.write(out)
-}
 
 /// Appends the bytes of a table of access vectors, which are the same in each version: their number, and then they. Out of
 /// memory, a beginning of the bytes was appended.

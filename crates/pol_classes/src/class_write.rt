@@ -1,18 +1,8 @@
-ghost use Rattle.pol_cursor.specs.Writing.{Writes};
-ghost use Rattle.pol_classes.specs.ClassRecord.{spell_class};
-
 use crate::class_rec::ClassRec;
 use pol_cursor::{Part, Written};
 use std::alloc::AllocError;
 
-/// Appends the bytes of a class, whose constraints have type sets from version 29 on. Out of memory, a beginning of them was
-/// appended.
-pub fn write_class(class: &ClassRec, _version: u32, out: &mut Vec<u8>) -> Result<(), AllocError>
-    ensures { Writes out.old.items out.new.items (spell_class class.now) result }
-{
-    class.write(out)
-}
-
+// The version shows in the constraints of a class.
 impl Written for ClassRec {
     ghost use Rattle.pol_classes.specs.ClassRecord.{spell_class};
 

@@ -16,6 +16,6 @@ pub use class_kind::{Class, ClassContext};
 pub use class_rec::{ClassRec, ClassRecList};
 pub use class_table::{ByTypeSets, ClassTable, read_class_table};
 pub use class_view::{ClassView, read_class};
-pub use class_write::write_class;
 pub use constraint_list::ConstraintList;
+pub use pol_cursor::write_record as write_class;
 pub use record_laws::{classes_have_laws, classes_have_two_forms};

@@ -1,22 +1,9 @@
 ghost use Rattle.pol_cursor.specs.Writing.{Writes};
-ghost use Rattle.pol_conditionals.specs.CondNodeRecord.{spell_condnode};
 ghost use Rattle.pol_conditionals.specs.CondNodeList.{spell_conditionals};
 
 use crate::condnode_rec::{CondNodeRec, CondNodeRecList};
 use pol_cursor::{Part, Written};
 use std::alloc::AllocError;
-
-/// Appends the bytes of a conditional node, which are the same in each version: its condition, and then the two lists. Out of
-/// memory, a beginning of the bytes was appended; so it is with the writer below.
-pub fn write_condnode(
-    node: &CondNodeRec,
-    _version: u32,
-    out: &mut Vec<u8>,
-) -> Result<(), AllocError>
-    ensures { Writes out.old.items out.new.items (spell_condnode node.now) result }
-{
-    node.write(out)
-}
 
 /// Appends the bytes of a list of conditional nodes, which are the same in each version: their number, and then they.
 pub fn write_conditionals(

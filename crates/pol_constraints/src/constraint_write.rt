@@ -1,22 +1,8 @@
-ghost use Rattle.pol_cursor.specs.Writing.{Writes};
-ghost use Rattle.pol_constraints.specs.ConstraintRecord.{spell_constraint};
-
 use crate::constraint_rec::{ConstraintItem, ConstraintRec, TypeSet};
 use pol_cursor::{Part, Written};
 use std::alloc::AllocError;
 
-/// Appends the bytes of a constraint. The version shows in its items, which have type sets from version 29 on. Out of memory, a
-/// beginning of them was appended.
-pub fn write_constraint(
-    constraint: &ConstraintRec,
-    _version: u32,
-    out: &mut Vec<u8>,
-) -> Result<(), AllocError>
-    ensures { Writes out.old.items out.new.items (spell_constraint constraint.now) result }
-{
-    constraint.write(out)
-}
-
+// The version shows in the items of a constraint, which have type sets from version 29 on.
 impl Written for ConstraintRec {
     ghost use Rattle.pol_constraints.specs.ConstraintRecord.{spell_constraint};
 

@@ -17,7 +17,7 @@ mod type_set_view;
 pub use constraint_item::{ConstraintItemView, ConstraintItems};
 pub use constraint_rec::{ConstraintItem, ConstraintRec, ConstraintRecList, TypeSet};
 pub use constraint_view::{ConstraintView, read_constraint};
-pub use constraint_write::write_constraint;
 pub use junction::Junction;
+pub use pol_cursor::write_record as write_constraint;
 pub use record_laws::{constraints_have_laws, constraints_have_one_tree};
 pub use type_set_view::TypeSetView;

@@ -1,20 +1,6 @@
-ghost use Rattle.pol_cursor.specs.Writing.{Writes};
-ghost use Rattle.pol_context.specs.ContextRecord.{spell_context};
-
 use crate::context_rec::ContextRec;
 use pol_cursor::{Part, Written};
 use std::alloc::AllocError;
-
-/// Appends the bytes of a context, which are the same in each version. Out of memory, a beginning of them was appended.
-pub fn write_context(
-    context: &ContextRec,
-    _version: u32,
-    out: &mut Vec<u8>,
-) -> Result<(), AllocError>
-    ensures { Writes out.old.items out.new.items (spell_context context.now) result }
-{
-    context.write(out)
-}
 
 impl Written for ContextRec {
     ghost use Rattle.pol_context.specs.ContextRecord.{spell_context};

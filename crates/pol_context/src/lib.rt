@@ -11,8 +11,8 @@ mod texts;
 
 pub use context_rec::{ContextRec, ContextRecList};
 pub use context_view::{ContextView, read_context};
-pub use context_write::write_context;
 pub use entry_list::read_table;
 pub use parts::{context_end, name_end, name_standing};
+pub use pol_cursor::write_record as write_context;
 pub use record_laws::contexts_have_laws;
 pub use texts::context_text;

@@ -21,7 +21,6 @@ mod record_laws;
 mod sid_entry;
 mod sid_rec;
 mod tables;
-mod writers;
 
 pub use address_rec::AddressRec;
 pub use entry::{EntryKind, EntryView};
@@ -34,6 +33,11 @@ pub use kinds::{
     Port, PortView, Sid, SidView,
 };
 pub use named_rec::NamedRec;
+pub use pol_cursor::{
+    write_record as write_fs, write_record as write_fsuse, write_record as write_ibendport,
+    write_record as write_ibpkey, write_record as write_netif, write_record as write_node,
+    write_record as write_node6, write_record as write_port, write_record as write_sid,
+};
 pub use port_rec::PortRec;
 pub use readers::{
     read_fs_entry, read_fsuse_entry, read_ibendport_entry, read_ibpkey_entry, read_netif_entry,
@@ -48,8 +52,4 @@ pub use tables::{
     Contexts, FsList, FsRecList, FsUseList, FsUseRecList, IbEndPortList, IbEndPortRecList,
     IbPkeyList, IbPkeyRecList, NetifList, NetifRecList, Node6List, Node6RecList, NodeList,
     NodeRecList, PortList, PortRecList, SidList, SidRecList, read_contexts,
-};
-pub use writers::{
-    write_fs, write_fsuse, write_ibendport, write_ibpkey, write_netif, write_node, write_node6,
-    write_port, write_sid,
 };

@@ -27,7 +27,7 @@ pub use file_name::{read_name, read_name_bytes, read_name_length, write_name};
 pub use mention::{Mention, first_dangling};
 pub use names::{Names, dangling};
 pub use owned_list::{ByteList, NumberList, OwnedList};
-pub use part::{Part, Written};
+pub use part::{Part, Written, write_record};
 pub use parts::{array_in, push_number, refuse, string_in, u16_in, u32_in, u64_in};
 pub use read_error::ReadError;
 pub use record_laws::{

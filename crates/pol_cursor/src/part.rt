@@ -17,6 +17,14 @@ pub trait Written {
         ensures { Writes out.old.items out.new.items (spelling self.now) result };
 }
 
+/// Appends the bytes of a record. What differs between versions stands in the record itself, so that they are the same in each
+/// version that has such a record. Out of memory, a beginning of them was appended.
+pub fn write_record<R: Written>(rec: &R, _version: u32, out: &mut Vec<u8>) -> Result<(), AllocError>
+    ensures { Writes out.old.items out.new.items (R.spelling rec.now) result }
+{
+    rec.write(out)
+}
+
 /// A number, of which the lowest bytes are written, as many as its field is wide, the lowest of them first; or bytes.
 #[derive(Clone, Copy)]
 pub enum Part<'a> {

@@ -1,20 +1,6 @@
-ghost use Rattle.pol_cursor.specs.Writing.{Writes};
-ghost use Rattle.pol_datums.specs.BooleanRecord.{spell_boolean};
-
 use crate::boolean_rec::BooleanRec;
 use pol_cursor::{Part, Written};
 use std::alloc::AllocError;
-
-/// Appends the bytes of a boolean, which are the same in each version. Out of memory, a beginning of them was appended.
-pub fn write_boolean(
-    boolean: &BooleanRec,
-    _version: u32,
-    out: &mut Vec<u8>,
-) -> Result<(), AllocError>
-    ensures { Writes out.old.items out.new.items (spell_boolean boolean.now) result }
-{
-    boolean.write(out)
-}
 
 impl Written for BooleanRec {
     ghost use Rattle.pol_datums.specs.BooleanRecord.{spell_boolean};

@@ -32,13 +32,15 @@ mod type_write;
 pub use boolean_kind::Boolean;
 pub use boolean_rec::{BooleanRec, BooleanRecList};
 pub use boolean_view::{BooleanView, read_boolean};
-pub use boolean_write::write_boolean;
 pub use category_kind::Category;
 pub use category_rec::{CategoryRec, CategoryRecList};
 pub use category_view::{CategoryView, read_category};
-pub use category_write::write_category;
 pub use datum::{CopiedDatum, Datum, DatumKind, DatumView, ReferringDatum};
 pub use flavour::Flavour;
+pub use pol_cursor::{
+    write_record as write_boolean, write_record as write_category, write_record as write_role,
+    write_record as write_sensitivity, write_record as write_type,
+};
 pub use record_laws::{
     booleans_have_laws, categories_have_laws, roles_have_laws, sensitivities_have_laws,
     types_have_laws,
@@ -46,14 +48,11 @@ pub use record_laws::{
 pub use role_kind::Role;
 pub use role_rec::{RoleRec, RoleRecList};
 pub use role_view::{RoleView, read_role};
-pub use role_write::write_role;
 pub use sensitivity_kind::Sensitivity;
 pub use sensitivity_rec::{SensitivityRec, SensitivityRecList};
 pub use sensitivity_view::{SensitivityView, read_sensitivity};
-pub use sensitivity_write::write_sensitivity;
 pub use symbol_references::dangling_bounds;
 pub use symbol_values::{read_bounds, read_new_value, read_value};
 pub use type_kind::Type;
 pub use type_rec::{TypeRec, TypeRecList};
 pub use type_view::{TypeView, read_type};
-pub use type_write::write_type;

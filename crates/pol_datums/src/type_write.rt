@@ -1,16 +1,6 @@
-ghost use Rattle.pol_cursor.specs.Writing.{Writes};
-ghost use Rattle.pol_datums.specs.TypeRecord.{spell_type};
-
 use crate::type_rec::TypeRec;
 use pol_cursor::{Part, Written};
 use std::alloc::AllocError;
-
-/// Appends the bytes of a type, which are the same in each version. Out of memory, a beginning of them was appended.
-pub fn write_type(rec: &TypeRec, _version: u32, out: &mut Vec<u8>) -> Result<(), AllocError>
-    ensures { Writes out.old.items out.new.items (spell_type rec.now) result }
-{
-    rec.write(out)
-}
 
 impl Written for TypeRec {
     ghost use Rattle.pol_datums.specs.TypeRecord.{spell_type};

@@ -1,16 +1,6 @@
-ghost use Rattle.pol_cursor.specs.Writing.{Writes};
-ghost use Rattle.pol_genfs.specs.GenfsRecord.{spell_genfs};
-
 use crate::genfs_rec::{GenfsPathRec, GenfsRec};
 use pol_cursor::{Part, Written};
 use std::alloc::AllocError;
-
-/// Appends the bytes of a file system and of its paths, which are the same in each version. Out of memory, a beginning of them was appended.
-pub fn write_genfs(entry: &GenfsRec, _version: u32, out: &mut Vec<u8>) -> Result<(), AllocError>
-    ensures { Writes out.old.items out.new.items (spell_genfs entry.now) result }
-{
-    entry.write(out)
-}
 
 impl Written for GenfsRec {
     ghost use Rattle.pol_genfs.specs.GenfsRecord.{spell_genfs};

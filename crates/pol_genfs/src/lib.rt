@@ -12,5 +12,5 @@ pub use genfs_list::{GenfsList, read_genfs};
 pub use genfs_path_view::{GenfsPath, GenfsPathView};
 pub use genfs_rec::{GenfsPathRec, GenfsPathRecList, GenfsRec, GenfsRecList};
 pub use genfs_view::{Genfs, GenfsView, read_genfs_entry};
-pub use genfs_write::write_genfs;
+pub use pol_cursor::write_record as write_genfs;
 pub use record_laws::genfs_have_laws;

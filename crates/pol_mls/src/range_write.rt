@@ -1,21 +1,13 @@
 ghost use Rattle.std.specs.Prelude.{◌≡◌};
 ghost use Rattle.pol_cursor.specs.Parts.{spell_optional};
 ghost use Rattle.pol_cursor.specs.Spelling.{bytes_of};
-ghost use Rattle.pol_cursor.specs.Writing.{Writes, spell_part};
+ghost use Rattle.pol_cursor.specs.Writing.{spell_part};
 ghost use Rattle.pol_bitmap.specs.Bitmap.{spell_bitmap};
-ghost use Rattle.pol_mls.specs.RangeRecord.{spell_range};
 
 use crate::range_rec::RangeRec;
 use pol_bitmap::Set;
 use pol_cursor::{Part, Written};
 use std::alloc::AllocError;
-
-/// Appends the bytes of a range, which are the same in each version. Out of memory, a beginning of them was appended.
-pub fn write_range(range: &RangeRec, _version: u32, out: &mut Vec<u8>) -> Result<(), AllocError>
-    ensures { Writes out.old.items out.new.items (spell_range range.now) result }
-{
-    range.write(out)
-}
 
 impl Written for RangeRec {
     ghost use Rattle.pol_mls.specs.RangeRecord.{spell_range};

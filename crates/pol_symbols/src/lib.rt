@@ -9,9 +9,9 @@ mod user_rec;
 mod user_view;
 mod user_write;
 
+pub use pol_cursor::write_record as write_user;
 pub use record_laws::users_have_laws;
 pub use symbols::{OtherTables, RuleTables, Symbols, read_symbols};
 pub use user_kind::User;
 pub use user_rec::{UserRec, UserRecList};
 pub use user_view::{UserView, read_user};
-pub use user_write::write_user;

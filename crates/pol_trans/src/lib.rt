@@ -33,22 +33,22 @@ pub use name_datum_rec::{NameDatumRec, NameDatumRecList};
 pub use name_datum_view::{NameDatum, NameDatumView};
 pub use name_group_rec::{NameGroupRec, NameGroupRecList};
 pub use name_group_view::{NameGroupView, read_name_group_entry};
-pub use name_group_write::write_name_group;
 pub use name_trans::{NameTrans, read_name_trans};
 pub use name_trans_rec::{NameTransRec, NameTransRecList};
 pub use name_trans_view::{NameTransView, read_name_trans_entry};
-pub use name_trans_write::write_name_trans;
+pub use pol_cursor::{
+    write_record as write_name_group, write_record as write_name_trans,
+    write_record as write_range_trans, write_record as write_role_allow,
+    write_record as write_role_trans,
+};
 pub use range_trans_rec::{RangeTransRec, RangeTransRecList};
 pub use range_trans_view::{RangeTransView, read_range_trans_entry};
-pub use range_trans_write::write_range_trans;
 pub use record_laws::{
     name_groups_have_laws, name_transitions_have_laws, range_transitions_have_laws,
     role_allows_have_laws, role_transitions_have_laws,
 };
 pub use role_allow_rec::{RoleAllowRec, RoleAllowRecList};
 pub use role_allow_view::{RoleAllowView, read_role_allow_entry};
-pub use role_allow_write::write_role_allow;
 pub use role_trans_rec::{RoleTransRec, RoleTransRecList};
 pub use role_trans_view::{RoleTransView, read_role_trans_entry};
-pub use role_trans_write::write_role_trans;
 pub use transition::{TransitionKind, TransitionView};

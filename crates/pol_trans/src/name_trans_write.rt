@@ -1,20 +1,6 @@
-ghost use Rattle.pol_cursor.specs.Writing.{Writes};
-ghost use Rattle.pol_trans.specs.NameTransRecord.{spell_name_trans};
-
 use crate::name_trans_rec::NameTransRec;
 use pol_cursor::{Part, Written};
 use std::alloc::AllocError;
-
-/// Appends the bytes of a file-name transition, which are the same in each version. Out of memory, a beginning of them was appended.
-pub fn write_name_trans(
-    trans: &NameTransRec,
-    _version: u32,
-    out: &mut Vec<u8>,
-) -> Result<(), AllocError>
-    ensures { Writes out.old.items out.new.items (spell_name_trans trans.now) result }
-{
-    trans.write(out)
-}
 
 impl Written for NameTransRec {
     ghost use Rattle.pol_trans.specs.NameTransRecord.{spell_name_trans};

@@ -1,20 +1,6 @@
-ghost use Rattle.pol_cursor.specs.Writing.{Writes};
-ghost use Rattle.pol_trans.specs.RangeTransRecord.{spell_range_trans};
-
 use crate::range_trans_rec::RangeTransRec;
 use pol_cursor::{Part, Written};
 use std::alloc::AllocError;
-
-/// Appends the bytes of a range transition, which are the same in each version. Out of memory, a beginning of them was appended.
-pub fn write_range_trans(
-    trans: &RangeTransRec,
-    _version: u32,
-    out: &mut Vec<u8>,
-) -> Result<(), AllocError>
-    ensures { Writes out.old.items out.new.items (spell_range_trans trans.now) result }
-{
-    trans.write(out)
-}
 
 impl Written for RangeTransRec {
     ghost use Rattle.pol_trans.specs.RangeTransRecord.{spell_range_trans};

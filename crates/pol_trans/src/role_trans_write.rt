@@ -1,20 +1,6 @@
-ghost use Rattle.pol_cursor.specs.Writing.{Writes};
-ghost use Rattle.pol_trans.specs.RoleTransRecord.{spell_role_trans};
-
 use crate::role_trans_rec::RoleTransRec;
 use pol_cursor::{Part, Written};
 use std::alloc::AllocError;
-
-/// Appends the bytes of a role transition, which are the same in each version. Out of memory, a beginning of them was appended.
-pub fn write_role_trans(
-    trans: &RoleTransRec,
-    _version: u32,
-    out: &mut Vec<u8>,
-) -> Result<(), AllocError>
-    ensures { Writes out.old.items out.new.items (spell_role_trans trans.now) result }
-{
-    trans.write(out)
-}
 
 impl Written for RoleTransRec {
     ghost use Rattle.pol_trans.specs.RoleTransRecord.{spell_role_trans};
