@@ -1,6 +1,8 @@
 -- The parts of an access vector that were read are those that stand there.
-use Rattle.std.proofs.Common.{◌≡◌, ⊎_elim, ℕ, ◌+◌, ◌≤◌, Option, None, Some, Bool, true, false, List, length, take, drop, refl, sym, ap, subst, ◌∙◌, arith}
-use Rattle.std.specs.Prelude.{◌||◌, ◌==◌, nat_le, option_map, if◌then◌else◌}
+use Rattle.std.proofs.Common.{◌≡◌, ⊎_elim, ℕ, ◌+◌, ◌*◌, ◌≤◌, Option, None, Some, Bool, true, false, List, length, take, drop, refl, sym, ap, subst, ◌∙◌, arith}
+use Rattle.std.specs.Prelude.{◌||◌, ◌==◌, nat_le, not, option_map, slice_index, if◌then◌else◌}
+use Rattle.std.proofs.lemmas.List.{get_or-drop}
+use Rattle.std.proofs.lemmas.Nat.{and_assoc}
 use Rattle.std.proofs.lemmas.Bool.{false≢true, le-ltb, eqb-true, or_cases, or_right}
 use Rattle.pol_cursor.specs.declared.field.Field.{Field}
 use Rattle.pol_cursor.specs.declared.fields.TheConstants.{AV_SOURCE, AV_TARGET, AV_CLASS, AV_SPECIFIED, AV_XKIND, AV_DRIVER, AV_BITS, AV_DATA}
@@ -153,3 +155,19 @@ plain_read version earlier first bytes place long kind =
     (number_there AV_SPECIFIED 2 bytes (place + 2 + 2 + 2) (omega (arith, long)))
     version earlier (stands_well version earlier first key is.0 is.1) (plain_part bytes (place + 2 + 2 + 2 + 2) (is_extended specified) is.2 (omega (arith, long))) in
     subst (λ (i : ℕ). av_at version earlier bytes place ≡ Got (av_in bytes place) i) (omega arith) got
+
+-- ---- the key
+
+byte_from : (bytes : List ℕ) (place i at : ℕ) → place + i ≡ at → slice_index (drop place bytes) i ≡ slice_index bytes at
+byte_from bytes place i at e = get_or-drop place bytes i 0 ∙ ap (slice_index bytes) e
+
+-- source and target make a number of four bytes
+pub ends_together : (bytes : List ℕ) (place : ℕ) → num bytes place 4 ≡ num bytes place 2 + 0x10000 * num bytes (place + 2) 2
+unfolding num
+ends_together bytes place =
+    let at : (i : ℕ) → slice_index (drop place bytes) i ≡ slice_index bytes (place + i) = λ i. byte_from bytes place i (place + i) refl in
+    omega (arith, at 2, at 3, byte_from bytes (place + 2) 0 (place + 2) (omega arith), byte_from bytes (place + 2) 1 (place + 3) (omega arith))
+
+-- a rule is extended with the mark or without it
+pub extended_unmarked : (specified : ℕ) → is_extended (kind_of specified) ≡ is_extended specified
+extended_unmarked specified = ap (λ (bits : ℕ). not (bits == 0)) (and_assoc 0x700 specified 0x7FFF)

@@ -4,4 +4,5 @@ pub mod HeldNumbers
 pub mod AvLaws
 pub mod KeyWords
 pub mod SharedWords
+pub mod SharedFirst
 pub mod DeclaredEnds

@@ -119,7 +119,7 @@ fn shared_words(
     let mut i = 0;
     while i < table.len() {
         i = next_words(&mut words, table, i)?;
-        marks.push_shared(&words, &mut found)?;
+        marks.push_shared(&mut words, &mut found)?;
     }
     Ok(found)
 }
@@ -141,14 +141,15 @@ fn next_words(words: &mut Vec<u64>, table: &AvTable<'_>, from: u32) -> Result<u3
 }
 
 // The key of a rule as a word, and `None` where it is extended.
+#[inline(always)]
 fn word_at(table: &AvTable<'_>, i: u32) -> Option<u64>
     requires { i < length table.now }
     ensures { words_of (take (i + 1) table.now) ≡ words_of (take i table.now) ++ option_to_list result }
 {
-    let key = table.view(i).key();
-    if is_extended(key.specified) {
+    let rule = table.view(i);
+    if is_extended(rule.specified()) {
         None
     } else {
-        Some(key.word())
+        Some(rule.word())
     }
 }

@@ -2,7 +2,7 @@ ghost use Rattle.std.specs.Prelude.{◌≡◌, ℕ, ◌+◌, ◌^◌, ◌≤◌,
 ghost use Rattle.pol_cursor.specs.Outcome.{Answers, Got};
 ghost use Rattle.pol_cursor.specs.References.{dangling_of};
 ghost use Rattle.pol_cursor.specs.declared.TableKind.TheVariants.{Types, Classes};
-ghost use Rattle.pol_avtab.specs.AvKeys.{key_of, has_key};
+ghost use Rattle.pol_avtab.specs.AvKeys.{key_of, has_key, word_of};
 ghost use Rattle.pol_avtab.specs.AvRecord.{is_extended, is_kind, extended_at, part_at, av_at, av_in, specified_in, part_in, av_length, av_end, HasAv, av_references, part_references, is_default};
 ghost use Rattle.pol_avtab.specs.InnerKeys.{IsFirst};
 ghost use Rattle.pol_avtab.specs.XPerms.{mask_of, xperms_of};
@@ -104,6 +104,16 @@ impl<'a> AvView<'a> {
             class: self.class(),
             specified: kind_of(self.specified()),
         }
+    }
+
+    /// The four numbers of its key in one. Source and target are read together.
+    #[tactic(auto, using(crate::proofs::AvReading::ends_together))]
+    pub(crate) fn word(&self) -> u64
+        ensures { result ≡ word_of (key_of self.now.value) }
+    {
+        let ends = u32_in(self.bytes, self.place as usize) as u64;
+        let high = self.class() as u64 + 0x10000 * kind_of(self.specified()) as u64;
+        ends + 0x1_0000_0000 * high
     }
 
     /// The permissions by their bits, or the value of a default type, where it is not extended.

@@ -44,16 +44,18 @@ impl WordMarks {
         }
     }
 
-    /// Adds those of the words whose buckets are shared.
-    pub fn push_shared(&self, words: &[u64], found: &mut Vec<u64>) -> Result<(), AllocError>
-        ensures { OnOk result (found.new.items ≡ found.old.items ++ filter (is_shared self.now) words.now) }
+    /// Adds those of the words whose buckets are shared. They are put together at the front of the words first, each word in the place
+    /// behind those before it, so that no branch waits for a mark.
+    pub fn push_shared(&self, words: &mut [u64], found: &mut Vec<u64>) -> Result<(), AllocError>
+        ensures { OnOk result (found.new.items ≡ found.old.items ++ filter (is_shared self.now) words.old) }
     {
-        for word in words {
-            if self.is_shared(*word) {
-                found.push(*word)?;
-            }
+        let mut count = 0;
+        for i in 0..words.len() {
+            let word = words[i];
+            words[count] = word;
+            count += usize::from(self.is_shared(word));
         }
-        Ok(())
+        found.extend_from_slice(&words[..count])
     }
 
     // Marks the bucket of a word as met, or, where it is already, as shared.
