@@ -19,7 +19,7 @@ mod set_write;
 mod view;
 
 pub use bits::Bits;
-pub use node::Node;
+pub use node::{Node, split_lowest};
 pub use pool::Pool;
 pub use record_laws::bitmaps_have_laws;
 pub use set::Set;

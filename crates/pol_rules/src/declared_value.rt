@@ -1,9 +1,9 @@
 // Values of types by the bits that stand for them.
-ghost use Rattle.std.specs.Prelude.{◌≡◌, ◌+◌, ◌<◌, ◌%◌, ◌∷◌, Some, None, length, slice_get, if◌then◌else◌};
+ghost use Rattle.std.specs.Prelude.{◌≡◌, ◌+◌, ◌<◌, ◌%◌, Some, None, length, slice_get, if◌then◌else◌};
 ghost use Rattle.pol_bitmap.specs.Nodes.{node_bits};
 ghost use Rattle.pol_rules.specs.StoredRules.{is_declared_type, declared_values};
 
-use pol_bitmap::Node;
+use pol_bitmap::{Node, split_lowest};
 use pol_cursor::TableKind;
 use pol_symbols::Symbols;
 
@@ -59,19 +59,4 @@ pub fn value_at(symbols: &Symbols<'_>, node: Node, n: u32) -> u32
         left = rest;
     }
     unreachable!()
-}
-
-// The lowest bit of a node that has one, and the node without it.
-fn split_lowest(node: Node) -> (u32, Node)
-    requires whole { node.start % 64 ≡ 0 }
-    requires full { 0 < node.map }
-    ensures bits { node_bits node ≡ result.0 ∷ node_bits result.1 }
-    ensures start { result.1.start ≡ node.start }
-{
-    let lowest = node.map.trailing_zeros();
-    let rest = Node {
-        start: node.start,
-        map: node.map & !(1 << lowest),
-    };
-    (node.start + lowest, rest)
 }
