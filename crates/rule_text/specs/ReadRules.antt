@@ -1,28 +1,32 @@
--- Rules that are read before their texts are made.
-use Rattle.std.specs.Prelude.{◌≡◌, ◌<◌, ℕ, Bool, true, false, List, [], ◌∷◌, Some, ⊤, length, slice_get}
+-- Rules that are looked at before their texts are made.
+use Rattle.std.specs.Prelude.{◌≡◌, ◌<◌, ℕ, Bool, true, false, List, [], ◌∷◌, Some, ⊤, length, option_map, slice_get}
 use Rattle.std.specs.List.{All}
 use Rattle.pol_file.specs.declared.Parts.{Parts}
-use Rattle.pol_rules.specs.declared.rule.Rule.{Rule}
-use Rattle.pol_rules.specs.DeclaredRules.{IsDeclaredRule}
-use Rattle.pol_rules.specs.StoredRules.{stored, stored_rules}
+use Rattle.pol_rules.specs.StoredRules.{StoredRule, stored_rules}
+use Rattle.rule_text.specs.declared.rules_ahead.NumberedKind.{NumberedKind}
 
--- the rules of a policy that are left: their numbers, and how many of the first of them were read
+-- the rules of a policy that are left: their numbers, and of how many of the first of them the kinds were read
 pub record RulesLeft : Type 0 where
   pub policy : Parts
   pub numbers : List ℕ
   pub read : ℕ
 
--- where none of them was
+-- where those of none were
 abbrev pub none_read : Parts → List ℕ → RulesLeft
 none_read policy numbers = record { policy = policy; numbers = numbers; read = 0 }
 
--- A rule of the code is the stored rule of a number, and what it names is declared.
-pub record IsRuleOf (policy : Parts) (number : ℕ) (rule : Rule) : Type 0 where
-  pub is : slice_get (stored_rules policy) number ≡ Some (stored rule)
-  pub declared : IsDeclaredRule policy (stored rule)
+-- A rule of that number is stored, and has that kind.
+pub record IsStored (policy : Parts) (rule : NumberedKind) : Type 0 where
+  pub there : rule.number < length (stored_rules policy)
+  pub kind : option_map (λ (stored : StoredRule). stored.kind) (slice_get (stored_rules policy) rule.number) ≡ Some rule.kind
+
+-- It is the stored rule of a number.
+pub record IsRuleOf (policy : Parts) (n : ℕ) (rule : NumberedKind) : Type 0 where
+  pub number : rule.number ≡ n
+  pub stored : IsStored policy rule
 
 -- It is that of the first of some numbers.
-abbrev pub IsOfFirst : Parts → List ℕ → Rule → Type 0
+abbrev pub IsOfFirst : Parts → List ℕ → NumberedKind → Type 0
 IsOfFirst policy [] rule = ⊥
 IsOfFirst policy (number ∷ numbers) rule = IsRuleOf policy number rule
 
@@ -37,8 +41,8 @@ PassesNumber old new false = (old ≡ []) × (new ≡ [])
 abbrev pub AreNumbers : Parts → List ℕ → Type 0
 AreNumbers policy numbers = All (λ number. number < length (stored_rules policy)) numbers
 
--- rules of the code are those of the first of some numbers
-abbrev pub AreRead : Parts → List ℕ → List Rule → Type 0
+-- rules are those of the first of some numbers
+abbrev pub AreRead : Parts → List ℕ → List NumberedKind → Type 0
 AreRead policy numbers [] = ⊤
 AreRead policy [] (rule ∷ rules) = ⊥
 AreRead policy (number ∷ numbers) (rule ∷ rules) = IsRuleOf policy number rule × AreRead policy numbers rules

@@ -21,6 +21,6 @@ mod whole_rule;
 pub use listed_texts::ListedTexts;
 pub use rule_frame::RuleFrame;
 pub use rule_texts::RuleTexts;
-pub use rules_ahead::RulesAhead;
+pub use rules_ahead::{NumberedKind, RulesAhead};
 pub use single_rules::{push_rule, push_single};
 pub use type_names::TypeNames;

@@ -2,12 +2,14 @@
 
 ghost use Rattle.std.specs.Prelude.{◌≡◌, ◌++◌, OnOk, IfOk};
 ghost use Rattle.pol_rules.specs.StoredRules.{stored};
-ghost use Rattle.pol_rules.specs.DeclaredRules.{IsDeclaredRule, StandsUnder};
-ghost use Rattle.rule_text.specs.RuleTexts.{rest_text, rule_text};
+ghost use Rattle.pol_rules.specs.DeclaredRules.{StandsUnder};
+ghost use Rattle.rule_text.specs.ReadRules.{IsStored};
+ghost use Rattle.rule_text.specs.RuleTexts.{rest_text, text_of_rule};
 
 use crate::kept_head::KeptHead;
 use crate::kept_texts::KeptTexts;
 use crate::rule_texts::RuleTexts;
+use crate::rules_ahead::NumberedKind;
 use crate::type_names::TypeNames;
 use crate::whole_rule::push_end;
 use pol_read::{Policy, Rule};
@@ -56,18 +58,20 @@ impl<'p, 'a> ListedTexts<'p, 'a> {
         self.texts.policy()
     }
 
-    /// Adds the text of a rule, without a line feed. What the rule names is declared.
-    #[tactic(auto, unfolding(crate::specs::RuleTexts::rule_text, crate::specs::RuleTexts::ends_text, crate::specs::RuleFrames::head_text))]
-    pub fn push_rule(&mut self, rule: &Rule<'a>, buffer: &mut Vec<u8>) -> Result<(), AllocError>
-        requires { IsDeclaredRule self.old (stored rule.now) }
+    /// Adds the text of a stored rule, without a line feed.
+    #[tactic(auto, unfolding(crate::specs::RuleTexts::text_of_rule, crate::specs::RuleTexts::rule_text, crate::specs::RuleTexts::ends_text, crate::specs::RuleFrames::head_text))]
+    pub fn push_rule(&mut self, rule: &NumberedKind, buffer: &mut Vec<u8>) -> Result<(), AllocError>
+        requires { IsStored self.old rule.now }
         ensures policy { self.new ≡ self.old }
-        ensures text { OnOk result (buffer.new.items ≡ buffer.old.items ++ rule_text self.old (stored rule.now)) }
+        ensures text { OnOk result (buffer.new.items ≡ buffer.old.items ++ text_of_rule self.old rule.now.number) }
     {
-        let symbols = self.texts.policy().symbols();
-        self.head.push(symbols, rule.kind, rule.source, buffer)?;
-        self.names
-            .push_target(symbols, rule.kind, rule.target, buffer)?;
-        push_rest(&mut self.texts, rule, buffer)
+        let policy = self.texts.policy();
+        let symbols = policy.symbols();
+        let kind = rule.kind;
+        let rule = policy.rule(rule.number);
+        self.head.push(symbols, kind, rule.source, buffer)?;
+        self.names.push_target(symbols, kind, rule.target, buffer)?;
+        push_rest(&mut self.texts, &rule, buffer)
     }
 }
 

@@ -1,27 +1,36 @@
-//! Rules of a policy that are read some at a time, each before it is asked for.
+//! Rules of a policy that are looked at some at a time, each before it is asked for.
 
 ghost use Rattle.std.specs.Prelude.{◌≡◌, ◌<◌, ◌≤◌, ℕ, [], All, IfOk, MatchOption, length};
 ghost use Rattle.std.specs.VecDeque.{deque_capacity};
 ghost use Rattle.pol_rules.specs.StoredRules.{stored_rules};
 ghost use Rattle.rule_text.specs.ReadRules.{AreRead, IsOfFirst, PassesNumber, none_read};
 
-use pol_read::{Policy, Rule};
+use pol_read::{Policy, RuleKind};
 use std::alloc::{AllocError, Global};
 use std::collections::VecDeque;
 use std::marker::Model;
 
-// How many rules are read at a time at most.
+// How many rules are looked at together at most.
 const MOST: usize = 32;
 
-/// The stored rules of some numbers, one after the other. Where the next one is read, so are those after it, in one loop that does
-/// nothing else, since rules that are listed stand far apart in the file. Contracts see the policy, the numbers that are left, and how
-/// many of their rules were read.
+/// A stored rule, by its number and its kind.
+#[derive(Clone, Copy, Debug, PartialEq, Eq)]
+pub struct NumberedKind {
+    /// Its number, from 0 on.
+    pub number: u32,
+    /// Its kind.
+    pub kind: RuleKind,
+}
+
+/// The stored rules of some numbers, one after the other. Where the kind of the next one is read, so are those of the rules after it,
+/// in one loop that does nothing else: rules that are listed stand far apart in the file, and the processor fetches those of one loop
+/// side by side. Contracts see the policy, the numbers that are left, and of how many of their rules the kinds were read.
 #[derive(Drop)]
 pub struct RulesAhead<'q, 'p, 'a> {
     policy: &'p Policy<'a>,
     numbers: &'q [u32],
     // those of the first of the numbers
-    rules: VecDeque<Rule<'a>>,
+    rules: VecDeque<NumberedKind>,
 }
 
 impl<'q, 'p, 'a> Model for RulesAhead<'q, 'p, 'a> {
@@ -37,7 +46,7 @@ impl<'q, 'p, 'a> Model for RulesAhead<'q, 'p, 'a> {
 }
 
 impl<'q, 'p, 'a> RulesAhead<'q, 'p, 'a> {
-    /// Those of these numbers. None is read yet.
+    /// Those of these numbers. Of none the kind is read yet.
     pub fn new(
         alloc: Global,
         policy: &'p Policy<'a>,
@@ -54,7 +63,7 @@ impl<'q, 'p, 'a> RulesAhead<'q, 'p, 'a> {
         })
     }
 
-    /// Reads the next rules, where the next one is not read yet.
+    /// Reads the kinds of the next rules, where that of the next one is not read yet.
     pub fn read(&mut self)
         ensures policy { self.new.policy ≡ self.old.policy }
         ensures numbers { self.new.numbers ≡ self.old.numbers }
@@ -62,18 +71,18 @@ impl<'q, 'p, 'a> RulesAhead<'q, 'p, 'a> {
     {
         if self.rules.is_empty() {
             let count = MOST.min(self.numbers.len());
-            read_rules(self.policy, &self.numbers[..count], &mut self.rules);
+            read_kinds(self.policy, &self.numbers[..count], &mut self.rules);
         }
     }
 
-    /// The next rule, where it was read. What it names is declared.
-    pub fn front(&self) -> Option<&Rule<'a>>
+    /// The next rule, where its kind was read.
+    pub fn front(&self) -> Option<&NumberedKind>
         ensures { MatchOption result (self.now.read ≡ 0) (λ rule. IsOfFirst self.now.policy self.now.numbers rule.now) }
     {
         self.rules.front()
     }
 
-    /// Passes over the next rule, and answers whether there was one. A rule that was not read is passed over unread.
+    /// Passes over the next rule, and answers whether there was one. One whose kind was not read is passed over unread.
     pub fn pass(&mut self) -> bool
         ensures policy { self.new.policy ≡ self.old.policy }
         ensures numbers { PassesNumber self.old.numbers self.new.numbers result }
@@ -87,8 +96,8 @@ impl<'q, 'p, 'a> RulesAhead<'q, 'p, 'a> {
     }
 }
 
-// Reads the rules of these numbers. No memory is taken.
-fn read_rules<'a>(policy: &Policy<'a>, numbers: &[u32], rules: &mut VecDeque<Rule<'a>>)
+// Reads the kinds of the rules of these numbers. No memory is taken.
+fn read_kinds(policy: &Policy<'_>, numbers: &[u32], rules: &mut VecDeque<NumberedKind>)
     requires numbers { All (λ number. number < length (stored_rules policy.now)) numbers.now }
     requires none { rules.old.items ≡ [] }
     requires room { length numbers.now ≤ deque_capacity rules.old }
@@ -97,6 +106,9 @@ fn read_rules<'a>(policy: &Policy<'a>, numbers: &[u32], rules: &mut VecDeque<Rul
     ensures room { deque_capacity rules.new ≡ deque_capacity rules.old }
 {
     for number in numbers {
-        rules.push_back_reserved(policy.rule(*number));
+        rules.push_back_reserved(NumberedKind {
+            number: *number,
+            kind: policy.rule_kind(*number),
+        });
     }
 }

@@ -4,7 +4,6 @@ use Rattle.std.specs.Prelude.{ℕ, List, ◌++◌, codes, map, Option, Some, Non
 use Rattle.std.specs.List.{concat}
 use Rattle.pol_file.specs.declared.Parts.{Parts}
 use Rattle.pol_places.specs.declared.Single.{Single}
-use Rattle.pol_rules.specs.StoredRules.{StoredRule}
 use Rattle.rule_order.specs.ListedOrder.{in_rule_order}
 use Rattle.rule_query.specs.declared.Refusal.{Refusal}
 use Rattle.rule_query.specs.declared.Refusal.TheVariants.{NotThere, NoNumber}
@@ -12,7 +11,7 @@ use Rattle.rule_query.specs.Given.{in_word_order}
 use Rattle.rule_query.specs.Meeting.{meeting}
 use Rattle.rule_query.specs.Refusals.{RefusedWord, first_refused}
 use Rattle.rule_singles.specs.Singles.{singles_listed}
-use Rattle.rule_text.specs.RuleTexts.{rule_text, single_text, text_of_rule}
+use Rattle.rule_text.specs.RuleTexts.{single_text, text_of_rule}
 use Rattle.se_items.specs.Paging.{page}
 use Rattle.se_status.specs.declared.Status.{Status}
 use Rattle.se_status.specs.declared.Status.TheVariants.{UnknownName, BadNumber}
@@ -22,10 +21,6 @@ use Rattle.se_words.specs.SearchRequest.{SearchAsks}
 -- the line of the rule of a number
 unfoldable pub rule_line : Parts → ℕ → List ℕ
 rule_line policy number = text_of_rule policy number ++ codes "\n"
-
--- the line of a rule
-unfoldable pub line_of : Parts → StoredRule → List ℕ
-line_of policy rule = rule_text policy rule ++ codes "\n"
 
 -- the numbers of the rules that meet what is asked, in the order in which rules are listed
 abbrev pub found_rules : SearchAsks → Parts → List ℕ

@@ -1,12 +1,10 @@
 // The lines of rules, as items that are written one after the other.
 ghost use Rattle.std.specs.Prelude.{◌≡◌, ◌++◌, IfOk, OnOk, map};
-ghost use Rattle.pol_rules.specs.DeclaredRules.{IsDeclaredRule};
-ghost use Rattle.pol_rules.specs.StoredRules.{stored};
 ghost use Rattle.rule_order.specs.ListedOrder.{AreRules};
-ghost use Rattle.se_search.specs.SearchAnswer.{line_of, rule_line};
+ghost use Rattle.rule_text.specs.ReadRules.{IsStored};
+ghost use Rattle.se_search.specs.SearchAnswer.{rule_line};
 
-use pol_read::Rule;
-use rule_text::{ListedTexts, RulesAhead};
+use rule_text::{ListedTexts, NumberedKind, RulesAhead};
 use se_items::Items;
 use std::alloc::{AllocError, Global};
 
@@ -55,15 +53,15 @@ impl Items for RuleLines<'_, '_, '_> {
 }
 
 // Adds the line of a rule.
-#[tactic(auto, unfolding(crate::specs::SearchAnswer::line_of))]
-fn push_line<'a>(
-    texts: &mut ListedTexts<'_, 'a>,
-    rule: &Rule<'a>,
+#[tactic(auto, unfolding(crate::specs::SearchAnswer::rule_line))]
+fn push_line(
+    texts: &mut ListedTexts<'_, '_>,
+    rule: &NumberedKind,
     buffer: &mut Vec<u8>,
 ) -> Result<(), AllocError>
-    requires { IsDeclaredRule texts.old (stored rule.now) }
+    requires { IsStored texts.old rule.now }
     ensures policy { texts.new ≡ texts.old }
-    ensures line { OnOk result (buffer.new.items ≡ buffer.old.items ++ line_of texts.old (stored rule.now)) }
+    ensures line { OnOk result (buffer.new.items ≡ buffer.old.items ++ rule_line texts.old rule.now.number) }
 {
     texts.push_rule(rule, buffer)?;
     Ok(buffer.push(b'\n')?)
