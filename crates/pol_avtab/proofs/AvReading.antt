@@ -1,8 +1,9 @@
 -- The parts of an access vector that were read are those that stand there.
-use Rattle.std.proofs.Common.{◌≡◌, ⊎_elim, ℕ, ◌+◌, ◌*◌, ◌≤◌, Option, None, Some, Bool, true, false, List, length, take, drop, refl, sym, ap, subst, ◌∙◌, arith}
+use Rattle.std.proofs.Common.{◌≡◌, ⊎_elim, ℕ, ◌+◌, ◌*◌, ◌%◌, ◌^◌, ◌<◌, ◌≤◌, Option, None, Some, Bool, true, false, List, length, take, drop, refl, sym, ap, subst, ◌∙◌, arith}
 use Rattle.std.specs.Prelude.{◌||◌, ◌==◌, nat_le, not, option_map, slice_index, if◌then◌else◌}
 use Rattle.std.proofs.lemmas.List.{get_or-drop}
 use Rattle.std.proofs.lemmas.Nat.{and_assoc}
+use Rattle.std.proofs.lemmas.Grind.{and_numeral}
 use Rattle.std.proofs.lemmas.Bool.{false≢true, le-ltb, eqb-true, or_cases, or_right}
 use Rattle.pol_cursor.specs.declared.field.Field.{Field}
 use Rattle.pol_cursor.specs.declared.fields.TheConstants.{AV_SOURCE, AV_TARGET, AV_CLASS, AV_SPECIFIED, AV_XKIND, AV_DRIVER, AV_BITS, AV_DATA}
@@ -14,7 +15,7 @@ use Rattle.pol_avtab.specs.declared.av_rec.AvPart.{AvPart}
 use Rattle.pol_avtab.specs.declared.av_rec.AvPart.TheVariants.{Extended}
 use Rattle.pol_avtab.specs.declared.av_key.AvKey.{AvKey}
 use Rattle.pol_avtab.specs.declared.av_rec.AvRec.{AvRec}
-use Rattle.pol_avtab.specs.AvKeys.{kind_of, has_key}
+use Rattle.pol_avtab.specs.AvKeys.{kind_of, key_of, has_key, word_of}
 use Rattle.pol_avtab.specs.AvRecord.{is_extended, is_kind, standing_test, specified_test, xkind_test, extended_at, data_at, part_at, av_at, specified_in, part_in, av_in, av_length, av_end}
 use Rattle.pol_avtab.specs.InnerKeys.{IsFirst}
 
@@ -161,12 +162,35 @@ plain_read version earlier first bytes place long kind =
 byte_from : (bytes : List ℕ) (place i at : ℕ) → place + i ≡ at → slice_index (drop place bytes) i ≡ slice_index bytes at
 byte_from bytes place i at e = get_or-drop place bytes i 0 ∙ ap (slice_index bytes) e
 
--- source and target make a number of four bytes
-pub ends_together : (bytes : List ℕ) (place : ℕ) → num bytes place 4 ≡ num bytes place 2 + 0x10000 * num bytes (place + 2) 2
+-- the first eight bytes, by the four numbers
+eight_bytes : (bytes : List ℕ) (place : ℕ) → num bytes place 8 ≡ num bytes place 2 + 0x10000 * (num bytes (place + 2) 2 + 0x10000 * (num bytes (place + 4) 2 + 0x10000 * num bytes (place + 6) 2))
 unfolding num
-ends_together bytes place =
+eight_bytes bytes place =
     let at : (i : ℕ) → slice_index (drop place bytes) i ≡ slice_index bytes (place + i) = λ i. byte_from bytes place i (place + i) refl in
-    omega (arith, at 2, at 3, byte_from bytes (place + 2) 0 (place + 2) (omega arith), byte_from bytes (place + 2) 1 (place + 3) (omega arith))
+    omega (
+      arith,
+      at 2,
+      at 3,
+      at 4,
+      at 5,
+      at 6,
+      at 7,
+      byte_from bytes (place + 2) 0 (place + 2) (omega arith),
+      byte_from bytes (place + 2) 1 (place + 3) (omega arith),
+      byte_from bytes (place + 4) 0 (place + 4) (omega arith),
+      byte_from bytes (place + 4) 1 (place + 5) (omega arith),
+      byte_from bytes (place + 6) 0 (place + 6) (omega arith),
+      byte_from bytes (place + 6) 1 (place + 7) (omega arith),
+    )
+
+-- Without the mark they are the key.
+pub plain_word : (bytes : List ℕ) (place : ℕ) → num bytes place 8 < 2 ^ 63 → num bytes place 8 ≡ word_of (key_of (av_in bytes place))
+plain_word bytes place lt =
+    let all = eight_bytes bytes place in
+    let small : specified_in bytes place < 0x8000 = omega (arith, lt, all) in
+    let low : specified_in bytes place % 0x8000 ≡ specified_in bytes place = omega (arith, small) in
+    let same : kind_of (specified_in bytes place) ≡ specified_in bytes place = and_numeral (specified_in bytes place) 0x7FFE refl ∙ low in
+    all ∙ ap (λ (kind : ℕ). num bytes place 2 + 0x10000 * (num bytes (place + 2) 2 + 0x10000 * (num bytes (place + 4) 2 + 0x10000 * kind))) (sym same)
 
 -- a rule is extended with the mark or without it
 pub extended_unmarked : (specified : ℕ) → is_extended (kind_of specified) ≡ is_extended specified

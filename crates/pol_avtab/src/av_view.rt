@@ -18,10 +18,16 @@ use pol_cursor::fields::{
 };
 use pol_cursor::{
     Cursor, Fault, Mention, Names, TableKind, array_in, dangling, first_dangling, refuse, u16_in,
-    u32_in,
+    u32_in, u64_in,
 };
 use std::alloc::{AllocError, Global};
 use std::marker::Model;
+
+// What an allow rule specifies.
+const ALLOW: u16 = 0x1;
+
+// The mark in the number that the first eight bytes are: the highest bit of what is specified.
+const MARK: u64 = 1 << 63;
 
 /// An access vector in the buffer. Contracts see it with its place.
 #[derive(Drop)]
@@ -106,14 +112,13 @@ impl<'a> AvView<'a> {
         }
     }
 
-    /// The four numbers of its key in one. Source and target are read together.
-    #[tactic(auto, using(crate::proofs::AvReading::ends_together))]
+    /// The four numbers of its key in one: its first eight bytes, unless they have the mark.
+    #[tactic(auto, using(crate::proofs::AvReading::plain_word))]
     pub(crate) fn word(&self) -> u64
         ensures { result ≡ word_of (key_of self.now.value) }
     {
-        let ends = u32_in(self.bytes, self.place as usize) as u64;
-        let high = self.class() as u64 + 0x10000 * kind_of(self.specified()) as u64;
-        ends + 0x1_0000_0000 * high
+        let word = u64_in(self.bytes, self.place as usize);
+        if word < MARK { word } else { self.key().word() }
     }
 
     /// The permissions by their bits, or the value of a default type, where it is not extended.
@@ -258,6 +263,7 @@ pub fn read_av<'a>(
 }
 
 // Passes over the access vector at the cursor.
+#[inline(always)]
 fn pass_av(c: &mut Cursor<'_>, version: u32, earlier: Option<&AvKeys>) -> Result<(), Fault>
     ensures exact { Answers (λ _. av_in c.old.bytes c.old.place) result (av_at version (option_map (λ keys. keys.now) earlier.entry)) c.old c.new }
     ensures next { OnOk result (c.new.place ≡ av_end c.old.bytes c.old.place) }
@@ -297,11 +303,20 @@ fn has_plain_kind(bytes: &[u8], place: usize) -> bool
     ensures long { result ≡ true → place + 12 ≤ length bytes.now }
     ensures kind { result ≡ true → is_kind 0 (specified_in bytes.now place) ≡ true }
 {
-    place + 12 <= bytes.len() && is_kind(0, u16_in(bytes, place + 6))
+    place + 12 <= bytes.len() && is_plain_kind(u16_in(bytes, place + 6))
+}
+
+// Whether each version has the kind. That of an allow rule is asked first, since most rules are such.
+#[inline(always)]
+fn is_plain_kind(kind: u16) -> bool
+    ensures { result ≡ is_kind 0 kind }
+{
+    kind == ALLOW || is_kind(0, kind)
 }
 
 // Passes over its parts, one after the other.
 #[tactic(auto, unfolding(crate::specs::AvRecord::av_at))]
+#[inline(never)]
 fn pass_parts(c: &mut Cursor<'_>, version: u32, earlier: Option<&AvKeys>) -> Result<(), Fault>
     ensures exact { Answers (λ _. av_in c.old.bytes c.old.place) result (av_at version (option_map (λ keys. keys.now) earlier.entry)) c.old c.new }
     ensures next { OnOk result (c.new.place ≡ av_end c.old.bytes c.old.place) }

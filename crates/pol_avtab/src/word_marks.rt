@@ -36,6 +36,7 @@ impl WordMarks {
     }
 
     /// Marks the buckets of more words.
+    #[inline(never)]
     pub fn meet_all(&mut self, words: &[u64])
         ensures { (before : List ℕ) → AreMarked self.old before → AreMarked self.new (before ++ words.now) }
     {
@@ -46,6 +47,7 @@ impl WordMarks {
 
     /// Adds those of the words whose buckets are shared. They are put together at the front of the words first, each word in the place
     /// behind those before it, so that no branch waits for a mark.
+    #[inline(never)]
     pub fn push_shared(&self, words: &mut [u64], found: &mut Vec<u64>) -> Result<(), AllocError>
         ensures { OnOk result (found.new.items ≡ found.old.items ++ filter (is_shared self.now) words.old) }
     {
