@@ -1,7 +1,7 @@
 -- The rules that a graph of transitions keeps. It serves the code alone.
 use Rattle.std.specs.Prelude.{◌≡◌, ℕ, Bool, ◌&&◌, List, [], ◌∷◌, ◌++◌, if◌then◌else◌}
 use Rattle.std.specs.List.{filter, range_with_len}
-use Rattle.pol_cursor.specs.declared.TableKind.TheVariants.{Classes}
+use Rattle.pol_fields.specs.declared.TableKind.TheVariants.{Classes}
 use Rattle.pol_symbols.specs.declared.Symbols.{Symbols}
 use Rattle.pol_symbols.specs.PolicySymbols.{value_in}
 use Rattle.pol_file.specs.declared.Parts.{Parts}

@@ -6,7 +6,7 @@ ghost use Rattle.dom_trans.specs.declared.keeping.Wanted.{Wanted};
 ghost use Rattle.dom_trans.specs.Keeping.{wanted_in, AreKept, AddsRule, GainsWhere};
 
 use crate::permission::{Permission, counts, gives, permission_named, sets_default};
-use pol_cursor::TableKind;
+use pol_fields::TableKind;
 use pol_read::{Policy, Rule};
 use pol_symbols::Symbols;
 use std::alloc::{AllocError, Global};

@@ -3,7 +3,7 @@ ghost use Rattle.std.specs.Int.{bit_at};
 ghost use Rattle.pol_rules.specs.StoredRules.{stored};
 ghost use Rattle.dom_trans.specs.Grants.{counts, permission_named, gives, is_nameless, is_value, sets_default, part_has_default};
 
-use pol_cursor::TableKind;
+use pol_fields::TableKind;
 use pol_read::{Rule, RuleKind, RulePart};
 use pol_symbols::Symbols;
 

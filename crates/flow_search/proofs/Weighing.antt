@@ -7,7 +7,7 @@ use Rattle.std.proofs.lemmas.List.Elements.{filter-append, filter_more}
 use Rattle.std.proofs.lemmas.List.Sums.{fold_push}
 use Rattle.std.proofs.lemmas.Option.{slice_get_cases}
 use Rattle.pol_cursor.specs.References.{Placed}
-use Rattle.pol_cursor.specs.declared.TableKind.TheVariants.{Classes}
+use Rattle.pol_fields.specs.declared.TableKind.TheVariants.{Classes}
 use Rattle.pol_commons.specs.declared.PermissionRec.{PermissionRec}
 use Rattle.pol_classes.specs.declared.ClassRec.{ClassRec}
 use Rattle.pol_symbols.specs.declared.Symbols.{Symbols}

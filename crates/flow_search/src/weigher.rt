@@ -9,7 +9,7 @@ ghost use Rattle.flow_search.specs.WeightTables.{AreBitsOf, AreWeights, HaveReac
 use crate::class_weights::{ClassWeights, RuleWeights};
 use crate::reach_bits::ReachBits;
 use perm_map::PermMap;
-use pol_cursor::TableKind;
+use pol_fields::TableKind;
 use pol_read::{Policy, Rule, RuleKind, RulePart};
 use pol_symbols::Symbols;
 use rule_ends::{are_two_types, is_rule_from_to};

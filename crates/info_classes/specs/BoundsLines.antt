@@ -1,7 +1,7 @@
 -- The lines of the bounds of types, as seinfo of SETools prints them.
 use Rattle.std.specs.Prelude.{ℕ, ◌==◌, not, Bool, List, ◌++◌, map, codes}
 use Rattle.std.specs.List.{filter}
-use Rattle.pol_cursor.specs.declared.TableKind.TheVariants.{Types}
+use Rattle.pol_fields.specs.declared.TableKind.TheVariants.{Types}
 use Rattle.pol_cursor.specs.References.{Placed}
 use Rattle.pol_mls.specs.MlsTexts.{name_of}
 use Rattle.pol_datums.specs.declared.TypeRec.{TypeRec}

@@ -1,7 +1,7 @@
 -- The text of a constraint's expression, as a function of its items (this project's profile, in the words of the policy language).
 use Rattle.std.specs.Prelude.{ℕ, ◌==◌, if◌then◌else◌, Option, Some, None, List, [], ◌∷◌, ◌++◌, map}
 use Rattle.std.specs.List.{fold}
-use Rattle.pol_cursor.specs.declared.TableKind.{TableKind}
+use Rattle.pol_fields.specs.declared.TableKind.{TableKind}
 use Rattle.pol_cursor.specs.References.{Named}
 use Rattle.pol_bitmap.specs.declared.Node.{Node}
 use Rattle.pol_bitmap.specs.Nodes.{bits_of}

@@ -1,7 +1,7 @@
 -- The records of the tables of classes and of types in the order of their names.
 use Rattle.std.specs.Prelude.{ℕ, Option, option_map, List, slice_get}
 use Rattle.std.specs.List.{filter_map}
-use Rattle.pol_cursor.specs.declared.TableKind.TheVariants.{Classes, Types}
+use Rattle.pol_fields.specs.declared.TableKind.TheVariants.{Classes, Types}
 use Rattle.pol_cursor.specs.References.{Placed}
 use Rattle.pol_datums.specs.declared.TypeRec.{TypeRec}
 use Rattle.pol_classes.specs.declared.ClassRec.{ClassRec}

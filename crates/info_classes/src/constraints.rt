@@ -8,7 +8,7 @@ ghost use Rattle.info_classes.specs.ConstraintLines.{constraint_line, constraint
 use crate::constraint_entry::{ConstraintEntry, ConstraintKind, constraint_entries};
 use crate::constraint_parts::push_constraint;
 use info_lines::{EntryLines, EntryText, numbers_listed};
-use pol_cursor::TableKind;
+use pol_fields::TableKind;
 use pol_symbols::Symbols;
 use std::alloc::{AllocError, Global};
 use std::marker::Model;

@@ -7,7 +7,7 @@ ghost use Rattle.info_classes.specs.DefaultLines.{default_word, end_word, range_
 
 use crate::default_entry::{DefaultEntry, DefaultKind, default_entries, default_of};
 use info_lines::{EntryLines, EntryText, numbers_listed};
-use pol_cursor::TableKind;
+use pol_fields::TableKind;
 use pol_symbols::Symbols;
 use std::alloc::{AllocError, Global};
 use std::marker::Model;

@@ -1,7 +1,7 @@
 -- The lines of the contexts of file systems without labels (SETools' genfscon statements).
 use Rattle.std.specs.Prelude.{ℕ, ◌==◌, Option, List, [], ◌++◌, map, codes, if◌then◌else◌}
 use Rattle.std.specs.List.{flat_map}
-use Rattle.pol_cursor.specs.declared.table_kind.TableKind.TheVariants.{Classes}
+use Rattle.pol_fields.specs.declared.table_kind.TableKind.TheVariants.{Classes}
 use Rattle.pol_cursor.specs.References.{Named, Placed}
 use Rattle.pol_mls.specs.MlsTexts.{name_of}
 use Rattle.pol_symbols.specs.declared.symbols.Symbols.{Symbols}

@@ -1,7 +1,7 @@
 -- The listing by names of each table of symbols that were read.
 use Rattle.std.proofs.Common.{◌≡◌, ℕ, true, List, refl}
-use Rattle.pol_cursor.specs.declared.TableKind.{TableKind}
-use Rattle.pol_cursor.specs.declared.TableKind.TheVariants.{Commons, Classes, Roles, Types, Users, Booleans, Levels, Categories}
+use Rattle.pol_fields.specs.declared.TableKind.{TableKind}
+use Rattle.pol_fields.specs.declared.TableKind.TheVariants.{Commons, Classes, Roles, Types, Users, Booleans, Levels, Categories}
 use Rattle.pol_cursor.specs.Outcome.{Got}
 use Rattle.pol_symtab.specs.Freshness.{Gives}
 use Rattle.pol_symtab.specs.SymbolTables.{Table, table_start}

@@ -2,7 +2,7 @@
 
 ghost use Rattle.std.specs.Prelude.{◌≡◌, ℕ, List};
 ghost use Rattle.pol_cursor.specs.Outcome.{Got};
-ghost use Rattle.pol_cursor.specs.declared.TableKind.{TableKind};
+ghost use Rattle.pol_fields.specs.declared.TableKind.{TableKind};
 ghost use Rattle.pol_symbols.specs.declared.symbols.Symbols.{Symbols};
 ghost use Rattle.pol_symbols.specs.PolicySymbols.{symbols_at};
 ghost use Rattle.info_lines.specs.ListedOnce.{IsListedOnce};

@@ -10,7 +10,7 @@ ghost use Rattle.pol_symbols.specs.PolicySymbols.{name_in, rank_in};
 ghost use Rattle.info_lines.specs.NameSets.{names_of_bits, names_of_values, value_of_bit, values_of_bits};
 
 use pol_bitmap::BitmapView;
-use pol_cursor::TableKind;
+use pol_fields::TableKind;
 use pol_symbols::Symbols;
 use std::alloc::{AllocError, Global};
 

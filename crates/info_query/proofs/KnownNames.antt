@@ -4,7 +4,7 @@ use Rattle.std.specs.Prelude.{is_some}
 use Rattle.std.specs.Option.{option_and_then}
 use Rattle.std.proofs.lemmas.Option.{slice_get-map}
 use Rattle.pol_cursor.specs.References.{Placed}
-use Rattle.pol_cursor.specs.declared.TableKind.TheVariants as tables
+use Rattle.pol_fields.specs.declared.TableKind.TheVariants as tables
 use Rattle.pol_datums.specs.declared.TypeRec.{TypeRec}
 use Rattle.pol_file.specs.declared.Parts.{Parts}
 use Rattle.info_lines.specs.declared.listing.Listing.{Listing}

@@ -1,7 +1,7 @@
 -- The names that listings know.
 use Rattle.std.specs.Prelude.{ℕ, Bool, true, List, is_some}
-use Rattle.pol_cursor.specs.declared.TableKind.{TableKind}
-use Rattle.pol_cursor.specs.declared.TableKind.TheVariants as tables
+use Rattle.pol_fields.specs.declared.TableKind.{TableKind}
+use Rattle.pol_fields.specs.declared.TableKind.TheVariants as tables
 use Rattle.pol_file.specs.declared.parts.Parts.{Parts}
 use Rattle.info_lines.specs.declared.listing.Listing.{Listing}
 use Rattle.info_lines.specs.declared.listing.Listing.TheVariants.{Classes, Commons, Constraints, Validatetrans, Defaults, Roles, Types, Attributes, Users, Booleans, Sensitivities, Categories, InitialSids, FsUses, Genfscons, Netifcons, Nodecons, Portcons, Ibpkeycons, Ibendportcons, Permissives, Capabilities, Typebounds}

@@ -21,7 +21,7 @@ use info_symbols::{
     AttributeLines, SymbolLines, TypeLines, TypeSet, attribute_statements,
     attribute_statements_named, set_lines, symbol_lines,
 };
-use pol_cursor::TableKind;
+use pol_fields::TableKind;
 use pol_read::Policy;
 use std::alloc::{AllocError, Global};
 

@@ -5,7 +5,7 @@ ghost use Rattle.info_query.specs.Names.{is_in_set, is_in_table, knows_name};
 
 use info_lines::{Listing, number_named};
 use info_symbols::{TypeSet, set_number_named};
-use pol_cursor::TableKind;
+use pol_fields::TableKind;
 use pol_read::Policy;
 
 /// Whether a listing of a policy knows a name: exactly where `lines_of` has lines for it. It takes no memory.

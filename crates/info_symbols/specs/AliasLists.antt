@@ -1,6 +1,6 @@
 -- The lists of the aliases of a table, by value from 0 on, and how they are gathered record by record.
 use Rattle.std.specs.Prelude.{◌≡◌, ℕ, ◌++◌, ◌∷◌, [], Bool, true, List, nat_eq, slice_index_or, if◌then◌else◌}
-use Rattle.pol_cursor.specs.declared.TableKind.{TableKind}
+use Rattle.pol_fields.specs.declared.TableKind.{TableKind}
 use Rattle.pol_cursor.specs.References.{Placed}
 use Rattle.pol_symbols.specs.declared.symbols.Symbols.{Symbols}
 use Rattle.info_symbols.specs.Aliases.{aliases_among, aliases_in}

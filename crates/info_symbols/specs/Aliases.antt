@@ -2,8 +2,8 @@
 -- SETools prints as a set (libsepol's type records that are not primary, and isalias of the other two).
 use Rattle.std.specs.Prelude.{ℕ, ◌++◌, [], ◌==◌, ◌&&◌, not, Bool, List, map, length, codes, nat_eq, if◌then◌else◌}
 use Rattle.std.specs.List.{filter}
-use Rattle.pol_cursor.specs.declared.TableKind.{TableKind}
-use Rattle.pol_cursor.specs.declared.TableKind.TheVariants.{Types, Levels, Categories}
+use Rattle.pol_fields.specs.declared.TableKind.{TableKind}
+use Rattle.pol_fields.specs.declared.TableKind.TheVariants.{Types, Levels, Categories}
 use Rattle.pol_cursor.specs.References.{Placed}
 use Rattle.pol_datums.specs.TypeRecord.{is_primary_type}
 use Rattle.pol_datums.specs.Flags.{is_primary_flag}

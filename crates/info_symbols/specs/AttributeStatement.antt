@@ -1,7 +1,7 @@
 -- The statements of attributes with their types, as seinfo of SETools prints them expanded.
 use Rattle.std.specs.Prelude.{◌≡◌, ℕ, ◌<◌, ◌++◌, ◌∷◌, [], true, Option, Some, option_map, List, length, map, codes, slice_get}
 use Rattle.std.specs.Option.{option_and_then}
-use Rattle.pol_cursor.specs.declared.TableKind.TheVariants.{Types}
+use Rattle.pol_fields.specs.declared.TableKind.TheVariants.{Types}
 use Rattle.pol_cursor.specs.References.{Placed}
 use Rattle.pol_datums.specs.declared.TypeRec.{TypeRec}
 use Rattle.pol_texts.specs.SetTexts.{set_text}

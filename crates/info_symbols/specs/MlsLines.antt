@@ -1,6 +1,6 @@
 -- The lines of sensitivities and categories.
 use Rattle.std.specs.Prelude.{ℕ, ◌++◌, Bool, true, false, List, codes}
-use Rattle.pol_cursor.specs.declared.TableKind.TheVariants.{Levels, Categories}
+use Rattle.pol_fields.specs.declared.TableKind.TheVariants.{Levels, Categories}
 use Rattle.pol_mls.specs.declared.level_rec.LevelRec.{LevelRec}
 use Rattle.pol_mls.specs.MlsTexts.{level_text}
 use Rattle.pol_datums.specs.declared.SensitivityRec.{SensitivityRec}

@@ -1,6 +1,6 @@
 -- The lines of roles, as seinfo of SETools prints them.
 use Rattle.std.specs.Prelude.{ℕ, ◌++◌, ◌==◌, [], Bool, true, false, List, length, codes, if◌then◌else◌}
-use Rattle.pol_cursor.specs.declared.TableKind.TheVariants.{Types}
+use Rattle.pol_fields.specs.declared.TableKind.TheVariants.{Types}
 use Rattle.pol_bitmap.specs.Nodes.{bits_of}
 use Rattle.pol_datums.specs.declared.RoleRec.{RoleRec}
 use Rattle.pol_symbols.specs.declared.symbols.Symbols.{Symbols}

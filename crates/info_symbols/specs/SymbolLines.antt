@@ -1,7 +1,7 @@
 -- The lines of the records of symbol tables, as seinfo of SETools prints them: a name, and expanded the statement that declares it.
 use Rattle.std.specs.Prelude.{ℕ, ◌++◌, ◌==◌, Bool, true, false, List, map, codes, if◌then◌else◌}
-use Rattle.pol_cursor.specs.declared.TableKind.{TableKind}
-use Rattle.pol_cursor.specs.declared.TableKind.TheVariants.{Commons, Classes, Roles, Types, Users, Booleans, Levels, Categories}
+use Rattle.pol_fields.specs.declared.TableKind.{TableKind}
+use Rattle.pol_fields.specs.declared.TableKind.TheVariants.{Commons, Classes, Roles, Types, Users, Booleans, Levels, Categories}
 use Rattle.pol_datums.specs.declared.BooleanRec.{BooleanRec}
 use Rattle.pol_symbols.specs.declared.symbols.Symbols.{Symbols}
 use Rattle.info_symbols.specs.ClassLines.{class_line, common_line}

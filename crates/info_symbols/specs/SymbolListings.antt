@@ -2,7 +2,7 @@
 -- the one line of the record that a name finds.
 use Rattle.std.specs.Prelude.{ℕ, Bool, Option, option_map, List, slice_get}
 use Rattle.std.specs.List.{filter_map}
-use Rattle.pol_cursor.specs.declared.TableKind.{TableKind}
+use Rattle.pol_fields.specs.declared.TableKind.{TableKind}
 use Rattle.pol_symbols.specs.declared.symbols.Symbols.{Symbols}
 use Rattle.info_lines.specs.NameOrder.{numbers_listed}
 use Rattle.info_symbols.specs.SymbolLines.{symbol_lines}

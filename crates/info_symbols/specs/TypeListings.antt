@@ -1,7 +1,7 @@
 -- The listings of types, attributes and permissive types, as seinfo of SETools prints them.
 use Rattle.std.specs.Prelude.{ℕ, ◌++◌, ◌∷◌, [], ◌&&◌, Bool, true, false, Option, Some, None, option_map, List, map, codes, slice_get, nat_eq, if◌then◌else◌}
 use Rattle.std.specs.List.{filter, list_any}
-use Rattle.pol_cursor.specs.declared.TableKind.TheVariants.{Types}
+use Rattle.pol_fields.specs.declared.TableKind.TheVariants.{Types}
 use Rattle.pol_cursor.specs.References.{Placed}
 use Rattle.pol_bitmap.specs.Nodes.{bits_of}
 use Rattle.pol_datums.specs.declared.TypeRec.{TypeRec}

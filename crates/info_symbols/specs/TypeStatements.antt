@@ -1,7 +1,7 @@
 -- The statements that declare types.
 use Rattle.std.specs.Prelude.{ℕ, ◌-◌, ◌++◌, ◌&&◌, Bool, List, [], option_map, unwrap_or, codes, slice_get, nat_lt, nat_le, if◌then◌else◌}
 use Rattle.std.specs.List.{filter, flat_map}
-use Rattle.pol_cursor.specs.declared.TableKind.TheVariants.{Types}
+use Rattle.pol_fields.specs.declared.TableKind.TheVariants.{Types}
 use Rattle.pol_bitmap.specs.declared.node.Node.{Node}
 use Rattle.pol_bitmap.specs.Nodes.{bits_of}
 use Rattle.pol_datums.specs.declared.TypeRec.{TypeRec}

@@ -1,6 +1,6 @@
 -- The lines of users, as seinfo of SETools prints them.
 use Rattle.std.specs.Prelude.{ℕ, ◌++◌, Bool, true, false, List, codes}
-use Rattle.pol_cursor.specs.declared.TableKind.TheVariants.{Roles}
+use Rattle.pol_fields.specs.declared.TableKind.TheVariants.{Roles}
 use Rattle.pol_bitmap.specs.Nodes.{bits_of}
 use Rattle.pol_mls.specs.MlsTexts.{level_text, range_text}
 use Rattle.pol_symbols.specs.declared.user_rec.UserRec.{UserRec}

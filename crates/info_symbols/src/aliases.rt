@@ -6,7 +6,7 @@ ghost use Rattle.info_symbols.specs.AliasLists.{AreAliases, AreListed, Gains, Ga
 ghost use Rattle.info_symbols.specs.Aliases.{alias_text};
 
 use info_lines::push_set;
-use pol_cursor::TableKind;
+use pol_fields::TableKind;
 use pol_symbols::Symbols;
 use pol_symtab::{Symbol, SymbolTable};
 use std::alloc::{AllocError, Global};

@@ -3,7 +3,7 @@
 ghost use Rattle.std.specs.Prelude.{◌≡◌, ◌++◌, ◌∷◌, [], IfOk, OnOk, map};
 ghost use Rattle.std.specs.List.{All, Contains};
 ghost use Rattle.pol_bitmap.specs.Nodes.{bits_of};
-ghost use Rattle.pol_cursor.specs.declared.TableKind.TheVariants.{Types};
+ghost use Rattle.pol_fields.specs.declared.TableKind.TheVariants.{Types};
 ghost use Rattle.pol_datums.specs.declared.Flavour.TheVariants.{Attribute};
 ghost use Rattle.info_lines.specs.Listings.{line_of};
 ghost use Rattle.info_lines.specs.NameSets.{names_of_values};
@@ -13,8 +13,8 @@ ghost use Rattle.info_symbols.specs.AttributeStatement.{IsAttribute, attribute_s
 use crate::type_sets::{TypeSet, set_number_named, set_numbers};
 use info_lines::{Lines, names_of_values, push_set};
 use pol_bitmap::Set;
-use pol_cursor::TableKind;
 use pol_expand::{TypeMap, type_map};
+use pol_fields::TableKind;
 use pol_read::Policy;
 use std::alloc::{AllocError, Global};
 use std::marker::Model;

@@ -1,7 +1,7 @@
 //! The lines of sensitivities and categories.
 
 ghost use Rattle.std.specs.Prelude.{◌≡◌, ◌++◌, OnOk};
-ghost use Rattle.pol_cursor.specs.declared.TableKind.TheVariants.{Levels, Categories};
+ghost use Rattle.pol_fields.specs.declared.TableKind.TheVariants.{Levels, Categories};
 ghost use Rattle.info_symbols.specs.AliasLists.{AreAliases};
 ghost use Rattle.info_symbols.specs.MlsLines.{category_line, level_part, sensitivity_line};
 

@@ -4,8 +4,8 @@ ghost use Rattle.std.specs.Prelude.{◌≡◌, ◌++◌, OnOk, map};
 ghost use Rattle.info_symbols.specs.RoleLines.{role_line, types_text};
 
 use info_lines::{names_of_bits, push_set};
-use pol_cursor::TableKind;
 use pol_datums::RoleView;
+use pol_fields::TableKind;
 use pol_symbols::Symbols;
 use std::alloc::AllocError;
 

@@ -4,7 +4,7 @@ ghost use Rattle.std.specs.Prelude.{◌≡◌, ◌<◌, ◌++◌, IfOk, IfSome, 
 ghost use Rattle.std.specs.List.{All, filter};
 ghost use Rattle.info_lines.specs.Listings.{HasLine, line_of};
 ghost use Rattle.info_lines.specs.NameOrder.{number_named};
-ghost use Rattle.pol_cursor.specs.declared.TableKind.TheVariants.{Types};
+ghost use Rattle.pol_fields.specs.declared.TableKind.TheVariants.{Types};
 ghost use Rattle.pol_expand.specs.Flavours.{is_flavour};
 ghost use Rattle.info_symbols.specs.AliasLists.{AreAliases};
 ghost use Rattle.info_symbols.specs.TypeListings.{is_permissive, is_in, number_in, number_if_in, permissive_line, searched_set, set_listing, set_numbers, set_numbers_listed, shows_types, type_line, type_lines};
@@ -12,9 +12,9 @@ ghost use Rattle.info_symbols.specs.TypeListings.{is_permissive, is_in, number_i
 use crate::aliases::Aliases;
 use crate::type_texts::push_type_statement;
 use info_lines::{LineText, NumberedLines, number_named, primary_order};
-use pol_cursor::TableKind;
 use pol_datums::{Flavour, TypeView};
 use pol_expand::is_flavour;
+use pol_fields::TableKind;
 use pol_read::Policy;
 use std::alloc::{AllocError, Global};
 use std::marker::Model;
@@ -42,7 +42,7 @@ pub struct TypeLines<'p, 'a> {
 
 impl<'p, 'a> Model for TypeLines<'p, 'a> {
     ghost use Rattle.std.specs.Prelude.{ℕ, List};
-    ghost use Rattle.pol_cursor.specs.declared.TableKind.TheVariants.{Types};
+    ghost use Rattle.pol_fields.specs.declared.TableKind.TheVariants.{Types};
     ghost use Rattle.info_symbols.specs.AliasLists.{AreAliases};
     ghost use Rattle.info_symbols.specs.TypeListings.{shows_types, type_lines};
 

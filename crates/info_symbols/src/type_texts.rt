@@ -2,15 +2,15 @@
 
 ghost use Rattle.std.specs.Prelude.{◌≡◌, ◌++◌, true, IfOk, OnOk, map};
 ghost use Rattle.std.specs.List.{filter};
-ghost use Rattle.pol_cursor.specs.declared.TableKind.TheVariants.{Types};
+ghost use Rattle.pol_fields.specs.declared.TableKind.TheVariants.{Types};
 ghost use Rattle.info_symbols.specs.AliasLists.{AreAliases};
 ghost use Rattle.info_symbols.specs.TypeStatements.{attribute_names, attributes_of_type, attributes_text, is_attribute, may_be_type, type_statement};
 
 use crate::aliases::{Aliases, push_aliases};
 use info_lines::{names_of_values, values_of_bits};
-use pol_cursor::TableKind;
 use pol_datums::{Flavour, TypeView};
 use pol_expand::is_flavour;
+use pol_fields::TableKind;
 use pol_read::Policy;
 use pol_symbols::Symbols;
 use std::alloc::{AllocError, Global};

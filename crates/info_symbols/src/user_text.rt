@@ -4,7 +4,7 @@ ghost use Rattle.std.specs.Prelude.{◌≡◌, ◌++◌, OnOk};
 ghost use Rattle.info_symbols.specs.UserLines.{user_line, roles_text, levels_text};
 
 use info_lines::{names_of_bits, push_set};
-use pol_cursor::TableKind;
+use pol_fields::TableKind;
 use pol_mls::{level_text, range_text};
 use pol_symbols::{Symbols, UserView};
 use std::alloc::AllocError;

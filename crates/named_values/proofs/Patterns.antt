@@ -17,7 +17,7 @@ use Rattle.regex_syntax.specs.Brackets.{Nested}
 use Rattle.regex_syntax.specs.Grammar.{Names, read}
 use Rattle.regex_syntax.proofs.CapturesLemmas.{find_str_alike, spans}
 use Rattle.se_outside.specs.Patterns.{IsBuiltFrom}
-use Rattle.pol_cursor.specs.declared.TableKind.{TableKind}
+use Rattle.pol_fields.specs.declared.TableKind.{TableKind}
 use Rattle.pol_bitmap.specs.declared.Node.{Node}
 use Rattle.pol_bitmap.specs.Nodes.{has_bit}
 use Rattle.pol_symbols.specs.PolicySymbols.{name_in}

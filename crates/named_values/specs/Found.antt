@@ -5,7 +5,7 @@ use Rattle.std.specs.Char.{is_ascii}
 use Rattle.regex.specs.Patterns.{Re, find_str, default_config}
 use Rattle.regex_syntax.specs.Brackets.{Nested}
 use Rattle.regex_syntax.specs.Grammar.{Names, read}
-use Rattle.pol_cursor.specs.declared.TableKind.{TableKind}
+use Rattle.pol_fields.specs.declared.TableKind.{TableKind}
 use Rattle.pol_symbols.specs.PolicySymbols.{name_in}
 use Rattle.pol_symbols.specs.declared.Symbols.{Symbols}
 

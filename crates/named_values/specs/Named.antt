@@ -1,7 +1,7 @@
 -- The values that names are looked up to in a symbol table, aliases among them.
 use Rattle.std.specs.Prelude.{ℕ, Bool, false, nat_eq, Option, Some, None, List}
 use Rattle.std.specs.List.{list_any}
-use Rattle.pol_cursor.specs.declared.TableKind.{TableKind}
+use Rattle.pol_fields.specs.declared.TableKind.{TableKind}
 use Rattle.pol_symbols.specs.PolicySymbols.{value_in}
 use Rattle.pol_symbols.specs.declared.Symbols.{Symbols}
 

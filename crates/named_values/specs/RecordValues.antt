@@ -1,8 +1,8 @@
 -- The values of the records of a symbol table, in file order, those of aliases among them. They serve the code alone, which goes through
 -- them.
 use Rattle.std.specs.Prelude.{ℕ, List, map}
-use Rattle.pol_cursor.specs.declared.TableKind.{TableKind}
-use Rattle.pol_cursor.specs.declared.TableKind.TheVariants.{Commons, Classes, Roles, Types, Users, Booleans, Levels, Categories}
+use Rattle.pol_fields.specs.declared.TableKind.{TableKind}
+use Rattle.pol_fields.specs.declared.TableKind.TheVariants.{Commons, Classes, Roles, Types, Users, Booleans, Levels, Categories}
 use Rattle.pol_symbols.specs.declared.Symbols.{Symbols}
 
 abbrev pub record_values : Symbols → TableKind → List ℕ

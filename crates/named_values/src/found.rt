@@ -12,7 +12,7 @@ ghost use Rattle.named_values.specs.RecordValues.{record_values};
 use crate::record_values::value_at;
 use crate::value_sets::set_of;
 use pol_bitmap::Set;
-use pol_cursor::TableKind;
+use pol_fields::TableKind;
 use pol_symbols::Symbols;
 use regex::{Matcher, Regex};
 use std::alloc::{AllocError, Global};

@@ -8,7 +8,7 @@ ghost use Rattle.named_values.specs.Named.{is_named};
 
 use crate::value_sets::set_of;
 use pol_bitmap::Set;
-use pol_cursor::TableKind;
+use pol_fields::TableKind;
 use pol_symbols::Symbols;
 use std::alloc::{AllocError, Global};
 

@@ -3,7 +3,7 @@ ghost use Rattle.std.specs.Prelude.{◌≡◌, ◌<◌, Some, slice_get};
 ghost use Rattle.pol_symbols.specs.PolicySymbols.{count_in};
 ghost use Rattle.named_values.specs.RecordValues.{record_values};
 
-use pol_cursor::TableKind;
+use pol_fields::TableKind;
 use pol_symbols::Symbols;
 
 /// The value of the record of that number, from 0 on, also where it is an alias.

@@ -2,7 +2,7 @@
 use Rattle.std.proofs.Common.{◌≡◌, ◌+◌, true, refl}
 use Rattle.std.specs.Prelude.{◌&&◌, is_some}
 use Rattle.std.proofs.lemmas.Bool.{and_parts}
-use Rattle.pol_cursor.specs.declared.TableKind.TheVariants.{Types, Classes}
+use Rattle.pol_fields.specs.declared.TableKind.TheVariants.{Types, Classes}
 use Rattle.pol_cursor.specs.References.{Named, Placed, dangling_of}
 use Rattle.pol_avtab.specs.declared.av_rec.AvRec.{AvRec}
 use Rattle.pol_avtab.specs.AvRecord.{is_default, av_references, part_references}

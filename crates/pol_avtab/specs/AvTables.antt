@@ -1,6 +1,6 @@
 -- Record 17: the table of access vectors (libsepol's avtab_read).
 use Rattle.std.specs.Prelude.{ℕ, Some, List, []}
-use Rattle.pol_cursor.specs.declared.fields.TheConstants.{AVTAB_NEL}
+use Rattle.pol_fields.specs.declared.fields.TheConstants.{AVTAB_NEL}
 use Rattle.pol_cursor.specs.Outcome.{Reader}
 use Rattle.pol_cursor.specs.Parts.{list_of, counted, spell_counted, CountedFits}
 use Rattle.pol_cursor.specs.Contexts.{records_after}

@@ -9,8 +9,9 @@ use crate::av_keys::AvKeys;
 use crate::av_rec::AvRec;
 use crate::av_view::{AvView, read_av};
 use pol_cursor::{
-    Copied, Cursor, Fault, Inner, Names, ReadAfter, ReadError, Record, RecordView, Referring,
+    Copied, Cursor, Inner, Names, ReadAfter, ReadError, Record, RecordView, Referring,
 };
+use pol_fields::Fault;
 use std::alloc::{AllocError, Global};
 use std::marker::Model;
 

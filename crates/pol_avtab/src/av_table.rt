@@ -9,8 +9,8 @@ use crate::av_keys::AvKeys;
 use crate::av_kind::{Av, AvContext};
 use crate::causes::is_extended;
 use crate::word_marks::WordMarks;
-use pol_cursor::fields::AVTAB_NEL;
 use pol_cursor::{Cursor, ReadError, Records, read_records_after};
+use pol_fields::fields::AVTAB_NEL;
 use std::alloc::{AllocError, Global};
 
 // How many rules are looked at together: their marks lie far apart, and the processor fetches those of one loop side by side.

@@ -1,7 +1,7 @@
 ghost use Rattle.std.specs.Prelude.{◌≡◌, ℕ, ◌+◌, ◌^◌, ◌≤◌, ◌<◌, ◌&&◌, true, IfOk, OnOk, Ok, Some, None, option_map, is_some, not, length, if◌then◌else◌};
 ghost use Rattle.pol_cursor.specs.Outcome.{Answers, Got};
 ghost use Rattle.pol_cursor.specs.References.{dangling_of};
-ghost use Rattle.pol_cursor.specs.declared.TableKind.TheVariants.{Types, Classes};
+ghost use Rattle.pol_fields.specs.declared.TableKind.TheVariants.{Types, Classes};
 ghost use Rattle.pol_avtab.specs.AvKeys.{key_of, has_key, word_of};
 ghost use Rattle.pol_avtab.specs.AvRecord.{is_extended, is_kind, extended_at, part_at, av_at, av_in, specified_in, part_in, av_length, av_end, HasAv, av_references, part_references, is_default};
 ghost use Rattle.pol_avtab.specs.InnerKeys.{IsFirst};
@@ -13,13 +13,13 @@ use crate::av_rec::{AvPart, AvRec};
 use crate::causes::{is_default, is_extended, is_kind, kind_cause, kind_of, xkind_cause};
 use crate::parts::u8_in;
 use crate::xperms::XPerms;
-use pol_cursor::fields::{
+use pol_cursor::{
+    Cursor, Mention, Names, array_in, dangling, first_dangling, refuse, u16_in, u32_in, u64_in,
+};
+use pol_fields::fields::{
     AV_BITS, AV_CLASS, AV_DATA, AV_DRIVER, AV_SOURCE, AV_SPECIFIED, AV_TARGET, AV_XKIND,
 };
-use pol_cursor::{
-    Cursor, Fault, Mention, Names, TableKind, array_in, dangling, first_dangling, refuse, u16_in,
-    u32_in, u64_in,
-};
+use pol_fields::{Fault, TableKind};
 use std::alloc::{AllocError, Global};
 use std::marker::Model;
 

@@ -5,7 +5,7 @@ ghost use Rattle.pol_avtab.specs.AvKeys.{kind_of};
 ghost use Rattle.pol_avtab.specs.AvRecord.{is_extended, is_default, is_kind, kind_test, xkind_test};
 
 use crate::av_key::AvKey;
-use pol_cursor::Cause;
+use pol_fields::Cause;
 
 // All bits but libsepol's AVTAB_ENABLED_OLD.
 const KIND_BITS: u16 = 0x7fff;

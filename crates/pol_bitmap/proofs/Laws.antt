@@ -6,8 +6,8 @@ use Rattle.std.specs.List.{flat_map, AllByRecursion}
 use Rattle.std.proofs.lemmas.List.{append-nil}
 use Rattle.std.proofs.lemmas.List.Concat.{flat_map-cons}
 use Rattle.std.proofs.lemmas.Bool.{and_parts, eqb-true}
-use Rattle.pol_cursor.specs.declared.fault.Cause.TheVariants.{BadStart, BadCount, BadMapUnit}
-use Rattle.pol_cursor.specs.declared.fields.TheConstants.{BITMAP_UNIT, BITMAP_HIGHBIT, BITMAP_COUNT, BITMAP_STARTBIT, BITMAP_MAP}
+use Rattle.pol_fields.specs.declared.fault.Cause.TheVariants.{BadStart, BadCount, BadMapUnit}
+use Rattle.pol_fields.specs.declared.fields.TheConstants.{BITMAP_UNIT, BITMAP_HIGHBIT, BITMAP_COUNT, BITMAP_STARTBIT, BITMAP_MAP}
 use Rattle.pol_cursor.specs.Parts.{num, list_of}
 use Rattle.pol_cursor.specs.Spelling.{bytes_of, AreBytes}
 use Rattle.pol_cursor.specs.Laws.{Reads, Again, IsSpelling, IsReadAgain, IsReadFromSpelling}

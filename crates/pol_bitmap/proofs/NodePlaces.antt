@@ -3,9 +3,9 @@ use Rattle.std.proofs.Common.{◌≡◌, ℕ, zero, suc, ◌+◌, ◌*◌, ◌<�
 use Rattle.std.specs.Prelude.{◌==◌, slice_get, Some}
 use Rattle.std.proofs.Common.{Option, Bool, true, false, ◌%◌, None}
 use Rattle.std.proofs.lemmas.Bool.{and_parts, eqb-true, leb-true}
-use Rattle.pol_cursor.specs.declared.fault.Cause.{Cause}
-use Rattle.pol_cursor.specs.declared.fault.Cause.TheVariants.{BadStart}
-use Rattle.pol_cursor.specs.declared.fields.TheConstants.{BITMAP_STARTBIT, BITMAP_MAP}
+use Rattle.pol_fields.specs.declared.fault.Cause.{Cause}
+use Rattle.pol_fields.specs.declared.fault.Cause.TheVariants.{BadStart}
+use Rattle.pol_fields.specs.declared.fields.TheConstants.{BITMAP_STARTBIT, BITMAP_MAP}
 use Rattle.pol_cursor.specs.Outcome.{Got, and_then}
 use Rattle.pol_cursor.specs.Parts.{num, list_of, number_if, unless}
 use Rattle.pol_cursor.proofs.Laws.{and_then_got}

@@ -4,7 +4,7 @@ ghost use Rattle.std.specs.Prelude.{◌≡◌, ◌≤◌, ◌+◌, ◌%◌, ◌<
 ghost use Rattle.pol_bitmap.specs.Bitmap.{unit_test, highbit_test, count_test, start_test, map_test};
 
 use crate::node::{Node, next_in};
-use pol_cursor::Cause;
+use pol_fields::Cause;
 
 /// The size of a map in bits.
 pub fn unit_cause(unit: u32) -> Option<Cause>

@@ -5,8 +5,9 @@ ghost use Rattle.pol_bitmap.specs.Bitmap.{node_at, nodes_at};
 
 use crate::causes::{map_cause, start_cause};
 use crate::node::Node;
-use pol_cursor::fields::{BITMAP_MAP, BITMAP_STARTBIT};
-use pol_cursor::{Cursor, Fault, refuse};
+use pol_cursor::{Cursor, refuse};
+use pol_fields::Fault;
+use pol_fields::fields::{BITMAP_MAP, BITMAP_STARTBIT};
 
 /// Reads a node that starts at or above the floor, and after which this many are left.
 #[tactic(auto, unfolding(crate::specs::Bitmap::node_at))]

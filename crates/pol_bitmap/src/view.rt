@@ -8,8 +8,9 @@ use crate::bits::Bits;
 use crate::causes::{count_cause, highbit_cause, unit_cause};
 use crate::node::{Node, has_bit_of, next_in};
 use crate::reading::pass_nodes;
-use pol_cursor::fields::{BITMAP_COUNT, BITMAP_HIGHBIT, BITMAP_UNIT};
-use pol_cursor::{Cursor, Fault, refuse, u32_in, u64_in};
+use pol_cursor::{Cursor, refuse, u32_in, u64_in};
+use pol_fields::Fault;
+use pol_fields::fields::{BITMAP_COUNT, BITMAP_HIGHBIT, BITMAP_UNIT};
 use std::marker::Model;
 
 /// A bitmap as it stands in the buffer of a policy. Contracts see the list of its nodes, and by `bits_of` the rising list of

@@ -1,7 +1,7 @@
 -- A class is read alike at all versions whose constraints have type sets, and at all others.
 use Rattle.std.proofs.Common.{◌≡◌, ℕ, Bool, true, false, None, ap, ◌∙◌, ◌≤◌, ◌<◌, rules, arith}
 use Rattle.std.specs.Prelude.{◌==◌, ◌&&◌, Option, List}
-use Rattle.pol_cursor.specs.declared.fields.TheConstants.{CLASS_NVALID, CLASS_DEFAULT_USER, CLASS_DEFAULT_ROLE, CLASS_DEFAULT_RANGE, CLASS_DEFAULT_TYPE, CONSTRAINT_PERMISSIONS, CONSTRAINT_NEXPR, CONSTRAINT_KIND, CONSTRAINT_ATTR, CONSTRAINT_OP}
+use Rattle.pol_fields.specs.declared.fields.TheConstants.{CLASS_NVALID, CLASS_DEFAULT_USER, CLASS_DEFAULT_ROLE, CLASS_DEFAULT_RANGE, CLASS_DEFAULT_TYPE, CONSTRAINT_PERMISSIONS, CONSTRAINT_NEXPR, CONSTRAINT_KIND, CONSTRAINT_ATTR, CONSTRAINT_OP}
 use Rattle.pol_cursor.specs.Outcome.{Reader, ◌>>=◌, done}
 use Rattle.pol_cursor.specs.Parts.{number, number_if, list_of, optional, records_at, counted}
 use Rattle.pol_bitmap.specs.Bitmap.{bitmap_at}

@@ -4,7 +4,7 @@ ghost use Rattle.std.specs.Prelude.{◌≡◌};
 ghost use Rattle.pol_classes.specs.ClassRecord.{common_test, default_test};
 
 use pol_commons::{CommonList, find_common};
-use pol_cursor::Cause;
+use pol_fields::Cause;
 
 /// `UnknownCommon` where a class names a common that is not there.
 pub fn common_cause(commons: &CommonList<'_>, name: &[u8]) -> Option<Cause>

@@ -6,11 +6,12 @@ ghost use Rattle.pol_classes.specs.ClassRecord.{common_name_at, head_at, head_in
 
 use crate::causes::common_cause;
 use pol_commons::{CommonList, permission_count_cause};
-use pol_cursor::fields::{
+use pol_cursor::{Cursor, refuse, string_in, u32_in};
+use pol_fields::Fault;
+use pol_fields::fields::{
     CLASS_COMMON, CLASS_LEN, CLASS_LEN2, CLASS_NAME, CLASS_NCONS, CLASS_NEL, CLASS_NPRIM,
     CLASS_VALUE,
 };
-use pol_cursor::{Cursor, Fault, refuse, string_in, u32_in};
 use pol_symtab::{Taken, new_value_cause, read_symbol_length, read_symbol_name};
 use std::marker::Model;
 

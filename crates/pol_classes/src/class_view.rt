@@ -9,10 +9,11 @@ use crate::class_kind::Class;
 use crate::class_rec::ClassRec;
 use crate::constraint_list::{ConstraintList, constraints_end, pass_constraints};
 use pol_commons::{CommonList, PermissionList, inherited_from, permissions_end, read_permissions};
-use pol_cursor::fields::{
+use pol_cursor::{ByteList, Copied, Cursor, refuse, u32_in};
+use pol_fields::fields::{
     CLASS_DEFAULT_RANGE, CLASS_DEFAULT_ROLE, CLASS_DEFAULT_TYPE, CLASS_DEFAULT_USER, CLASS_NVALID,
 };
-use pol_cursor::{ByteList, Copied, Cursor, Fault, Field, refuse, u32_in};
+use pol_fields::{Fault, Field};
 use pol_symtab::Taken;
 use std::alloc::{AllocError, Global};
 use std::marker::Model;

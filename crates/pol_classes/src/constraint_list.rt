@@ -5,7 +5,8 @@ ghost use Rattle.pol_classes.specs.ConstraintLists.{constraints_at, constraints_
 
 use crate::constraint_length::constraint_end;
 use pol_constraints::{ConstraintRec, ConstraintView, read_constraint};
-use pol_cursor::{Cursor, Fault, OwnedList};
+use pol_cursor::{Cursor, OwnedList};
+use pol_fields::Fault;
 use std::alloc::{AllocError, Global};
 use std::marker::Model;
 

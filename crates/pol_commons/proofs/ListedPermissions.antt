@@ -1,6 +1,6 @@
 -- The permissions of a list, as a loop reads them: each under those before it.
 use Rattle.std.proofs.Common.{◌≡◌, ℕ, ◌+◌, ◌<◌, ◌≤◌, List, [], ◌∷◌, ◌++◌, refl, sym, ap, subst, ◌∙◌, arith}
-use Rattle.pol_cursor.specs.declared.fault.Fault.{Fault}
+use Rattle.pol_fields.specs.declared.fault.Fault.{Fault}
 use Rattle.pol_cursor.specs.Outcome.{Position, Bad}
 use Rattle.pol_cursor.specs.Runs.{run_in, run_end, HasRun}
 use Rattle.pol_cursor.proofs.Lists.{Gave, Going, Going-start, Going-next, Going-bad, Going-end}

@@ -1,6 +1,6 @@
 -- A common that was read has a new name and a new value.
 use Rattle.std.proofs.Common.{ℕ, true, []}
-use Rattle.pol_cursor.specs.declared.fields.TheConstants.{COMMON_LEN, COMMON_VALUE, COMMON_NPRIM, COMMON_NEL, COMMON_NAME}
+use Rattle.pol_fields.specs.declared.fields.TheConstants.{COMMON_LEN, COMMON_VALUE, COMMON_NPRIM, COMMON_NEL, COMMON_NAME}
 use Rattle.pol_cursor.specs.Parts.{number, number_if}
 use Rattle.pol_symtab.specs.Claims.{Claims}
 use Rattle.pol_symtab.specs.Freshness.{Gives, IsFresh}

@@ -1,9 +1,9 @@
 -- Record 5: a common, which is permissions that classes inherit (libsepol's common_read).
 use Rattle.std.specs.Prelude.{ℕ, ◌+◌, ◌^◌, ◌<◌, ◌≤◌, nat_le, Option, Some, List, [], ◌++◌, length, take, drop}
 use Rattle.std.specs.List.{flat_map, AllByRecursion}
-use Rattle.pol_cursor.specs.declared.fault.Cause.{Cause}
-use Rattle.pol_cursor.specs.declared.fault.Cause.TheVariants.{TableTooLarge}
-use Rattle.pol_cursor.specs.declared.fields.TheConstants.{COMMON_LEN, COMMON_VALUE, COMMON_NPRIM, COMMON_NEL, COMMON_NAME}
+use Rattle.pol_fields.specs.declared.fault.Cause.{Cause}
+use Rattle.pol_fields.specs.declared.fault.Cause.TheVariants.{TableTooLarge}
+use Rattle.pol_fields.specs.declared.fields.TheConstants.{COMMON_LEN, COMMON_VALUE, COMMON_NPRIM, COMMON_NEL, COMMON_NAME}
 use Rattle.pol_cursor.specs.Outcome.{Reader, ◌>>=◌, done}
 use Rattle.pol_cursor.specs.Parts.{num, number, number_if, unless}
 use Rattle.pol_cursor.specs.Spelling.{bytes_of}

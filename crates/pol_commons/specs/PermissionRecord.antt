@@ -1,6 +1,6 @@
 -- Record 4: a permission of a class or of a common (libsepol's perm_read).
 use Rattle.std.specs.Prelude.{ℕ, ◌+◌, ◌^◌, ◌<◌, ◌≤◌, List, ◌++◌, length, map, take, drop}
-use Rattle.pol_cursor.specs.declared.fields.TheConstants.{PERMISSION_LEN, PERMISSION_VALUE, PERMISSION_NAME}
+use Rattle.pol_fields.specs.declared.fields.TheConstants.{PERMISSION_LEN, PERMISSION_VALUE, PERMISSION_NAME}
 use Rattle.pol_cursor.specs.Outcome.{Reader, ◌>>=◌, done}
 use Rattle.pol_cursor.specs.Parts.{num, number_if}
 use Rattle.pol_cursor.specs.Spelling.{bytes_of}

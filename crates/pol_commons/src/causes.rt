@@ -7,7 +7,7 @@ ghost use Rattle.pol_commons.specs.PermissionRecord.{claims_before};
 ghost use Rattle.pol_commons.specs.CommonRecord.{permission_count_test};
 
 use crate::permission_list::PermissionList;
-use pol_cursor::Cause;
+use pol_fields::Cause;
 
 /// The greatest value of a permission.
 pub const PERMISSIONS: u32 = 32;

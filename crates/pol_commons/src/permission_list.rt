@@ -7,7 +7,8 @@ ghost use Rattle.pol_commons.specs.Permissions.{permissions_at, permissions_in, 
 
 use crate::permission_rec::PermissionRecList;
 use crate::permission_view::{PermissionView, permission_end, read_permission};
-use pol_cursor::{Cursor, Fault};
+use pol_cursor::Cursor;
+use pol_fields::Fault;
 use std::alloc::{AllocError, Global};
 use std::marker::Model;
 

@@ -1,8 +1,8 @@
 -- The two laws of conditional nodes and of the list of them.
 use Rattle.std.proofs.Common.{◌≡◌, ℕ, zero, suc, ◌∷◌, None, List, refl, ap, append_assoc}
 use Rattle.std.proofs.lemmas.List.{append-nil}
-use Rattle.pol_cursor.specs.declared.field.Field.{Field}
-use Rattle.pol_cursor.specs.declared.fields.TheConstants.{CONDLIST_COUNT, CONDNODE_NTRUE, CONDNODE_NFALSE}
+use Rattle.pol_fields.specs.declared.field.Field.{Field}
+use Rattle.pol_fields.specs.declared.fields.TheConstants.{CONDLIST_COUNT, CONDNODE_NTRUE, CONDNODE_NFALSE}
 use Rattle.pol_cursor.specs.Outcome.{Reader, Outcome, Got, Bad, and_then}
 use Rattle.pol_cursor.specs.Contexts.{records_after}
 use Rattle.pol_cursor.specs.Parts.{number, list_of, records_at, counted, spell_counted, CountedFits}

@@ -1,6 +1,6 @@
 -- Record 18: the list of conditional nodes (libsepol's cond_read_list).
 use Rattle.std.specs.Prelude.{ℕ, List}
-use Rattle.pol_cursor.specs.declared.fields.TheConstants.{CONDLIST_COUNT}
+use Rattle.pol_fields.specs.declared.fields.TheConstants.{CONDLIST_COUNT}
 use Rattle.pol_cursor.specs.Outcome.{Reader}
 use Rattle.pol_cursor.specs.Parts.{counted, records_at, spell_counted, CountedFits}
 use Rattle.pol_cursor.specs.References.{Placed, placed}

@@ -8,12 +8,13 @@ use crate::condnode_rec::CondNodeRec;
 use crate::condnode_view::{CondNodeView, read_condnode};
 use crate::place_groups::PlaceGroups;
 use pol_avtab::AvView;
-use pol_cursor::fields::CONDLIST_COUNT;
 use pol_cursor::{
-    Copied, Cursor, Fault, Names, ReadAfter, ReadError, Record, RecordView, Records, Referring,
+    Copied, Cursor, Names, ReadAfter, ReadError, Record, RecordView, Records, Referring,
     read_records_after,
 };
 use pol_expr::ConditionView;
+use pol_fields::Fault;
+use pol_fields::fields::CONDLIST_COUNT;
 use std::alloc::{AllocError, Global};
 use std::marker::Model;
 

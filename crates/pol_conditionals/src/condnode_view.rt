@@ -8,9 +8,10 @@ ghost use Rattle.pol_conditionals.specs.CondNodeRecord.{conditional_rules_at, co
 
 use crate::condnode_rec::CondNodeRec;
 use pol_avtab::{Av, AvView};
-use pol_cursor::fields::{CONDNODE_NFALSE, CONDNODE_NTRUE};
-use pol_cursor::{Cursor, Fault, Field, Names, Run, end_of_run, read_run, u32_in};
+use pol_cursor::{Cursor, Names, Run, end_of_run, read_run, u32_in};
 use pol_expr::{ConditionView, read_condition};
+use pol_fields::fields::{CONDNODE_NFALSE, CONDNODE_NTRUE};
+use pol_fields::{Fault, Field};
 use std::alloc::{AllocError, Global};
 use std::marker::Model;
 

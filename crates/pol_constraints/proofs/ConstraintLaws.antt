@@ -2,7 +2,7 @@
 use Rattle.std.proofs.Common.{◌≡◌, ℕ, Bool, Option, None, List, ◌++◌, length, append_assoc}
 use Rattle.std.specs.List.{flat_map, AllByRecursion}
 use Rattle.std.proofs.lemmas.List.{append-nil}
-use Rattle.pol_cursor.specs.declared.fields.TheConstants.{CONSTRAINT_PERMISSIONS, CONSTRAINT_NEXPR, CONSTRAINT_KIND, CONSTRAINT_ATTR, CONSTRAINT_OP, CONSTRAINT_FLAGS}
+use Rattle.pol_fields.specs.declared.fields.TheConstants.{CONSTRAINT_PERMISSIONS, CONSTRAINT_NEXPR, CONSTRAINT_KIND, CONSTRAINT_ATTR, CONSTRAINT_OP, CONSTRAINT_FLAGS}
 use Rattle.pol_cursor.specs.Parts.{spell_optional, OptionFits}
 use Rattle.pol_bitmap.specs.declared.node.Node.{Node}
 use Rattle.pol_bitmap.specs.Bitmap.{spell_bitmap, BitmapFits}

@@ -1,8 +1,8 @@
 -- The items of a constraint that were read are those that stand there.
 use Rattle.std.proofs.Common.{◌≡◌, ℕ, zero, suc, ◌+◌, ◌-◌, ◌<◌, Bool, ◌&&◌, Option, List, [], ◌∷◌, ◌++◌, length, refl, sym, ap, subst, ◌∙◌, ◌≤◌, add-one, arith}
 use Rattle.std.specs.Prelude.{nat_le}
-use Rattle.pol_cursor.specs.declared.fault.Cause.TheVariants.{BadKind}
-use Rattle.pol_cursor.specs.declared.fields.TheConstants.{CONSTRAINT_KIND, CONSTRAINT_ATTR, CONSTRAINT_OP}
+use Rattle.pol_fields.specs.declared.fault.Cause.TheVariants.{BadKind}
+use Rattle.pol_fields.specs.declared.fields.TheConstants.{CONSTRAINT_KIND, CONSTRAINT_ATTR, CONSTRAINT_OP}
 use Rattle.pol_cursor.specs.Outcome.{Position, Got, and_then}
 use Rattle.pol_cursor.specs.Parts.{num, number_if}
 use Rattle.pol_cursor.proofs.Laws.{and_then_got}

@@ -2,12 +2,12 @@
 use Rattle.std.proofs.Common.{◌≡◌, ℕ, ◌+◌, ◌≤◌, Bool, Option, None, List, length, sym, ap, subst, ◌∙◌, arith}
 use Rattle.std.specs.Prelude.{◌&&◌, nat_le}
 use Rattle.std.proofs.lemmas.Bool.Decides.{nat_tests}
-use Rattle.pol_cursor.specs.declared.fields.TheConstants.{CONSTRAINT_KIND, CONSTRAINT_ATTR, CONSTRAINT_OP}
+use Rattle.pol_fields.specs.declared.fields.TheConstants.{CONSTRAINT_KIND, CONSTRAINT_ATTR, CONSTRAINT_OP}
 use Rattle.pol_cursor.specs.Outcome.{Position, Outcome, Got, and_then, judged}
 use Rattle.pol_cursor.specs.Parts.{num, number}
-use Rattle.pol_cursor.specs.declared.field.Field.{Field}
-use Rattle.pol_cursor.specs.declared.fault.Cause.{Cause}
-use Rattle.pol_cursor.specs.declared.fault.Cause.TheVariants.{BadKind}
+use Rattle.pol_fields.specs.declared.field.Field.{Field}
+use Rattle.pol_fields.specs.declared.fault.Cause.{Cause}
+use Rattle.pol_fields.specs.declared.fault.Cause.TheVariants.{BadKind}
 use Rattle.pol_cursor.proofs.Facts.{number_is}
 use Rattle.pol_cursor.proofs.Lists.{Gave}
 use Rattle.pol_constraints.specs.declared.constraint_rec.ConstraintItem.{ConstraintItem}

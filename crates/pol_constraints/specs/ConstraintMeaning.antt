@@ -2,8 +2,8 @@
 use Rattle.std.specs.Prelude.{◌≡◌, ℕ, ◌+◌, ◌^◌, ◌≤◌, ◌==◌, ◌||◌, nat_lt, if◌then◌else◌, Option, None, MatchOption, List, [], ◌∷◌, ◌++◌, codes}
 use Rattle.std.specs.List.{flat_map}
 use Rattle.std.specs.Option.{option_to_list}
-use Rattle.pol_cursor.specs.declared.table_kind.TableKind.{TableKind}
-use Rattle.pol_cursor.specs.declared.table_kind.TableKind.TheVariants.{Users, Roles, Types}
+use Rattle.pol_fields.specs.declared.table_kind.TableKind.{TableKind}
+use Rattle.pol_fields.specs.declared.table_kind.TableKind.TheVariants.{Users, Roles, Types}
 use Rattle.pol_cursor.specs.References.{Named}
 use Rattle.pol_bitmap.specs.Nodes.{bits_of}
 use Rattle.pol_texts.specs.NameLists.{IsInOrder}

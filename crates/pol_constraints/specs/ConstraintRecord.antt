@@ -1,9 +1,9 @@
 -- The expression of a constraint: record 7 (libsepol's read_cons_helper).
 use Rattle.std.specs.Prelude.{◌≡◌, ℕ, zero, suc, ◌+◌, ◌^◌, ◌<◌, ◌≤◌, Bool, true, ◌&&◌, ◌||◌, ◌==◌, nat_eq, nat_le, if◌then◌else◌, Option, Some, None, List, [], ◌∷◌, ◌++◌, length}
 use Rattle.std.specs.List.{flat_map, list_any, AllByRecursion}
-use Rattle.pol_cursor.specs.declared.fault.Cause.{Cause}
-use Rattle.pol_cursor.specs.declared.fault.Cause.TheVariants.{BadKind, BadAttr, BadOp}
-use Rattle.pol_cursor.specs.declared.fields.TheConstants.{CONSTRAINT_PERMISSIONS, CONSTRAINT_NEXPR, CONSTRAINT_KIND, CONSTRAINT_ATTR, CONSTRAINT_OP, CONSTRAINT_FLAGS}
+use Rattle.pol_fields.specs.declared.fault.Cause.{Cause}
+use Rattle.pol_fields.specs.declared.fault.Cause.TheVariants.{BadKind, BadAttr, BadOp}
+use Rattle.pol_fields.specs.declared.fields.TheConstants.{CONSTRAINT_PERMISSIONS, CONSTRAINT_NEXPR, CONSTRAINT_KIND, CONSTRAINT_ATTR, CONSTRAINT_OP, CONSTRAINT_FLAGS}
 use Rattle.pol_cursor.specs.Outcome.{Reader, ◌>>=◌, done}
 use Rattle.pol_cursor.specs.Parts.{num, number, number_if, list_of, optional, spell_optional, OptionFits, unless}
 use Rattle.pol_cursor.specs.Spelling.{bytes_of}

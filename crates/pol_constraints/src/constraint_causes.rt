@@ -5,8 +5,8 @@ ghost use Rattle.pol_cursor.specs.Parts.{unless};
 ghost use Rattle.pol_expr.specs.Postfix.{values_after};
 ghost use Rattle.pol_constraints.specs.ConstraintRecord.{kind_operands, kind_test, attr_test, op_test, is_pair, is_side};
 
-use pol_cursor::Cause;
 use pol_expr::operands_cause;
+use pol_fields::Cause;
 
 /// libsepol's CEXPR_MAXDEPTH.
 const CONSTRAINT_LIMIT: u32 = 5;

@@ -6,8 +6,9 @@ ghost use Rattle.pol_constraints.specs.ConstraintRecord.{type_set_at, type_set_i
 
 use crate::constraint_causes::{attr_cause, kind_cause, kind_operands, op_cause};
 use pol_bitmap::BitmapView;
-use pol_cursor::fields::{CONSTRAINT_ATTR, CONSTRAINT_FLAGS, CONSTRAINT_KIND, CONSTRAINT_OP};
-use pol_cursor::{Cursor, Fault, refuse};
+use pol_cursor::{Cursor, refuse};
+use pol_fields::Fault;
+use pol_fields::fields::{CONSTRAINT_ATTR, CONSTRAINT_FLAGS, CONSTRAINT_KIND, CONSTRAINT_OP};
 
 // The first version whose names have a type set beside them.
 pub const TYPE_SETS: u32 = 29;

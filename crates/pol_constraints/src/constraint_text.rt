@@ -7,7 +7,8 @@ ghost use Rattle.pol_texts.specs.SetTexts.{set_text};
 
 use crate::constraint_item::ConstraintItemView;
 use pol_bitmap::BitmapView;
-use pol_cursor::{Names, TableKind};
+use pol_cursor::Names;
+use pol_fields::TableKind;
 use pol_texts::push_set;
 use std::alloc::{AllocError, Global};
 

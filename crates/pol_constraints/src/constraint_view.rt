@@ -6,9 +6,10 @@ use crate::constraint_item::{ConstraintItemView, ConstraintItems};
 use crate::constraint_reading::pass_items;
 use crate::constraint_rec::ConstraintRec;
 use pol_bitmap::BitmapView;
-use pol_cursor::fields::{CONSTRAINT_NEXPR, CONSTRAINT_PERMISSIONS};
-use pol_cursor::{Cursor, Fault, OwnedList, refuse, u32_in};
+use pol_cursor::{Cursor, OwnedList, refuse, u32_in};
 use pol_expr::item_count_cause;
+use pol_fields::Fault;
+use pol_fields::fields::{CONSTRAINT_NEXPR, CONSTRAINT_PERMISSIONS};
 use std::alloc::{AllocError, Global};
 use std::marker::Model;
 

@@ -1,8 +1,8 @@
 -- The two laws of contexts, and of lists of entries behind their count.
 use Rattle.std.proofs.Common.{ℕ, List, append_assoc}
 use Rattle.std.proofs.lemmas.List.{append-nil}
-use Rattle.pol_cursor.specs.declared.field.Field.{Field}
-use Rattle.pol_cursor.specs.declared.fields.TheConstants.{CONTEXT_USER, CONTEXT_ROLE, CONTEXT_TYPE}
+use Rattle.pol_fields.specs.declared.field.Field.{Field}
+use Rattle.pol_fields.specs.declared.fields.TheConstants.{CONTEXT_USER, CONTEXT_ROLE, CONTEXT_TYPE}
 use Rattle.pol_cursor.specs.Outcome.{Reader}
 use Rattle.pol_cursor.specs.Parts.{spell_counted, CountedFits, records_at}
 use Rattle.pol_cursor.specs.Laws.{IsReadAgain, IsReadFromSpelling}

@@ -1,7 +1,7 @@
 -- Record 24: a security context, which is a user, a role, a type and a range (libsepol's context_read_and_validate).
 use Rattle.std.specs.Prelude.{ℕ, ◌+◌, ◌^◌, ◌<◌, List, ◌∷◌, ◌++◌}
-use Rattle.pol_cursor.specs.declared.table_kind.TableKind.TheVariants.{Users, Roles, Types}
-use Rattle.pol_cursor.specs.declared.fields.TheConstants.{CONTEXT_USER, CONTEXT_ROLE, CONTEXT_TYPE}
+use Rattle.pol_fields.specs.declared.table_kind.TableKind.TheVariants.{Users, Roles, Types}
+use Rattle.pol_fields.specs.declared.fields.TheConstants.{CONTEXT_USER, CONTEXT_ROLE, CONTEXT_TYPE}
 use Rattle.pol_cursor.specs.Outcome.{Reader, ◌>>=◌, done}
 use Rattle.pol_cursor.specs.Parts.{num, number}
 use Rattle.pol_cursor.specs.References.{Placed, Reference}

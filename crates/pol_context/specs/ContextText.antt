@@ -1,6 +1,6 @@
 -- The text of a context, as SETools prints it.
 use Rattle.std.specs.Prelude.{ℕ, List, ◌++◌, codes}
-use Rattle.pol_cursor.specs.declared.table_kind.TableKind.TheVariants.{Users, Roles, Types}
+use Rattle.pol_fields.specs.declared.table_kind.TableKind.TheVariants.{Users, Roles, Types}
 use Rattle.pol_cursor.specs.References.{Named}
 use Rattle.pol_mls.specs.MlsTexts.{name_of, range_text}
 use Rattle.pol_context.specs.declared.context_rec.ContextRec.{ContextRec}

@@ -1,6 +1,6 @@
 -- Lists of entries behind their count: the tables that hold contexts (libsepol's ocontext_read_selinux and genfs_read).
 use Rattle.std.specs.Prelude.{List}
-use Rattle.pol_cursor.specs.declared.field.Field.{Field}
+use Rattle.pol_fields.specs.declared.field.Field.{Field}
 use Rattle.pol_cursor.specs.Outcome.{Reader}
 use Rattle.pol_cursor.specs.Parts.{counted, records_at}
 use Rattle.pol_cursor.specs.References.{Placed, placed}

@@ -4,9 +4,10 @@ ghost use Rattle.pol_cursor.specs.References.{dangling_of};
 ghost use Rattle.pol_context.specs.ContextRecord.{context_at, context_in, context_end, HasContext, context_references};
 
 use crate::context_rec::ContextRec;
-use pol_cursor::TableKind::{Roles, Types, Users};
-use pol_cursor::fields::{CONTEXT_ROLE, CONTEXT_TYPE, CONTEXT_USER};
-use pol_cursor::{Cursor, Fault, Mention, Names, first_dangling, u32_in};
+use pol_cursor::{Cursor, Mention, Names, first_dangling, u32_in};
+use pol_fields::Fault;
+use pol_fields::TableKind::{Roles, Types, Users};
+use pol_fields::fields::{CONTEXT_ROLE, CONTEXT_TYPE, CONTEXT_USER};
 use pol_mls::{RangeView, read_range};
 use std::alloc::{AllocError, Global};
 use std::marker::Model;

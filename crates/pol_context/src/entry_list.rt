@@ -1,7 +1,8 @@
 ghost use Rattle.pol_cursor.specs.Outcome.{Yields};
 ghost use Rattle.pol_context.specs.EntryLists.{table_at};
 
-use pol_cursor::{Cursor, Field, ReadAlone, ReadError, Records, read_counted};
+use pol_cursor::{Cursor, ReadAlone, ReadError, Records, read_counted};
+use pol_fields::Field;
 use std::alloc::Global;
 
 /// Reads a table, which is a count, at that field, and its entries. Nothing is reserved by the count that the policy claims.

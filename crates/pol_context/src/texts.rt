@@ -2,7 +2,8 @@ ghost use Rattle.std.specs.Prelude.{◌≡◌, IfOk};
 ghost use Rattle.pol_context.specs.ContextText.{context_text};
 
 use crate::context_view::ContextView;
-use pol_cursor::{Names, TableKind};
+use pol_cursor::Names;
+use pol_fields::TableKind;
 use pol_mls::{push_name, range_text};
 use std::alloc::{AllocError, Global};
 

@@ -1,8 +1,8 @@
 -- The two laws of the records that hold contexts.
 use Rattle.std.proofs.Common.{ℕ, length, append_assoc}
 use Rattle.std.proofs.lemmas.List.{append-nil}
-use Rattle.pol_cursor.specs.declared.field.Field.{Field}
-use Rattle.pol_cursor.specs.declared.fields.TheConstants.{SID_SID, PORT_PROTOCOL, PORT_LOW, PORT_HIGH, FSUSE_BEHAVIOUR, FSUSE_LEN, FSUSE_NAME, IBPKEY_PREFIX, IBPKEY_LOW, IBPKEY_HIGH, IBENDPORT_LEN, IBENDPORT_PORT, IBENDPORT_NAME}
+use Rattle.pol_fields.specs.declared.field.Field.{Field}
+use Rattle.pol_fields.specs.declared.fields.TheConstants.{SID_SID, PORT_PROTOCOL, PORT_LOW, PORT_HIGH, FSUSE_BEHAVIOUR, FSUSE_LEN, FSUSE_NAME, IBPKEY_PREFIX, IBPKEY_LOW, IBPKEY_HIGH, IBENDPORT_LEN, IBENDPORT_PORT, IBENDPORT_NAME}
 use Rattle.pol_cursor.specs.Laws.{IsReadAgain, IsReadFromSpelling}
 use Rattle.pol_cursor.specs.FileNames.{name_length_at, name_bytes_at}
 use Rattle.pol_cursor.proofs.Laws.{Reads-done, Reads-part, Reads-number, Reads-number_if, Reads-string, Reads-string_if, Again-done, Again-part, Again-as, Again-number, Again-number_if, Again-string-of, Again-string_if}

@@ -1,6 +1,6 @@
 -- Record 29 and 31: the context of IPv4 addresses, and in the same form that of IPv6 addresses (libsepol's ocontext_read_selinux).
 use Rattle.std.specs.Prelude.{ℕ, ◌+◌, ◌≡◌, List, ◌++◌, length, take, drop}
-use Rattle.pol_cursor.specs.declared.field.Field.{Field}
+use Rattle.pol_fields.specs.declared.field.Field.{Field}
 use Rattle.pol_cursor.specs.Outcome.{Reader, ◌>>=◌, done}
 use Rattle.pol_cursor.specs.Parts.{string}
 use Rattle.pol_cursor.specs.References.{Placed, Reference}

@@ -1,12 +1,12 @@
 -- Record 30: how the files of a file system get their contexts (libsepol's ocontext_read_selinux).
 use Rattle.std.specs.Prelude.{ℕ, ◌+◌, ◌^◌, ◌<◌, ◌&&◌, Option, List, ◌++◌, length, nat_le}
-use Rattle.pol_cursor.specs.declared.fields.TheConstants.{FSUSE_BEHAVIOUR, FSUSE_LEN, FSUSE_NAME}
+use Rattle.pol_fields.specs.declared.fields.TheConstants.{FSUSE_BEHAVIOUR, FSUSE_LEN, FSUSE_NAME}
 use Rattle.pol_cursor.specs.Outcome.{Reader, ◌>>=◌, done}
 use Rattle.pol_cursor.specs.Parts.{num, number_if, unless}
 use Rattle.pol_cursor.specs.References.{Placed, Reference}
 use Rattle.pol_cursor.specs.Spelling.{bytes_of}
-use Rattle.pol_cursor.specs.declared.fault.Cause.{Cause}
-use Rattle.pol_cursor.specs.declared.fault.Cause.TheVariants.{BadBehaviour}
+use Rattle.pol_fields.specs.declared.fault.Cause.{Cause}
+use Rattle.pol_fields.specs.declared.fault.Cause.TheVariants.{BadBehaviour}
 use Rattle.pol_cursor.specs.FileNames.{name_at, spell_name, NameFits, name_in, name_end}
 use Rattle.pol_context.specs.ContextRecord.{context_at, spell_context, ContextFits, context_in, HasContext, context_references}
 use Rattle.pol_contexts.specs.declared.fsuse_rec.FsUseRec.{FsUseRec}

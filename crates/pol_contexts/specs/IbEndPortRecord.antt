@@ -1,6 +1,6 @@
 -- Record 33: the context of an InfiniBand device at a port (libsepol's ocontext_read_selinux).
 use Rattle.std.specs.Prelude.{ℕ, ◌+◌, ◌^◌, ◌<◌, List, ◌++◌, length, take, drop}
-use Rattle.pol_cursor.specs.declared.fields.TheConstants.{IBENDPORT_LEN, IBENDPORT_PORT, IBENDPORT_NAME}
+use Rattle.pol_fields.specs.declared.fields.TheConstants.{IBENDPORT_LEN, IBENDPORT_PORT, IBENDPORT_NAME}
 use Rattle.pol_cursor.specs.Outcome.{Reader, ◌>>=◌, done}
 use Rattle.pol_cursor.specs.Parts.{num, number}
 use Rattle.pol_cursor.specs.References.{Placed, Reference}

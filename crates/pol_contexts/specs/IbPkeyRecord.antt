@@ -1,6 +1,6 @@
 -- Record 32: the context of a range of InfiniBand partition keys (libsepol's ocontext_read_selinux).
 use Rattle.std.specs.Prelude.{ℕ, ◌+◌, ◌^◌, ◌<◌, ◌≡◌, List, ◌++◌, length, take, drop}
-use Rattle.pol_cursor.specs.declared.fields.TheConstants.{IBPKEY_PREFIX, IBPKEY_LOW, IBPKEY_HIGH}
+use Rattle.pol_fields.specs.declared.fields.TheConstants.{IBPKEY_PREFIX, IBPKEY_LOW, IBPKEY_HIGH}
 use Rattle.pol_cursor.specs.Outcome.{Reader, ◌>>=◌, done}
 use Rattle.pol_cursor.specs.Parts.{num, number, string}
 use Rattle.pol_cursor.specs.References.{Placed, Reference}

@@ -1,6 +1,6 @@
 -- Record 27: the context of a range of ports (libsepol's ocontext_read_selinux).
 use Rattle.std.specs.Prelude.{ℕ, ◌+◌, ◌^◌, ◌<◌, List, ◌++◌}
-use Rattle.pol_cursor.specs.declared.fields.TheConstants.{PORT_PROTOCOL, PORT_LOW, PORT_HIGH}
+use Rattle.pol_fields.specs.declared.fields.TheConstants.{PORT_PROTOCOL, PORT_LOW, PORT_HIGH}
 use Rattle.pol_cursor.specs.Outcome.{Reader, ◌>>=◌, done}
 use Rattle.pol_cursor.specs.Parts.{num, number}
 use Rattle.pol_cursor.specs.References.{Placed, Reference}

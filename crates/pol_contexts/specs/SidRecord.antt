@@ -1,6 +1,6 @@
 -- Record 25: the context of an initial SID (libsepol's ocontext_read_selinux).
 use Rattle.std.specs.Prelude.{ℕ, ◌+◌, ◌^◌, ◌<◌, List, ◌++◌}
-use Rattle.pol_cursor.specs.declared.fields.TheConstants.{SID_SID}
+use Rattle.pol_fields.specs.declared.fields.TheConstants.{SID_SID}
 use Rattle.pol_cursor.specs.Outcome.{Reader, ◌>>=◌, done}
 use Rattle.pol_cursor.specs.Parts.{num, number}
 use Rattle.pol_cursor.specs.References.{Placed, Reference}

@@ -1,5 +1,5 @@
 ghost use Rattle.std.specs.Prelude.{◌≡◌, ◌+◌, ◌≤◌, OnOk};
-ghost use Rattle.pol_cursor.specs.declared.fields.TheConstants.{NODE_ADDRESS, NODE_MASK, NODE6_ADDRESS, NODE6_MASK};
+ghost use Rattle.pol_fields.specs.declared.fields.TheConstants.{NODE_ADDRESS, NODE_MASK, NODE6_ADDRESS, NODE6_MASK};
 ghost use Rattle.pol_cursor.specs.Outcome.{Answers};
 ghost use Rattle.pol_contexts.specs.AddressRecord.{address_at, address_in, spell_address, HasAddress, address_references};
 
@@ -7,8 +7,9 @@ use crate::address_rec::AddressRec;
 use crate::entry::{Entry, Standing};
 use crate::kinds::{AddressView, Node, Node6};
 use pol_context::{ContextView, read_context};
-use pol_cursor::fields::{NODE_ADDRESS, NODE_MASK, NODE6_ADDRESS, NODE6_MASK};
-use pol_cursor::{Cursor, Fault, Field, Names, Part, ReadAlone, Written, array_in};
+use pol_cursor::{Cursor, Names, Part, ReadAlone, Written, array_in};
+use pol_fields::fields::{NODE_ADDRESS, NODE_MASK, NODE6_ADDRESS, NODE6_MASK};
+use pol_fields::{Fault, Field};
 use std::alloc::{AllocError, Global};
 
 impl<const WIDTH: usize> Standing for AddressRec<WIDTH> {

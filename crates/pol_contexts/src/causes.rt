@@ -1,7 +1,7 @@
 ghost use Rattle.std.specs.Prelude.{◌≡◌};
 ghost use Rattle.pol_contexts.specs.FsUseRecord.{behaviour_test};
 
-use pol_cursor::Cause;
+use pol_fields::Cause;
 
 /// `BadBehaviour` where it is none of xattr, trans and task.
 pub fn behaviour_cause(behaviour: u32) -> Option<Cause>

@@ -4,7 +4,8 @@ ghost use Rattle.std.specs.Prelude.{◌≡◌, ℕ, List, IfOk};
 ghost use Rattle.pol_cursor.specs.Outcome.{Answers};
 ghost use Rattle.pol_cursor.specs.References.{Placed, Reference, dangling_of};
 
-use pol_cursor::{Copied, Cursor, Fault, Names, ReadAlone, Record, RecordView, Referring};
+use pol_cursor::{Copied, Cursor, Names, ReadAlone, Record, RecordView, Referring};
+use pol_fields::Fault;
 use std::alloc::{AllocError, Global};
 use std::marker::{Model, PhantomData};
 

@@ -8,10 +8,9 @@ use crate::entry::{Entry, Standing};
 use crate::fsuse_rec::FsUseRec;
 use crate::kinds::{FsUse, FsUseView};
 use pol_context::{ContextView, name_end, name_standing, read_context};
-use pol_cursor::fields::{FSUSE_BEHAVIOUR, FSUSE_LEN, FSUSE_NAME};
-use pol_cursor::{
-    ByteList, Cursor, Fault, Names, Part, ReadAlone, Written, read_name, refuse, u32_in,
-};
+use pol_cursor::{ByteList, Cursor, Names, Part, ReadAlone, Written, read_name, refuse, u32_in};
+use pol_fields::Fault;
+use pol_fields::fields::{FSUSE_BEHAVIOUR, FSUSE_LEN, FSUSE_NAME};
 use std::alloc::{AllocError, Global};
 
 impl Standing for FsUseRec {

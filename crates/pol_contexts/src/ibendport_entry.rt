@@ -7,11 +7,12 @@ use crate::entry::{Entry, Standing};
 use crate::ibendport_rec::IbEndPortRec;
 use crate::kinds::{IbEndPort, IbEndPortView};
 use pol_context::{ContextView, read_context};
-use pol_cursor::fields::{IBENDPORT_LEN, IBENDPORT_NAME, IBENDPORT_PORT};
 use pol_cursor::{
-    ByteList, Cursor, Fault, Names, Part, ReadAlone, Written, read_name_bytes, read_name_length,
+    ByteList, Cursor, Names, Part, ReadAlone, Written, read_name_bytes, read_name_length,
     string_in, u32_in,
 };
+use pol_fields::Fault;
+use pol_fields::fields::{IBENDPORT_LEN, IBENDPORT_NAME, IBENDPORT_PORT};
 use std::alloc::{AllocError, Global};
 
 impl Standing for IbEndPortRec {

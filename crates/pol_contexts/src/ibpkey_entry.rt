@@ -5,8 +5,9 @@ use crate::entry::{Entry, Standing};
 use crate::ibpkey_rec::IbPkeyRec;
 use crate::kinds::{IbPkey, IbPkeyView};
 use pol_context::{ContextView, read_context};
-use pol_cursor::fields::{IBPKEY_HIGH, IBPKEY_LOW, IBPKEY_PREFIX};
-use pol_cursor::{Cursor, Fault, Names, Part, ReadAlone, Written, array_in, u32_in};
+use pol_cursor::{Cursor, Names, Part, ReadAlone, Written, array_in, u32_in};
+use pol_fields::Fault;
+use pol_fields::fields::{IBPKEY_HIGH, IBPKEY_LOW, IBPKEY_PREFIX};
 use std::alloc::{AllocError, Global};
 
 impl Standing for IbPkeyRec {

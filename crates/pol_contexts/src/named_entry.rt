@@ -6,7 +6,8 @@ use crate::entry::{Entry, EntryKind, Standing};
 use crate::kinds::NamedView;
 use crate::named_rec::NamedRec;
 use pol_context::{ContextView, context_end, name_end, name_standing, read_context};
-use pol_cursor::{ByteList, Cursor, Fault, Field, Names, Part, ReadAlone, Written, read_name};
+use pol_cursor::{ByteList, Cursor, Names, Part, ReadAlone, Written, read_name};
+use pol_fields::{Fault, Field};
 use std::alloc::{AllocError, Global};
 
 impl Standing for NamedRec {

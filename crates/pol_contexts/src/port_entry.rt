@@ -5,8 +5,9 @@ use crate::entry::{Entry, Standing};
 use crate::kinds::{Port, PortView};
 use crate::port_rec::PortRec;
 use pol_context::{ContextView, read_context};
-use pol_cursor::fields::{PORT_HIGH, PORT_LOW, PORT_PROTOCOL};
-use pol_cursor::{Cursor, Fault, Names, Part, ReadAlone, Written, u32_in};
+use pol_cursor::{Cursor, Names, Part, ReadAlone, Written, u32_in};
+use pol_fields::Fault;
+use pol_fields::fields::{PORT_HIGH, PORT_LOW, PORT_PROTOCOL};
 use std::alloc::{AllocError, Global};
 
 impl Standing for PortRec {

@@ -1,7 +1,7 @@
 //! The readers of one entry.
 
 ghost use Rattle.std.specs.Prelude.{◌≡◌, IfOk};
-ghost use Rattle.pol_cursor.specs.declared.fields.TheConstants.{FS_LEN, FS_NAME, NETIF_LEN, NETIF_NAME, NODE_ADDRESS, NODE_MASK, NODE6_ADDRESS, NODE6_MASK};
+ghost use Rattle.pol_fields.specs.declared.fields.TheConstants.{FS_LEN, FS_NAME, NETIF_LEN, NETIF_NAME, NODE_ADDRESS, NODE_MASK, NODE6_ADDRESS, NODE6_MASK};
 ghost use Rattle.pol_cursor.specs.Outcome.{Answers};
 ghost use Rattle.pol_contexts.specs.SidRecord.{sid_at, sid_in, HasSid};
 ghost use Rattle.pol_contexts.specs.NamedRecord.{named_at, named_in, HasNamed};
@@ -16,7 +16,8 @@ use crate::kinds::{
     Fs, FsUse, FsUseView, FsView, IbEndPort, IbEndPortView, IbPkey, IbPkeyView, Netif, NetifView,
     Node, Node6, Node6View, NodeView, Port, PortView, Sid, SidView,
 };
-use pol_cursor::{Cursor, Fault};
+use pol_cursor::Cursor;
+use pol_fields::Fault;
 
 /// The entry of an initial SID at the cursor, which then stands behind it. Takes no memory; so it is with the readers below.
 pub fn read_sid_entry<'a>(c: &mut Cursor<'a>) -> Result<SidView<'a>, Fault>

@@ -1,5 +1,5 @@
 // The two laws of records and of their lists, each claimed by a function that does nothing.
-ghost use Rattle.pol_cursor.specs.declared.fields.TheConstants.{SID_COUNT, FS_COUNT, FS_LEN, FS_NAME, PORT_COUNT, NETIF_COUNT, NETIF_LEN, NETIF_NAME, NODE_COUNT, NODE_ADDRESS, NODE_MASK, FSUSE_COUNT, NODE6_COUNT, NODE6_ADDRESS, NODE6_MASK, IBPKEY_COUNT, IBENDPORT_COUNT};
+ghost use Rattle.pol_fields.specs.declared.fields.TheConstants.{SID_COUNT, FS_COUNT, FS_LEN, FS_NAME, PORT_COUNT, NETIF_COUNT, NETIF_LEN, NETIF_NAME, NODE_COUNT, NODE_ADDRESS, NODE_MASK, FSUSE_COUNT, NODE6_COUNT, NODE6_ADDRESS, NODE6_MASK, IBPKEY_COUNT, IBENDPORT_COUNT};
 ghost use Rattle.pol_cursor.specs.Laws.{IsReadAgain, IsReadFromSpelling};
 ghost use Rattle.pol_cursor.specs.Parts.{spell_counted, CountedFits};
 ghost use Rattle.pol_context.specs.EntryLists.{entries_at};

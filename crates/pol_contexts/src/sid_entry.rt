@@ -5,8 +5,9 @@ use crate::entry::{Entry, Standing};
 use crate::kinds::{Sid, SidView};
 use crate::sid_rec::SidRec;
 use pol_context::{ContextView, read_context};
-use pol_cursor::fields::SID_SID;
-use pol_cursor::{Cursor, Fault, Names, Part, ReadAlone, Written, u32_in};
+use pol_cursor::{Cursor, Names, Part, ReadAlone, Written, u32_in};
+use pol_fields::Fault;
+use pol_fields::fields::SID_SID;
 use std::alloc::{AllocError, Global};
 
 impl Standing for SidRec {

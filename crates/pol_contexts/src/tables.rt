@@ -13,11 +13,12 @@ use crate::kinds::{
 use crate::port_rec::PortRec;
 use crate::sid_rec::SidRec;
 use pol_context::read_table;
-use pol_cursor::fields::{
+use pol_cursor::{Cursor, OwnedList, ReadAlone, ReadError, Records};
+use pol_fields::Field;
+use pol_fields::fields::{
     FS_COUNT, FSUSE_COUNT, IBENDPORT_COUNT, IBPKEY_COUNT, NETIF_COUNT, NODE_COUNT, NODE6_COUNT,
     PORT_COUNT, SID_COUNT,
 };
-use pol_cursor::{Cursor, Field, OwnedList, ReadAlone, ReadError, Records};
 use std::alloc::Global;
 
 // The lists of views, in file order.

@@ -5,7 +5,7 @@ use Rattle.std.specs.List.{flat_map}
 use Rattle.std.proofs.lemmas.List.{drop_more}
 use Rattle.std.proofs.lemmas.List.Concat.{flat_map-cons}
 use Rattle.std.proofs.lemmas.Option.{slice_get_within, get_or_from_slice_get}
-use Rattle.pol_cursor.specs.declared.fault.Fault.{Fault}
+use Rattle.pol_fields.specs.declared.fault.Fault.{Fault}
 use Rattle.pol_cursor.specs.References.{Named, Placed, Reference, dangling_of, AreDeclared}
 
 one_dangles : (b : Bool) (f g : Fault) (x y : Option Fault) → (x ≡ Some g → y ≡ Some g) → (if b then x else Some f) ≡ Some g → (if b then y else Some f) ≡ Some g

@@ -3,11 +3,11 @@ use Rattle.std.proofs.Common.{Option, None, Bool, true, false, cond, ◌==◌, s
 use Rattle.std.proofs.lemmas.List.{length-take-le, length-drop}
 use Rattle.byteorder.specs.Endian.{little_number}
 use Rattle.byteorder.specs.Numbers.{little_from-take}
-use Rattle.pol_cursor.specs.declared.fault.Fault.{Fault}
+use Rattle.pol_fields.specs.declared.fault.Fault.{Fault}
 use Rattle.std.proofs.lemmas.Bool.{ltb-false, eqb-true}
-use Rattle.pol_cursor.specs.declared.field.Field.{Field}
-use Rattle.pol_cursor.specs.declared.fault.Cause.{Cause}
-use Rattle.pol_cursor.specs.declared.fault.Cause.TheVariants.{Short}
+use Rattle.pol_fields.specs.declared.field.Field.{Field}
+use Rattle.pol_fields.specs.declared.fault.Cause.{Cause}
+use Rattle.pol_fields.specs.declared.fault.Cause.TheVariants.{Short}
 use Rattle.pol_cursor.specs.Outcome.{Got, Bad, fault, checked, judged}
 use Rattle.pol_cursor.specs.Parts.{num, number, string, unless}
 use Rattle.pol_cursor.proofs.Laws.{guard_got, and_then_got, judged_got}

@@ -2,10 +2,10 @@
 use Rattle.std.proofs.Common.{inl, inr, ◌⊎◌, ◌≡◌, ℕ, zero, suc, ◌+◌, ◌^◌, ◌<◌, ◌≤◌, Bool, true, false, cond, ltb, List, [], ◌∷◌, ◌++◌, length, take, drop, Option, Some, None, refl, sym, ap, subst, ◌∙◌, append_assoc, arith}
 use Rattle.std.proofs.lemmas.Bool.{ltb-false, le-ltb}
 use Rattle.std.proofs.lemmas.List.{take_at, drop_at, take-append-drop, length-append, length-take, length-drop, drop-drop, append-nil}
-use Rattle.pol_cursor.specs.declared.fault.Fault.{Fault}
-use Rattle.pol_cursor.specs.declared.field.Field.{Field}
-use Rattle.pol_cursor.specs.declared.fault.Cause.{Cause}
-use Rattle.pol_cursor.specs.declared.fault.Cause.TheVariants.{Short}
+use Rattle.pol_fields.specs.declared.fault.Fault.{Fault}
+use Rattle.pol_fields.specs.declared.field.Field.{Field}
+use Rattle.pol_fields.specs.declared.fault.Cause.{Cause}
+use Rattle.pol_fields.specs.declared.fault.Cause.TheVariants.{Short}
 use Rattle.pol_cursor.specs.Outcome.{Outcome, Got, Bad, Reader, fault, and_then, ◌>>=◌, done, judged, checked}
 use Rattle.pol_cursor.specs.Parts.{num, number, string, list_of, records_at, counted, spell_counted, CountedFits, optional, spell_optional, OptionFits}
 use Rattle.pol_cursor.specs.Spelling.{bytes_of}

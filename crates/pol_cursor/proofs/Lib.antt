@@ -1,4 +1,3 @@
-pub mod FieldTable
 pub mod Numbers
 pub mod Laws
 pub mod Lists

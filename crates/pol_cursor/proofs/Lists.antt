@@ -4,7 +4,7 @@ use Rattle.std.proofs.Common.{subst}
 use Rattle.std.specs.Prelude.{map}
 use Rattle.std.specs.List.{AllByRecursion}
 use Rattle.std.proofs.lemmas.List.{append-nil, map_push}
-use Rattle.pol_cursor.specs.declared.fault.Fault.{Fault}
+use Rattle.pol_fields.specs.declared.fault.Fault.{Fault}
 use Rattle.pol_cursor.specs.Outcome.{Position, Outcome, Got, Bad, Reader, and_then}
 use Rattle.pol_cursor.specs.Parts.{list_of, records_at}
 use Rattle.pol_cursor.specs.References.{Placed, placed, without_places}

@@ -1,7 +1,7 @@
 -- The two laws of a name behind its length.
 use Rattle.std.proofs.Common.{length}
 use Rattle.std.proofs.lemmas.List.{append-nil}
-use Rattle.pol_cursor.specs.declared.field.Field.{Field}
+use Rattle.pol_fields.specs.declared.field.Field.{Field}
 use Rattle.pol_cursor.specs.Laws.{IsReadAgain, IsReadFromSpelling}
 use Rattle.pol_cursor.specs.FileNames.{name_length_at, name_bytes_at, name_at, spell_name, NameFits}
 use Rattle.pol_cursor.proofs.Laws.{Reads-done, Reads-part, Reads-number_if, Reads-string_if, Again-done, Again-part, Again-as, Again-number_if, Again-string_if}

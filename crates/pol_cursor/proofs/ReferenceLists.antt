@@ -2,7 +2,7 @@
 use Rattle.std.proofs.Common.{◌≡◌, ℕ, ◌+◌, ◌<◌, Option, Some, None, Bool, true, false, List, [], ◌∷◌, length, drop, get_or, refl, ap, ◌∙◌}
 use Rattle.std.specs.Prelude.{is_some, if◌then◌else◌}
 use Rattle.std.proofs.lemmas.List.{drop_more}
-use Rattle.pol_cursor.specs.declared.fault.Fault.{Fault}
+use Rattle.pol_fields.specs.declared.fault.Fault.{Fault}
 use Rattle.pol_cursor.specs.References.{Named, Reference, dangling_of}
 use Rattle.pol_cursor.specs.declared.mention.Mention.{Mention}
 use Rattle.pol_cursor.specs.Mentions.{reference_of, references_of}

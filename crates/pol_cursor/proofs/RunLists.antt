@@ -2,7 +2,7 @@
 use Rattle.std.proofs.Common.{◌≡◌, ◌≢◌, ℕ, zero, suc, ◌+◌, ◌-◌, ◌<◌, ◌≤◌, List, [], ◌∷◌, ◌++◌, length, refl, sym, ap, subst, ◌∙◌, append_assoc, add-one, arith}
 use Rattle.std.specs.Prelude.{slice_get, Some}
 use Rattle.std.proofs.lemmas.List.{append-nil, map_push}
-use Rattle.pol_cursor.specs.declared.fault.Fault.{Fault}
+use Rattle.pol_fields.specs.declared.fault.Fault.{Fault}
 use Rattle.pol_cursor.specs.Outcome.{Position, Reader, Got, Bad}
 use Rattle.pol_cursor.specs.Parts.{records_at}
 use Rattle.pol_cursor.specs.References.{Placed, values_of}

@@ -1,9 +1,9 @@
 -- Names of files, file systems, interfaces and devices: a length, and so many bytes, none of which is 0 (libsepol's str_read).
 use Rattle.std.specs.Prelude.{ℕ, ◌+◌, ◌<◌, ◌^◌, List, ◌++◌, Option, Bool, length, take, drop, nat_le}
 use Rattle.std.specs.List.{list_all}
-use Rattle.pol_cursor.specs.declared.fault.Cause.{Cause}
-use Rattle.pol_cursor.specs.declared.fault.Cause.TheVariants.{BadName}
-use Rattle.pol_cursor.specs.declared.field.Field.{Field}
+use Rattle.pol_fields.specs.declared.fault.Cause.{Cause}
+use Rattle.pol_fields.specs.declared.fault.Cause.TheVariants.{BadName}
+use Rattle.pol_fields.specs.declared.field.Field.{Field}
 use Rattle.pol_cursor.specs.Outcome.{Reader, ◌>>=◌, done}
 use Rattle.pol_cursor.specs.Parts.{num, number_if, string_if, unless}
 use Rattle.pol_cursor.specs.Spelling.{bytes_of}

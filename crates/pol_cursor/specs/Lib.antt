@@ -1,5 +1,3 @@
-pub mod FaultWords
-pub mod FieldWords
 pub mod Outcome
 pub mod Parts
 pub mod Spelling

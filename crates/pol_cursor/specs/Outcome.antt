@@ -1,10 +1,10 @@
 -- What reading at a place gives, and how parts are read one after the other.
 use Rattle.std.specs.Prelude.{◌≡◌, ℕ, List, Result, Ok, Err, Option, Some, None}
-use Rattle.pol_cursor.specs.declared.fault.Fault.{Fault}
+use Rattle.pol_fields.specs.declared.fault.Fault.{Fault}
 use Rattle.pol_cursor.specs.declared.read_error.ReadError.{ReadError}
 use Rattle.pol_cursor.specs.declared.read_error.ReadError.TheVariants as errors
-use Rattle.pol_cursor.specs.declared.field.Field.{Field}
-use Rattle.pol_cursor.specs.declared.fault.Cause.{Cause}
+use Rattle.pol_fields.specs.declared.field.Field.{Field}
+use Rattle.pol_fields.specs.declared.fault.Cause.{Cause}
 
 -- a value and the place after it, or the first fault
 pub data Outcome (A : Type 0) : Type 0 where

@@ -4,9 +4,9 @@ use Rattle.std.specs.Prelude.{◌<◌, ◌^◌}
 use Rattle.std.specs.List.{flat_map, AllByRecursion}
 use Rattle.pol_cursor.specs.Spelling.{bytes_of}
 use Rattle.byteorder.specs.Endian.{little_number}
-use Rattle.pol_cursor.specs.declared.field.Field.{Field}
-use Rattle.pol_cursor.specs.declared.fault.Cause.{Cause}
-use Rattle.pol_cursor.specs.declared.fault.Cause.TheVariants.{Short, Trailing}
+use Rattle.pol_fields.specs.declared.field.Field.{Field}
+use Rattle.pol_fields.specs.declared.fault.Cause.{Cause}
+use Rattle.pol_fields.specs.declared.fault.Cause.TheVariants.{Short, Trailing}
 use Rattle.pol_cursor.specs.Outcome.{field, checked, Got, Bad, Reader, fault, ◌>>=◌, done}
 
 -- the little-endian number of the w bytes from a place

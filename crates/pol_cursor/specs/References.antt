@@ -2,10 +2,10 @@
 -- names has to be declared by a primary record of its table.
 use Rattle.std.specs.Prelude.{◌≡◌, ℕ, List, [], ◌∷◌, Option, Some, None, is_some, map, if◌then◌else◌, Result, Ok, Err}
 use Rattle.std.specs.List.{flat_map}
-use Rattle.pol_cursor.specs.declared.field.Field.{Field}
-use Rattle.pol_cursor.specs.declared.fault.Fault.{Fault}
-use Rattle.pol_cursor.specs.declared.fault.Cause.TheVariants.{Dangling}
-use Rattle.pol_cursor.specs.declared.table_kind.TableKind.{TableKind}
+use Rattle.pol_fields.specs.declared.field.Field.{Field}
+use Rattle.pol_fields.specs.declared.fault.Fault.{Fault}
+use Rattle.pol_fields.specs.declared.fault.Cause.TheVariants.{Dangling}
+use Rattle.pol_fields.specs.declared.table_kind.TableKind.{TableKind}
 use Rattle.pol_cursor.specs.Outcome.{Outcome, Reader, Got, and_then, fault}
 
 -- a record and the place of its first byte

@@ -2,8 +2,8 @@ ghost use Rattle.std.specs.Prelude.{◌≡◌, ◌≤◌, ◌<◌, ◌^◌, leng
 ghost use Rattle.pol_cursor.specs.Outcome.{Answers, fault};
 ghost use Rattle.pol_cursor.specs.Parts.{number, string, end_at};
 
-use crate::{Cause, Fault, Field};
 use byteorder::{ByteOrder, LittleEndian};
+use pol_fields::{Cause, Fault, Field};
 use std::marker::Model;
 
 /// A place in the bytes of a policy, which are at most 67,108,864. Contracts see all the bytes and the place.

@@ -6,7 +6,8 @@ ghost use Rattle.pol_cursor.specs.Outcome.{Answers};
 ghost use Rattle.pol_cursor.specs.Parts.{num};
 ghost use Rattle.pol_cursor.specs.Writing.{Writes};
 
-use crate::{Cause, Cursor, Fault, Field, Part, Written, refuse};
+use crate::{Cursor, Part, Written, refuse};
+use pol_fields::{Cause, Fault, Field};
 use std::alloc::AllocError;
 
 /// `BadName` where a name would have no byte.

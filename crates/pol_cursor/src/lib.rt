@@ -3,9 +3,6 @@
 
 mod copied;
 mod cursor;
-mod fault;
-mod field;
-pub mod fields;
 mod file_name;
 mod mention;
 mod names;
@@ -17,12 +14,9 @@ mod record_laws;
 mod record_list;
 mod record_run;
 mod referring;
-mod table_kind;
 
 pub use copied::Copied;
 pub use cursor::Cursor;
-pub use fault::{Cause, Fault};
-pub use field::Field;
 pub use file_name::{read_name, read_name_bytes, read_name_length, write_name};
 pub use mention::{Mention, first_dangling};
 pub use names::{Names, dangling};
@@ -40,4 +34,3 @@ pub use record_list::{
 };
 pub use record_run::{Inner, Run, end_of_run, read_run};
 pub use referring::{Referring, check_records};
-pub use table_kind::TableKind;

@@ -3,7 +3,8 @@ ghost use Rattle.std.specs.Prelude.{◌≡◌};
 ghost use Rattle.pol_cursor.specs.References.{dangling_of};
 ghost use Rattle.pol_cursor.specs.Mentions.{references_of};
 
-use crate::{Fault, Field, Names, TableKind, dangling};
+use crate::{Names, dangling};
+use pol_fields::{Fault, Field, TableKind};
 
 /// A value of a symbol table, as a field names it.
 #[derive(Clone, Copy)]

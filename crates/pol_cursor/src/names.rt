@@ -2,11 +2,11 @@ ghost use Rattle.std.specs.Prelude.{◌≡◌, ℕ, List, [], ◌∷◌, is_some
 ghost use Rattle.std.specs.declared.option.Option.{Option};
 ghost use Rattle.pol_cursor.specs.References.{dangling_of};
 
-use crate::{Cause, Fault, Field, TableKind};
+use pol_fields::{Cause, Fault, Field, TableKind};
 
 /// The names of the records that declare values.
 pub trait Names {
-    ghost use Rattle.pol_cursor.specs.declared.table_kind.TableKind.{TableKind};
+    ghost use Rattle.pol_fields.specs.declared.table_kind.TableKind.{TableKind};
 
     /// The name of the primary record of that value in that table, where one declares it.
     ghost named: { Self → TableKind → ℕ → Option (List ℕ) };

@@ -5,8 +5,8 @@ ghost use Rattle.pol_cursor.specs.Spelling.{bytes_of};
 ghost use Rattle.pol_cursor.specs.Outcome.{Judges};
 ghost use Rattle.pol_cursor.specs.Parts.{num};
 
-use crate::{Cause, Fault, Field};
 use byteorder::{ByteOrder, LittleEndian};
+use pol_fields::{Cause, Fault, Field};
 use std::alloc::AllocError;
 
 #[tactic(auto, unfolding(crate::specs::Parts::num))]

@@ -1,4 +1,4 @@
-use crate::fault::Fault;
+use pol_fields::Fault;
 use std::alloc::{AllocError, AllocFailed};
 
 /// Why a reader that takes memory refuses.

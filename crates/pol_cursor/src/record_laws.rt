@@ -1,6 +1,6 @@
 // The two laws of the parts that records are made of, each claimed by a function that does nothing.
 ghost use Rattle.std.specs.Prelude.{◌≡◌, ◌<◌, ◌^◌, ℕ, List, length};
-ghost use Rattle.pol_cursor.specs.declared.field.Field.{Field};
+ghost use Rattle.pol_fields.specs.declared.field.Field.{Field};
 ghost use Rattle.pol_cursor.specs.Laws.{IsReadAgain, IsReadFromSpelling};
 ghost use Rattle.pol_cursor.specs.FileNames.{name_at, spell_name, NameFits};
 ghost use Rattle.pol_cursor.specs.Contexts.{records_after};

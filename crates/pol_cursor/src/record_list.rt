@@ -5,7 +5,8 @@ ghost use Rattle.pol_cursor.specs.Parts.{counted, records_at};
 ghost use Rattle.pol_cursor.specs.Contexts.{context_after, records_after};
 ghost use Rattle.pol_cursor.specs.References.{placed};
 
-use crate::{Cursor, Fault, Field, ReadError};
+use crate::{Cursor, ReadError};
+use pol_fields::{Fault, Field};
 use std::alloc::Global;
 use std::marker::{Model, PhantomData};
 

@@ -6,7 +6,8 @@ ghost use Rattle.pol_cursor.specs.Parts.{records_at};
 ghost use Rattle.pol_cursor.specs.References.{placed, values_of};
 ghost use Rattle.pol_cursor.specs.Runs.{run_in, run_end, HasRun};
 
-use crate::{Cursor, Fault, Record, RecordView};
+use crate::{Cursor, Record, RecordView};
+use pol_fields::Fault;
 use std::marker::{Model, PhantomData};
 
 /// A kind of record that stands in a list inside another record.

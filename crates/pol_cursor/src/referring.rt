@@ -2,7 +2,8 @@
 ghost use Rattle.std.specs.Prelude.{List};
 ghost use Rattle.pol_cursor.specs.References.{AreDeclared, dangling_of, references_in};
 
-use crate::{Fault, Names, RecordView, Records};
+use crate::{Names, RecordView, Records};
+use pol_fields::Fault;
 
 /// A kind of record that refers to values of the symbol tables.
 pub trait Referring<'a>: RecordView<'a> {

@@ -1,7 +1,7 @@
 -- The two laws of roles, types, booleans, sensitivities and categories.
 use Rattle.std.proofs.Common.{ℕ, None, length, append_assoc}
 use Rattle.std.proofs.lemmas.List.{append-nil}
-use Rattle.pol_cursor.specs.declared.fields.TheConstants.{ROLE_LEN, ROLE_VALUE, ROLE_BOUNDS, ROLE_NAME, TYPE_LEN, TYPE_VALUE, TYPE_PROPERTIES, TYPE_BOUNDS, TYPE_NAME, BOOLEAN_VALUE, BOOLEAN_STATE, BOOLEAN_LEN, BOOLEAN_NAME, SENSITIVITY_LEN, SENSITIVITY_ISALIAS, SENSITIVITY_NAME, SENSITIVITY_SENS, CATEGORY_LEN, CATEGORY_VALUE, CATEGORY_ISALIAS, CATEGORY_NAME}
+use Rattle.pol_fields.specs.declared.fields.TheConstants.{ROLE_LEN, ROLE_VALUE, ROLE_BOUNDS, ROLE_NAME, TYPE_LEN, TYPE_VALUE, TYPE_PROPERTIES, TYPE_BOUNDS, TYPE_NAME, BOOLEAN_VALUE, BOOLEAN_STATE, BOOLEAN_LEN, BOOLEAN_NAME, SENSITIVITY_LEN, SENSITIVITY_ISALIAS, SENSITIVITY_NAME, SENSITIVITY_SENS, CATEGORY_LEN, CATEGORY_VALUE, CATEGORY_ISALIAS, CATEGORY_NAME}
 use Rattle.pol_cursor.specs.Laws.{IsReadAgain, IsReadFromSpelling}
 use Rattle.pol_cursor.proofs.Laws.{Reads-done, Reads-part, Reads-number, Reads-number_if, Again-done, Again-part, Again-as, Again-number, Again-number_if}
 use Rattle.pol_bitmap.proofs.Laws.{bitmap_spelled, bitmap_again}

@@ -1,6 +1,6 @@
 -- Record 11: a boolean (libsepol's cond_read_bool).
 use Rattle.std.specs.Prelude.{ℕ, ◌+◌, ◌≤◌, ◌<◌, ◌^◌, List, ◌++◌, length, take, drop}
-use Rattle.pol_cursor.specs.declared.fields.TheConstants.{BOOLEAN_VALUE, BOOLEAN_STATE, BOOLEAN_LEN, BOOLEAN_NAME}
+use Rattle.pol_fields.specs.declared.fields.TheConstants.{BOOLEAN_VALUE, BOOLEAN_STATE, BOOLEAN_LEN, BOOLEAN_NAME}
 use Rattle.pol_cursor.specs.Outcome.{Reader, ◌>>=◌, done}
 use Rattle.pol_cursor.specs.Parts.{num}
 use Rattle.pol_cursor.specs.Spelling.{bytes_of}

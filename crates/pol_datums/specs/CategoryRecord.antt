@@ -1,9 +1,9 @@
 -- Record 13: a category, or an alias of one (libsepol's cat_read).
 use Rattle.std.specs.Prelude.{ℕ, ◌+◌, ◌≤◌, ◌<◌, ◌^◌, Option, Some, List, ◌++◌, length, take, drop, nat_le, if◌then◌else◌}
-use Rattle.pol_cursor.specs.declared.fault.Cause.{Cause}
-use Rattle.pol_cursor.specs.declared.fault.Cause.TheVariants.{BadFlag}
-use Rattle.pol_cursor.specs.declared.table_kind.TableKind.TheVariants.{Categories}
-use Rattle.pol_cursor.specs.declared.fields.TheConstants.{CATEGORY_LEN, CATEGORY_VALUE, CATEGORY_ISALIAS, CATEGORY_NAME}
+use Rattle.pol_fields.specs.declared.fault.Cause.{Cause}
+use Rattle.pol_fields.specs.declared.fault.Cause.TheVariants.{BadFlag}
+use Rattle.pol_fields.specs.declared.table_kind.TableKind.TheVariants.{Categories}
+use Rattle.pol_fields.specs.declared.fields.TheConstants.{CATEGORY_LEN, CATEGORY_VALUE, CATEGORY_ISALIAS, CATEGORY_NAME}
 use Rattle.pol_cursor.specs.Outcome.{Reader, ◌>>=◌, done}
 use Rattle.pol_cursor.specs.Parts.{num, number_if}
 use Rattle.pol_cursor.specs.References.{Placed, Reference}

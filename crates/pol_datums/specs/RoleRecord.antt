@@ -1,7 +1,7 @@
 -- Record 8: a role (libsepol's role_read).
 use Rattle.std.specs.Prelude.{ℕ, ◌+◌, ◌<◌, ◌^◌, None, List, ◌++◌, length, take, drop}
-use Rattle.pol_cursor.specs.declared.table_kind.TableKind.TheVariants.{Roles}
-use Rattle.pol_cursor.specs.declared.fields.TheConstants.{ROLE_LEN, ROLE_VALUE, ROLE_BOUNDS, ROLE_NAME}
+use Rattle.pol_fields.specs.declared.table_kind.TableKind.TheVariants.{Roles}
+use Rattle.pol_fields.specs.declared.fields.TheConstants.{ROLE_LEN, ROLE_VALUE, ROLE_BOUNDS, ROLE_NAME}
 use Rattle.pol_cursor.specs.Outcome.{Reader, ◌>>=◌, done}
 use Rattle.pol_cursor.specs.Parts.{num}
 use Rattle.pol_cursor.specs.References.{Placed, Reference}

@@ -1,9 +1,9 @@
 -- Record 12: a sensitivity with the categories that go with it, or an alias of one (libsepol's sens_read).
 use Rattle.std.specs.Prelude.{ℕ, ◌+◌, ◌<◌, ◌^◌, ◌&&◌, Option, Some, None, List, ◌++◌, length, take, drop, nat_le, if◌then◌else◌}
-use Rattle.pol_cursor.specs.declared.fault.Cause.{Cause}
-use Rattle.pol_cursor.specs.declared.fault.Cause.TheVariants.{ValueOut}
-use Rattle.pol_cursor.specs.declared.table_kind.TableKind.TheVariants.{Levels}
-use Rattle.pol_cursor.specs.declared.fields.TheConstants.{SENSITIVITY_LEN, SENSITIVITY_ISALIAS, SENSITIVITY_NAME, SENSITIVITY_SENS}
+use Rattle.pol_fields.specs.declared.fault.Cause.{Cause}
+use Rattle.pol_fields.specs.declared.fault.Cause.TheVariants.{ValueOut}
+use Rattle.pol_fields.specs.declared.table_kind.TableKind.TheVariants.{Levels}
+use Rattle.pol_fields.specs.declared.fields.TheConstants.{SENSITIVITY_LEN, SENSITIVITY_ISALIAS, SENSITIVITY_NAME, SENSITIVITY_SENS}
 use Rattle.pol_cursor.specs.Outcome.{Reader, ◌>>=◌, done}
 use Rattle.pol_cursor.specs.Parts.{num, number_if}
 use Rattle.pol_cursor.specs.References.{Placed, Reference}

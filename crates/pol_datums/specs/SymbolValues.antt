@@ -1,6 +1,6 @@
 -- The values of symbols, and their bounds.
 use Rattle.std.specs.Prelude.{ℕ}
-use Rattle.pol_cursor.specs.declared.field.Field.{Field}
+use Rattle.pol_fields.specs.declared.field.Field.{Field}
 use Rattle.pol_cursor.specs.Outcome.{Reader}
 use Rattle.pol_cursor.specs.Parts.{number, number_if}
 use Rattle.pol_symtab.specs.Claims.{Claims}

@@ -1,8 +1,8 @@
 -- Record 9: a type, an attribute or an alias of a type (libsepol's type_read).
 use Rattle.std.specs.Prelude.{ℕ, ◌+◌, ◌≤◌, ◌<◌, ◌^◌, ◌%◌, ◌/◌, ◌==◌, Bool, ◌||◌, Option, Some, None, List, ◌++◌, length, take, drop, if◌then◌else◌}
-use Rattle.pol_cursor.specs.declared.fault.Cause.{Cause}
-use Rattle.pol_cursor.specs.declared.table_kind.TableKind.TheVariants.{Types}
-use Rattle.pol_cursor.specs.declared.fields.TheConstants.{TYPE_LEN, TYPE_VALUE, TYPE_PROPERTIES, TYPE_BOUNDS, TYPE_NAME}
+use Rattle.pol_fields.specs.declared.fault.Cause.{Cause}
+use Rattle.pol_fields.specs.declared.table_kind.TableKind.TheVariants.{Types}
+use Rattle.pol_fields.specs.declared.fields.TheConstants.{TYPE_LEN, TYPE_VALUE, TYPE_PROPERTIES, TYPE_BOUNDS, TYPE_NAME}
 use Rattle.pol_cursor.specs.Outcome.{Reader, ◌>>=◌, done}
 use Rattle.pol_cursor.specs.Parts.{num, number_if}
 use Rattle.pol_cursor.specs.References.{Placed, Reference}

@@ -1,7 +1,8 @@
 use crate::boolean_rec::BooleanRec;
 use crate::boolean_view::{BooleanView, read_boolean};
 use crate::datum::{Datum, DatumKind};
-use pol_cursor::{Cursor, Fault, string_in, u32_in};
+use pol_cursor::{Cursor, string_in, u32_in};
+use pol_fields::Fault;
 use pol_symtab::TableContext;
 
 /// The kind of booleans. Each of them is primary.

@@ -2,7 +2,8 @@ use crate::category_rec::CategoryRec;
 use crate::category_view::{CategoryView, read_category};
 use crate::datum::{Datum, DatumKind};
 use crate::flags::is_primary_flag;
-use pol_cursor::{Cursor, Fault, string_in, u32_in};
+use pol_cursor::{Cursor, string_in, u32_in};
+use pol_fields::Fault;
 use pol_symtab::TableContext;
 
 /// The kind of categories. Aliases are among them.

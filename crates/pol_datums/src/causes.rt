@@ -5,7 +5,7 @@ ghost use Rattle.pol_datums.specs.SensitivityRecord.{sens_test};
 ghost use Rattle.pol_datums.specs.TypeRecord.{is_attribute, is_primary_type, properties_test};
 
 use crate::flags::is_primary_flag;
-use pol_cursor::Cause;
+use pol_fields::Cause;
 use pol_symtab::{Taken, primary_value_cause};
 
 /// Whether a type has the bit of attributes.

@@ -6,8 +6,9 @@ ghost use Rattle.pol_symtab.specs.Claims.{Claims};
 ghost use Rattle.pol_symtab.specs.Freshness.{Gives, IsFresh};
 
 use pol_cursor::{
-    Copied, Cursor, Fault, Names, ReadAfter, ReadError, Record, RecordView, Referring, Written,
+    Copied, Cursor, Names, ReadAfter, ReadError, Record, RecordView, Referring, Written,
 };
+use pol_fields::Fault;
 use pol_symtab::{Symbol, SymbolKind, TableContext};
 use std::alloc::{AllocError, Global};
 use std::marker::{Model, PhantomData};

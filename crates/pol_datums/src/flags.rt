@@ -4,7 +4,8 @@ ghost use Rattle.pol_cursor.specs.Outcome.{Answers};
 ghost use Rattle.pol_cursor.specs.Parts.{num};
 ghost use Rattle.pol_datums.specs.Flags.{flag_test, flag_at, is_primary_flag};
 
-use pol_cursor::{Cause, Cursor, Fault, Field, refuse};
+use pol_cursor::{Cursor, refuse};
+use pol_fields::{Cause, Fault, Field};
 
 /// `BadFlag` where a flag is neither 0 nor 1.
 pub fn flag_cause(flag: u32) -> Option<Cause>

@@ -1,7 +1,8 @@
 use crate::datum::{Datum, DatumKind};
 use crate::role_rec::RoleRec;
 use crate::role_view::{RoleView, read_role};
-use pol_cursor::{Cursor, Fault, string_in, u32_in};
+use pol_cursor::{Cursor, string_in, u32_in};
+use pol_fields::Fault;
 use pol_symtab::TableContext;
 
 /// The kind of roles. Each of them is primary.

@@ -2,7 +2,8 @@ use crate::datum::{Datum, DatumKind};
 use crate::flags::is_primary_flag;
 use crate::sensitivity_rec::SensitivityRec;
 use crate::sensitivity_view::{SensitivityView, read_sensitivity};
-use pol_cursor::{Cursor, Fault, string_in, u32_in};
+use pol_cursor::{Cursor, string_in, u32_in};
+use pol_fields::Fault;
 use pol_symtab::TableContext;
 
 /// The kind of sensitivities. Aliases are among them.

@@ -9,10 +9,11 @@ use crate::flags::read_flag;
 use crate::sensitivity_rec::SensitivityRec;
 use crate::symbol_references::dangling_alias;
 use pol_bitmap::{BitmapView, Set};
-use pol_cursor::fields::{
+use pol_cursor::{ByteList, Cursor, Mention, Names, refuse, u32_in};
+use pol_fields::fields::{
     SENSITIVITY_ISALIAS, SENSITIVITY_LEN, SENSITIVITY_NAME, SENSITIVITY_SENS,
 };
-use pol_cursor::{ByteList, Cursor, Fault, Mention, Names, TableKind, refuse, u32_in};
+use pol_fields::{Fault, TableKind};
 use pol_symtab::{Taken, read_symbol_length, read_symbol_name};
 use std::alloc::{AllocError, Global};
 use std::marker::PhantomData;

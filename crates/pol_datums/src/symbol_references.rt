@@ -4,7 +4,8 @@ ghost use Rattle.pol_cursor.specs.References.{dangling_of};
 ghost use Rattle.pol_cursor.specs.Mentions.{reference_of};
 ghost use Rattle.pol_datums.specs.SymbolReferences.{alias_reference, bounds_reference};
 
-use pol_cursor::{Fault, Mention, Names, first_dangling};
+use pol_cursor::{Mention, Names, first_dangling};
+use pol_fields::Fault;
 
 /// The fault of the value that an alias stands for, where no primary record declares it.
 pub fn dangling_alias<N: Names>(names: &N, is_primary: bool, stands_for: Mention) -> Option<Fault>

@@ -4,7 +4,8 @@ ghost use Rattle.pol_cursor.specs.Outcome.{Answers};
 ghost use Rattle.pol_cursor.specs.Parts.{num};
 ghost use Rattle.pol_datums.specs.SymbolValues.{value_at, new_value_at, bounds_at};
 
-use pol_cursor::{Cursor, Fault, Field, refuse};
+use pol_cursor::{Cursor, refuse};
+use pol_fields::{Fault, Field};
 use pol_symtab::{Taken, new_value_cause, value_cause};
 
 /// The value at the cursor of a record that may be an alias. `ValueOut` where it is not 1 to `nprim`.

@@ -2,7 +2,8 @@ use crate::causes::is_primary_type;
 use crate::datum::{Datum, DatumKind};
 use crate::type_rec::TypeRec;
 use crate::type_view::{TypeView, read_type};
-use pol_cursor::{Cursor, Fault, string_in, u32_in};
+use pol_cursor::{Cursor, string_in, u32_in};
+use pol_fields::Fault;
 use pol_symtab::TableContext;
 
 /// The kind of types. Attributes and aliases are among them.

@@ -5,8 +5,8 @@ ghost use Rattle.pol_expand.specs.PolicyMap.{IsPolicyMap, HasNoSets, rows_of, va
 use crate::expansions::TypeMap;
 use crate::flavours::is_flavour;
 use pol_bitmap::{BitmapView, Set};
-use pol_cursor::TableKind;
 use pol_datums::Flavour;
+use pol_fields::TableKind;
 use pol_read::Policy;
 use pol_symbols::Symbols;
 use std::alloc::{AllocError, Global};

@@ -2,7 +2,7 @@
 use Rattle.std.proofs.Common.{◌≡◌, ℕ, List, length, append_assoc}
 use Rattle.std.specs.List.{flat_map, AllByRecursion}
 use Rattle.std.proofs.lemmas.List.{append-nil}
-use Rattle.pol_cursor.specs.declared.fields.TheConstants.{CONDNODE_STATE, CONDNODE_NEXPR, CONDNODE_KIND, CONDNODE_BOOLEAN}
+use Rattle.pol_fields.specs.declared.fields.TheConstants.{CONDNODE_STATE, CONDNODE_NEXPR, CONDNODE_KIND, CONDNODE_BOOLEAN}
 use Rattle.pol_cursor.specs.Laws.{Reads, Again, IsSpelling, IsReadAgain, IsReadFromSpelling}
 use Rattle.pol_cursor.proofs.Laws.{Reads-done, Reads-part, Reads-list_of, Reads-number, Reads-number_if, Again-done, Again-part, Again-as, Again-list_of, Again-number, Again-number_if}
 use Rattle.pol_expr.specs.declared.condition_rec.ConditionItem.{ConditionItem}

@@ -1,8 +1,8 @@
 -- The items of a condition that were read are those that stand there.
 use Rattle.std.proofs.Common.{◌≡◌, ℕ, zero, suc, ◌+◌, ◌*◌, ◌<◌, ◌≤◌, ◌&&◌, Some, List, [], ◌∷◌, length, refl, sym, ap, subst, ◌∙◌, arith}
 use Rattle.std.specs.Prelude.{nat_le, slice_get}
-use Rattle.pol_cursor.specs.declared.fault.Cause.TheVariants.{BadKind}
-use Rattle.pol_cursor.specs.declared.fields.TheConstants.{CONDNODE_KIND, CONDNODE_BOOLEAN}
+use Rattle.pol_fields.specs.declared.fault.Cause.TheVariants.{BadKind}
+use Rattle.pol_fields.specs.declared.fields.TheConstants.{CONDNODE_KIND, CONDNODE_BOOLEAN}
 use Rattle.pol_cursor.specs.Outcome.{Got, and_then}
 use Rattle.pol_cursor.specs.Parts.{num, list_of, number, number_if}
 use Rattle.pol_cursor.proofs.Laws.{and_then_got}

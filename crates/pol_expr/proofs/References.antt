@@ -2,7 +2,7 @@
 use Rattle.std.proofs.Common.{◌≡◌, ℕ, ◌+◌, Option, Some, None, Bool, true, false, cond, List, [], ◌∷◌, ◌++◌, drop, refl, ◌*◌, ◌≤◌, length, arith}
 use Rattle.std.proofs.lemmas.List.{drop_all}
 use Rattle.std.specs.Prelude.{slice_get, is_some}
-use Rattle.pol_cursor.specs.declared.fault.Fault.{Fault}
+use Rattle.pol_fields.specs.declared.fault.Fault.{Fault}
 use Rattle.pol_cursor.specs.References.{Named, Reference, dangling_of}
 use Rattle.pol_expr.specs.declared.condition_rec.ConditionItem.{ConditionItem}
 use Rattle.pol_expr.specs.ConditionRecord.{item_reference, item_references}

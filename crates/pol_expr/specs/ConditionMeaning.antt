@@ -8,7 +8,7 @@ use Rattle.pol_expr.specs.declared.symbol.Symbol.TheVariants as symbols
 use Rattle.pol_expr.specs.declared.symbol.Operator.{Operator}
 use Rattle.pol_expr.specs.declared.symbol.Operator.TheVariants.{Or, And, Xor, Equal, NotEqual}
 use Rattle.pol_expr.specs.declared.condition_rec.ConditionItem.{ConditionItem}
-use Rattle.pol_cursor.specs.declared.table_kind.TableKind.TheVariants.{Booleans}
+use Rattle.pol_fields.specs.declared.table_kind.TableKind.TheVariants.{Booleans}
 use Rattle.pol_cursor.specs.References.{Named}
 use Rattle.pol_expr.specs.Infix.{Words}
 use Rattle.pol_expr.specs.Trees.{Tree, Leaf, Not, Binary}

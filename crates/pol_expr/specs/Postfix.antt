@@ -1,8 +1,8 @@
 -- Expressions as lists of items, each operator after its operands: how many values stand at each item (libsepol's readers
 -- of conditions and constraints count the depth of the stack in this way).
 use Rattle.std.specs.Prelude.{◌≡◌, ℕ, ◌+◌, ◌-◌, ◌≤◌, ◌&&◌, not, ◌==◌, nat_le, nat_lt, if◌then◌else◌, Option, Some, None, List, [], ◌∷◌}
-use Rattle.pol_cursor.specs.declared.fault.Cause.{Cause}
-use Rattle.pol_cursor.specs.declared.fault.Cause.TheVariants.{TooDeep, NotOneValue}
+use Rattle.pol_fields.specs.declared.fault.Cause.{Cause}
+use Rattle.pol_fields.specs.declared.fault.Cause.TheVariants.{TooDeep, NotOneValue}
 
 -- The values after an item that takes some of those before it: a leaf takes none and is a value itself, an operator makes
 -- one value of its operands. So they are the leaves less the operators between two operands.

@@ -4,7 +4,7 @@ ghost use Rattle.std.specs.Prelude.{◌≡◌, ◌≤◌, ◌<◌, ◌+◌, IfNo
 ghost use Rattle.pol_expr.specs.Postfix.{operands_test, item_count_test, values_after};
 ghost use Rattle.pol_expr.specs.ConditionRecord.{kind_operands, kind_test};
 
-use pol_cursor::Cause;
+use pol_fields::Cause;
 
 /// libsepol's COND_EXPR_MAXDEPTH.
 const CONDITION_LIMIT: u32 = 10;

@@ -1,7 +1,7 @@
 //! The text of a condition.
 
 ghost use Rattle.std.specs.Prelude.{◌≡◌, ◌≤◌, ◌++◌, [], IfOk, OnOk, length, reverse, unwrap_or, vec_len};
-ghost use Rattle.pol_cursor.specs.declared.table_kind.TableKind.TheVariants.{Booleans};
+ghost use Rattle.pol_fields.specs.declared.table_kind.TableKind.TheVariants.{Booleans};
 ghost use Rattle.pol_expr.specs.Trees.{applied, postorder, operand_count};
 ghost use Rattle.pol_expr.specs.Infix.{infix_of, leaf_operand, negated_operand, joined_operands};
 ghost use Rattle.pol_expr.specs.ConditionMeaning.{ConditionTree, condition_symbols, condition_words, operator_text};
@@ -9,7 +9,8 @@ ghost use Rattle.pol_expr.specs.ConditionMeaning.{ConditionTree, condition_symbo
 use crate::condition_view::ConditionView;
 use crate::operand::Operand;
 use crate::symbol::{Operator, Symbol};
-use pol_cursor::{Names, TableKind};
+use pol_cursor::Names;
+use pol_fields::TableKind;
 use std::alloc::{AllocError, Global};
 
 impl<'a> ConditionView<'a> {

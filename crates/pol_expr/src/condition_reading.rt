@@ -4,8 +4,9 @@ ghost use Rattle.pol_expr.specs.ConditionRecord.{item_at, items_at, items_in, it
 
 use crate::causes::{kind_cause, kind_operands};
 use crate::condition_rec::ConditionItem;
-use pol_cursor::fields::{CONDNODE_BOOLEAN, CONDNODE_KIND};
-use pol_cursor::{Cursor, Fault, refuse};
+use pol_cursor::{Cursor, refuse};
+use pol_fields::Fault;
+use pol_fields::fields::{CONDNODE_BOOLEAN, CONDNODE_KIND};
 
 /// Reads an item before which so many values stand, and after which so many items are left.
 #[tactic(auto, unfolding(crate::specs::ConditionRecord::item_at))]

@@ -8,8 +8,9 @@ use crate::causes::item_count_cause;
 use crate::condition_reading::pass_items;
 use crate::condition_rec::{ConditionItem, ConditionRec};
 use crate::symbol::{Operator, Symbol, condition_symbol};
-use pol_cursor::fields::{CONDNODE_BOOLEAN, CONDNODE_NEXPR, CONDNODE_STATE};
-use pol_cursor::{Cursor, Fault, Names, OwnedList, TableKind, dangling, refuse, u32_in};
+use pol_cursor::{Cursor, Names, OwnedList, dangling, refuse, u32_in};
+use pol_fields::fields::{CONDNODE_BOOLEAN, CONDNODE_NEXPR, CONDNODE_STATE};
+use pol_fields::{Fault, TableKind};
 use std::alloc::{AllocError, Global};
 use std::marker::Model;
 

@@ -1,6 +1,6 @@
 -- What acceptance says of a policy: it was read, and its references are declared.
 use Rattle.std.proofs.Common.{◌≡◌, ℕ, List, Option, Some, None, Ok, Err, refl}
-use Rattle.pol_cursor.specs.declared.Fault.{Fault}
+use Rattle.pol_fields.specs.declared.Fault.{Fault}
 use Rattle.pol_cursor.specs.Outcome.{Outcome, Got, Bad}
 use Rattle.pol_file.specs.declared.parts.Parts.{Parts}
 use Rattle.pol_file.specs.PolicyParts.{policy_at}

@@ -3,8 +3,8 @@ use Rattle.std.proofs.Common.{◌≡◌, ℕ, ◌≤◌, Some, List, All, length
 use Rattle.std.specs.Prelude.{nat_le}
 use Rattle.std.proofs.lemmas.Bool.{leb-true}
 use Rattle.std.proofs.lemmas.Option.{get_or_from_slice_get, slice_get_within}
-use Rattle.pol_cursor.specs.declared.Cause.TheVariants.{TableTooLarge}
-use Rattle.pol_cursor.specs.declared.fields.TheConstants.{TABLE_NPRIM, TABLE_NEL, TYPE_LEN, TYPE_VALUE, TYPE_PROPERTIES, TYPE_BOUNDS, TYPE_NAME, GENFS_COUNT, RANGETRANS_COUNT, END_END}
+use Rattle.pol_fields.specs.declared.Cause.TheVariants.{TableTooLarge}
+use Rattle.pol_fields.specs.declared.fields.TheConstants.{TABLE_NPRIM, TABLE_NEL, TYPE_LEN, TYPE_VALUE, TYPE_PROPERTIES, TYPE_BOUNDS, TYPE_NAME, GENFS_COUNT, RANGETRANS_COUNT, END_END}
 use Rattle.pol_cursor.specs.Outcome.{Got}
 use Rattle.pol_cursor.specs.Parts.{number, number_if, end_at, counted, records_at}
 use Rattle.pol_cursor.specs.References.{Placed, placed}

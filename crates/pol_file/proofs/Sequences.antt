@@ -2,7 +2,7 @@
 use Rattle.std.proofs.Common.{◌≡◌, ℕ, List, ◌∙◌, ap, sym}
 use Rattle.pol_cursor.specs.declared.ReadError.{ReadError}
 use Rattle.pol_cursor.specs.declared.ReadError.TheVariants as errors
-use Rattle.pol_cursor.specs.declared.fields.TheConstants.{END_END}
+use Rattle.pol_fields.specs.declared.fields.TheConstants.{END_END}
 use Rattle.pol_cursor.specs.Outcome.{Outcome, Position, Got, Reader, and_then, done, Fails, ◌>>=◌}
 use Rattle.pol_cursor.specs.Parts.{end_at}
 use Rattle.pol_cursor.proofs.Lists.{Gave}

@@ -1,7 +1,7 @@
 -- Which files are policies: those that are read whole, and whose references are all declared (libsepol's policydb_read and
 -- policydb_validate; the order of faults is this project's own).
 use Rattle.std.specs.Prelude.{◌≡◌, ℕ, List, Result, Ok, Err, Option, Some, None}
-use Rattle.pol_cursor.specs.declared.Fault.{Fault}
+use Rattle.pol_fields.specs.declared.Fault.{Fault}
 use Rattle.pol_cursor.specs.declared.ReadError.{ReadError}
 use Rattle.pol_cursor.specs.declared.ReadError.TheVariants as errors
 use Rattle.pol_cursor.specs.Outcome.{Outcome, Got, Bad}

@@ -1,6 +1,6 @@
 -- A whole policy: its parts in the order of the file, each read where the one before it ended (libsepol's policydb_read).
 use Rattle.std.specs.Prelude.{ℕ, None}
-use Rattle.pol_cursor.specs.declared.fields.TheConstants.{ROLETRANS_COUNT, ROLEALLOW_COUNT, GENFS_COUNT, RANGETRANS_COUNT, END_END}
+use Rattle.pol_fields.specs.declared.fields.TheConstants.{ROLETRANS_COUNT, ROLEALLOW_COUNT, GENFS_COUNT, RANGETRANS_COUNT, END_END}
 use Rattle.pol_cursor.specs.Outcome.{Reader, ◌>>=◌, done}
 use Rattle.pol_cursor.specs.Parts.{end_at, counted, records_at}
 use Rattle.pol_cursor.specs.References.{placed}

@@ -9,7 +9,8 @@ ghost use Rattle.pol_file.specs.PolicyReferences.{symbol_references, name_transi
 use crate::parts::{LabelLists, Parts, RuleLists};
 use pol_conditionals::Conditionals;
 use pol_contexts::Contexts;
-use pol_cursor::{Fault, Names, check_records};
+use pol_cursor::{Names, check_records};
+use pol_fields::Fault;
 use pol_symbols::Symbols;
 use pol_symtab::check_table;
 use pol_trans::NameTrans;

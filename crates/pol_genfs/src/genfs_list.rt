@@ -4,8 +4,8 @@ ghost use Rattle.pol_genfs.specs.GenfsRecord.{genfs_at};
 
 use crate::genfs_view::Genfs;
 use pol_context::read_table;
-use pol_cursor::fields::GENFS_COUNT;
 use pol_cursor::{Cursor, ReadError, Records};
+use pol_fields::fields::GENFS_COUNT;
 use std::alloc::Global;
 
 /// The file systems of genfs, in file order.

@@ -6,11 +6,11 @@ ghost use Rattle.pol_genfs.specs.GenfsRecord.{path_in, HasPath, class_place, cla
 
 use crate::genfs_rec::GenfsPathRec;
 use pol_context::{ContextView, context_end, name_end, name_standing, read_context};
-use pol_cursor::fields::{GENFS_CLASS, GENFS_PATH, GENFS_PATHLEN};
 use pol_cursor::{
-    ByteList, Copied, Cursor, Fault, Inner, Names, Record, RecordView, TableKind, dangling,
-    read_name, u32_in,
+    ByteList, Copied, Cursor, Inner, Names, Record, RecordView, dangling, read_name, u32_in,
 };
+use pol_fields::fields::{GENFS_CLASS, GENFS_PATH, GENFS_PATHLEN};
+use pol_fields::{Fault, TableKind};
 use std::alloc::{AllocError, Global};
 use std::marker::Model;
 

@@ -1,5 +1,5 @@
 // The two laws of file systems of genfs and of their list, claimed by a function that does nothing.
-ghost use Rattle.pol_cursor.specs.declared.fields.TheConstants.{GENFS_COUNT};
+ghost use Rattle.pol_fields.specs.declared.fields.TheConstants.{GENFS_COUNT};
 ghost use Rattle.pol_cursor.specs.Laws.{IsReadAgain, IsReadFromSpelling};
 ghost use Rattle.pol_cursor.specs.Parts.{spell_counted, CountedFits};
 ghost use Rattle.pol_context.specs.EntryLists.{entries_at};

@@ -2,8 +2,8 @@
 use Rattle.std.proofs.Common.{◌≡◌, ℕ, ◌^◌, ◌<◌, List, bytes_eq, None, append_assoc, arith}
 use Rattle.std.proofs.lemmas.List.{append-nil}
 use Rattle.std.proofs.lemmas.Slice.Eq.{bytes_eq-Decides}
-use Rattle.pol_cursor.specs.declared.Cause.TheVariants.{BadMagic, BadIdentity, BadCounts}
-use Rattle.pol_cursor.specs.declared.fields.TheConstants.{HEADER_MAGIC, HEADER_IDLEN, HEADER_ID, HEADER_VERSION, HEADER_CONFIG, HEADER_SYMTABS, HEADER_CONTEXTS}
+use Rattle.pol_fields.specs.declared.Cause.TheVariants.{BadMagic, BadIdentity, BadCounts}
+use Rattle.pol_fields.specs.declared.fields.TheConstants.{HEADER_MAGIC, HEADER_IDLEN, HEADER_ID, HEADER_VERSION, HEADER_CONFIG, HEADER_SYMTABS, HEADER_CONTEXTS}
 use Rattle.pol_cursor.specs.Laws.{IsReadAgain, IsReadFromSpelling}
 use Rattle.pol_cursor.proofs.Facts.{unless_none, unless_is}
 use Rattle.pol_cursor.proofs.Laws.{Reads-done, Reads-part, Reads-number_if, Reads-string_if, Again-done, Again-part, Again-as, Again-number_if, Again-string_if}

@@ -1,8 +1,8 @@
 -- The header of a policy (libsepol's policydb_read, for a kernel policy with MLS).
 use Rattle.std.specs.Prelude.{ℕ, ◌+◌, ◌^◌, ◌<◌, ◌≤◌, ◌%◌, ◌/◌, ◌==◌, ◌&&◌, Option, Some, None, List, ◌++◌, length, codes, bytes_eq, nat_le, if◌then◌else◌}
-use Rattle.pol_cursor.specs.declared.Cause.{Cause}
-use Rattle.pol_cursor.specs.declared.Cause.TheVariants.{BadMagic, BadIdentity, UnsupportedVersion, NotMls, BadUnknown, BadCounts}
-use Rattle.pol_cursor.specs.declared.fields.TheConstants.{HEADER_MAGIC, HEADER_IDLEN, HEADER_ID, HEADER_VERSION, HEADER_CONFIG, HEADER_SYMTABS, HEADER_CONTEXTS}
+use Rattle.pol_fields.specs.declared.Cause.{Cause}
+use Rattle.pol_fields.specs.declared.Cause.TheVariants.{BadMagic, BadIdentity, UnsupportedVersion, NotMls, BadUnknown, BadCounts}
+use Rattle.pol_fields.specs.declared.fields.TheConstants.{HEADER_MAGIC, HEADER_IDLEN, HEADER_ID, HEADER_VERSION, HEADER_CONFIG, HEADER_SYMTABS, HEADER_CONTEXTS}
 use Rattle.pol_cursor.specs.Outcome.{Reader, ◌>>=◌, done}
 use Rattle.pol_cursor.specs.Parts.{num, number_if, string_if, unless}
 use Rattle.pol_cursor.specs.Spelling.{bytes_of}

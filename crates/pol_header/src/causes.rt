@@ -3,7 +3,7 @@ ghost use Rattle.std.specs.Prelude.{◌≡◌};
 ghost use Rattle.pol_cursor.specs.Parts.{unless};
 ghost use Rattle.pol_header.specs.HeaderRecord.{magic_test, identity_length_test, identity_test, version_test, config_test, symbol_tables_test, context_tables, context_tables_test};
 
-use pol_cursor::Cause;
+use pol_fields::Cause;
 
 /// SELINUX_MAGIC of libsepol.
 pub const MAGIC: u32 = 0xf97c_ff8c;

@@ -7,11 +7,12 @@ use crate::causes::{
     symbol_tables_cause, version_cause,
 };
 use crate::header_rec::HeaderRec;
-use pol_cursor::fields::{
+use pol_cursor::{Cursor, refuse, u32_in};
+use pol_fields::Fault;
+use pol_fields::fields::{
     HEADER_CONFIG, HEADER_CONTEXTS, HEADER_ID, HEADER_IDLEN, HEADER_MAGIC, HEADER_SYMTABS,
     HEADER_VERSION,
 };
-use pol_cursor::{Cursor, Fault, refuse, u32_in};
 use std::alloc::{AllocError, Global};
 use std::marker::Model;
 

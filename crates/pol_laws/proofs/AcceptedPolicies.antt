@@ -1,7 +1,7 @@
 -- A policy that is accepted was read up to the end of its file.
 use Rattle.std.proofs.Common.{◌≡◌, ℕ, ◌≤◌, Option, Some, None, Ok, List, length, ap, arith}
-use Rattle.pol_cursor.specs.declared.Fault.{Fault}
-use Rattle.pol_cursor.specs.declared.fields.TheConstants.{END_END}
+use Rattle.pol_fields.specs.declared.Fault.{Fault}
+use Rattle.pol_fields.specs.declared.fields.TheConstants.{END_END}
 use Rattle.pol_cursor.specs.Outcome.{Outcome, Reader, Got, Bad, ◌>>=◌, done}
 use Rattle.pol_cursor.specs.Parts.{end_at}
 use Rattle.pol_cursor.proofs.Laws.{and_then_got}

@@ -2,10 +2,10 @@
 use Rattle.std.proofs.Common.{inl, inr, ◌⊎◌, ◌≡◌, ℕ, zero, suc, ◌+◌, ◌-◌, ◌<◌, ◌≤◌, Bool, true, false, cond, ltb, List, [], ◌∷◌, length, take, drop, Option, Some, None, refl, sym, ap, subst, ◌∙◌, arith}
 use Rattle.std.proofs.lemmas.Bool.{ltb-false, le-ltb, lt-ltb, cases_lt}
 use Rattle.std.proofs.lemmas.List.{length-take, take-take, drop-take}
-use Rattle.pol_cursor.specs.declared.Field.{Field}
-use Rattle.pol_cursor.specs.declared.Cause.{Cause}
-use Rattle.pol_cursor.specs.declared.Cause.TheVariants.{Short, Trailing}
-use Rattle.pol_cursor.specs.declared.field.Field.{Field}
+use Rattle.pol_fields.specs.declared.Field.{Field}
+use Rattle.pol_fields.specs.declared.Cause.{Cause}
+use Rattle.pol_fields.specs.declared.Cause.TheVariants.{Short, Trailing}
+use Rattle.pol_fields.specs.declared.field.Field.{Field}
 use Rattle.pol_cursor.specs.Outcome.{Outcome, Got, Bad, Reader, fault, and_then, ◌>>=◌, done, judged, checked}
 use Rattle.pol_cursor.specs.Parts.{num, number, string, end_at, list_of, records_at, counted, optional}
 use Rattle.pol_cursor.specs.References.{placed}

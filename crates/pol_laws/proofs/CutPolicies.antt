@@ -2,9 +2,9 @@
 use Rattle.std.proofs.Common.{◌≡◌, ℕ, ◌+◌, ◌-◌, ◌<◌, ◌≤◌, List, length, take, Some, None, Ok, Err, refl, sym, ap, subst, ◌∙◌, inl, inr, ◌⊎◌, arith}
 use Rattle.std.proofs.lemmas.Bool.{cases_lt}
 use Rattle.std.proofs.lemmas.List.{take_all}
-use Rattle.pol_cursor.specs.declared.Fault.{Fault}
-use Rattle.pol_cursor.specs.declared.Cause.TheVariants.{Short}
-use Rattle.pol_cursor.specs.declared.fields.TheConstants.{GENFS_COUNT}
+use Rattle.pol_fields.specs.declared.Fault.{Fault}
+use Rattle.pol_fields.specs.declared.Cause.TheVariants.{Short}
+use Rattle.pol_fields.specs.declared.fields.TheConstants.{GENFS_COUNT}
 use Rattle.pol_cursor.specs.Outcome.{Outcome, fault}
 use Rattle.pol_file.specs.declared.Parts.{Parts}
 use Rattle.pol_file.specs.TypeMapRows.{type_map_at}

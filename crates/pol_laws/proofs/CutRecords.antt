@@ -1,7 +1,7 @@
 -- The readers of the header, of bitmaps, of expressions, of MLS and of the records of symbol tables look at no byte behind their values.
 use Rattle.std.proofs.Common.{ℕ, Bool, Option, None, ◌==◌, List, []}
-use Rattle.pol_cursor.specs.declared.field.Field.{Field}
-use Rattle.pol_cursor.specs.declared.fields.TheConstants.{CLASS_DEFAULT_USER, CLASS_DEFAULT_ROLE, CLASS_DEFAULT_RANGE, CLASS_DEFAULT_TYPE}
+use Rattle.pol_fields.specs.declared.field.Field.{Field}
+use Rattle.pol_fields.specs.declared.fields.TheConstants.{CLASS_DEFAULT_USER, CLASS_DEFAULT_ROLE, CLASS_DEFAULT_RANGE, CLASS_DEFAULT_TYPE}
 use Rattle.pol_header.specs.HeaderRecord.{identity_at, counts_at, header_at}
 use Rattle.pol_bitmap.specs.Bitmap.{node_at, nodes_at, floor_after, bitmap_at}
 use Rattle.pol_expr.specs.ConditionRecord as condition

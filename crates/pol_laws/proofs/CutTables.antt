@@ -1,8 +1,8 @@
 -- The readers of the parts of a policy look at no byte behind their values: its symbol tables, its rules and its contexts.
 use Rattle.std.proofs.Common.{ℕ, Bool, true, false, Option, Some, None, List}
 use Rattle.std.specs.Prelude.{nat_le}
-use Rattle.pol_cursor.specs.declared.field.Field.{Field}
-use Rattle.pol_cursor.specs.declared.fields.TheConstants.{NAMETRANS_LEN, NAMETRANS_NAME, NAMEGROUP_LEN, NAMEGROUP_NAME, SID_COUNT, FS_COUNT, FS_LEN, FS_NAME, PORT_COUNT, NETIF_COUNT, NETIF_LEN, NETIF_NAME, NODE_COUNT, NODE_ADDRESS, NODE_MASK, FSUSE_COUNT, FSUSE_LEN, FSUSE_NAME, NODE6_COUNT, NODE6_ADDRESS, NODE6_MASK, IBPKEY_COUNT, IBENDPORT_COUNT, IBENDPORT_LEN, IBENDPORT_NAME, GENFS_LEN, GENFS_FSTYPE, GENFS_PATHLEN, GENFS_PATH}
+use Rattle.pol_fields.specs.declared.field.Field.{Field}
+use Rattle.pol_fields.specs.declared.fields.TheConstants.{NAMETRANS_LEN, NAMETRANS_NAME, NAMEGROUP_LEN, NAMEGROUP_NAME, SID_COUNT, FS_COUNT, FS_LEN, FS_NAME, PORT_COUNT, NETIF_COUNT, NETIF_LEN, NETIF_NAME, NODE_COUNT, NODE_ADDRESS, NODE_MASK, FSUSE_COUNT, FSUSE_LEN, FSUSE_NAME, NODE6_COUNT, NODE6_ADDRESS, NODE6_MASK, IBPKEY_COUNT, IBENDPORT_COUNT, IBENDPORT_LEN, IBENDPORT_NAME, GENFS_LEN, GENFS_FSTYPE, GENFS_PATHLEN, GENFS_PATH}
 use Rattle.pol_cursor.specs.Outcome.{Reader}
 use Rattle.pol_symtab.specs.SymbolTables.{Table, table_head_at, table_records_at, table_at}
 use Rattle.pol_commons.specs.declared.CommonRec.{CommonRec}

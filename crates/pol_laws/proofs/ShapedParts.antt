@@ -1,7 +1,7 @@
 -- Values that are read have no wrong optional part: for parts, and for lists.
 use Rattle.std.proofs.Common.{◌≡◌, ℕ, Bool, true, false, Option, Some, None, List, [], ◌∷◌, All, IfSome, is_some, if◌then◌else◌, refl}
 use Rattle.std.proofs.lemmas.List.Elements.{All-head, All-tail}
-use Rattle.pol_cursor.specs.declared.Field.{Field}
+use Rattle.pol_fields.specs.declared.Field.{Field}
 use Rattle.pol_cursor.specs.Outcome.{Reader}
 use Rattle.pol_cursor.specs.Parts.{list_of, optional, records_at, counted, number}
 use Rattle.pol_cursor.specs.References.{placed}

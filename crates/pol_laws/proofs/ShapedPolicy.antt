@@ -1,9 +1,9 @@
 -- A policy that is accepted has no wrong optional part.
 use Rattle.std.proofs.Common.{◌≡◌, ℕ, ◌==◌, None, Ok, List, length, not, refl}
 use Rattle.std.proofs.lemmas.Bool.{eq-eqb}
-use Rattle.pol_cursor.specs.declared.Field.{Field}
-use Rattle.pol_cursor.specs.declared.field.Field.{Field}
-use Rattle.pol_cursor.specs.declared.fields.TheConstants.{BITMAP_UNIT, ROLETRANS_COUNT, ROLEALLOW_COUNT, GENFS_COUNT, RANGETRANS_COUNT, END_END}
+use Rattle.pol_fields.specs.declared.Field.{Field}
+use Rattle.pol_fields.specs.declared.field.Field.{Field}
+use Rattle.pol_fields.specs.declared.fields.TheConstants.{BITMAP_UNIT, ROLETRANS_COUNT, ROLEALLOW_COUNT, GENFS_COUNT, RANGETRANS_COUNT, END_END}
 use Rattle.pol_cursor.specs.Parts.{records_at, counted, end_at}
 use Rattle.pol_cursor.specs.References.{placed}
 use Rattle.pol_symtab.proofs.FreshRecords.{Gives-part, Gives-done}

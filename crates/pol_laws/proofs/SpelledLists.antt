@@ -1,7 +1,7 @@
 -- What was read with the places of its records is spelled as what is read without them.
 use Rattle.std.proofs.Common.{◌≡◌, ℕ, Bool, true, false, List, [], length, refl, sym, ap, ◌∙◌}
 use Rattle.std.specs.List.{flat_map, AllByRecursion}
-use Rattle.pol_cursor.specs.declared.Field.{Field}
+use Rattle.pol_fields.specs.declared.Field.{Field}
 use Rattle.pol_cursor.specs.Outcome.{Outcome, Reader, Got, Bad, and_then}
 use Rattle.pol_cursor.specs.Parts.{number, list_of, records_at, counted, spell_counted, CountedFits}
 use Rattle.pol_cursor.specs.References.{Placed, placed, values_of, without_places}

@@ -1,9 +1,9 @@
 -- A policy that is accepted is spelled by the bytes of its file.
 use Rattle.std.proofs.Common.{◌≡◌, ℕ, Ok, List, [], ◌++◌, drop, refl, sym, ap, ◌∙◌, append_assoc, arith}
 use Rattle.std.proofs.lemmas.List.{append-nil, drop_all}
-use Rattle.pol_cursor.specs.declared.Field.{Field}
-use Rattle.pol_cursor.specs.declared.field.Field.{Field}
-use Rattle.pol_cursor.specs.declared.fields.TheConstants.{END_END}
+use Rattle.pol_fields.specs.declared.Field.{Field}
+use Rattle.pol_fields.specs.declared.field.Field.{Field}
+use Rattle.pol_fields.specs.declared.fields.TheConstants.{END_END}
 use Rattle.pol_cursor.specs.Parts.{end_at}
 use Rattle.pol_cursor.specs.Spelling.{AreBytes}
 use Rattle.pol_cursor.proofs.Laws.{Reads-part, Reads-done}

@@ -1,9 +1,9 @@
 -- Policy files that are cut short, as a download that broke off leaves them. That such a file is refused is a rule of libsepol's reader
 -- (next_entry), and the place of the fault is this project's own.
 use Rattle.std.specs.Prelude.{◌≡◌, ℕ, ◌+◌, ◌<◌, ◌≤◌, List, Result, Ok, Err, length, take}
-use Rattle.pol_cursor.specs.declared.Fault.{Fault}
-use Rattle.pol_cursor.specs.declared.Field.{Field}
-use Rattle.pol_cursor.specs.declared.Cause.TheVariants.{Short}
+use Rattle.pol_fields.specs.declared.Fault.{Fault}
+use Rattle.pol_fields.specs.declared.Field.{Field}
+use Rattle.pol_fields.specs.declared.Cause.TheVariants.{Short}
 use Rattle.pol_cursor.specs.Outcome.{fault}
 use Rattle.pol_file.specs.Acceptance.{accept}
 use Rattle.pol_file.specs.declared.Parts.{Parts}

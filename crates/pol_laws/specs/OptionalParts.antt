@@ -1,7 +1,7 @@
 -- Parts of a policy that stand in its file or not, by a number that stands before them. libsepol writes them by the conditions by which
 -- it reads them. Here a record has such a part or has it not, so that it can be wrong; it is wrong at a field (this project's profile).
 use Rattle.std.specs.Prelude.{Bool, true, false, not, Option, Some, None, is_some, is_none, List, [], ◌∷◌, map, if◌then◌else◌}
-use Rattle.pol_cursor.specs.declared.Field.{Field}
+use Rattle.pol_fields.specs.declared.Field.{Field}
 use Rattle.pol_cursor.specs.References.{Placed}
 
 -- ---- one part

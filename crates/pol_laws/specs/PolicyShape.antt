@@ -1,8 +1,8 @@
 -- The first wrong optional part of a policy, in the order of the file.
 use Rattle.std.specs.Prelude.{ℕ, ◌==◌, not, Option, [], ◌∷◌, length}
-use Rattle.pol_cursor.specs.declared.Field.{Field}
-use Rattle.pol_cursor.specs.declared.field.Field.{Field}
-use Rattle.pol_cursor.specs.declared.fields.TheConstants.{BITMAP_UNIT}
+use Rattle.pol_fields.specs.declared.Field.{Field}
+use Rattle.pol_fields.specs.declared.field.Field.{Field}
+use Rattle.pol_fields.specs.declared.fields.TheConstants.{BITMAP_UNIT}
 use Rattle.pol_file.specs.declared.RuleLists.{RuleLists}
 use Rattle.pol_file.specs.declared.LabelLists.{LabelLists}
 use Rattle.pol_file.specs.declared.Parts.{Parts}

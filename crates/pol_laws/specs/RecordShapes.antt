@@ -1,8 +1,8 @@
 -- The first wrong optional part of a record, in the order of the file.
 use Rattle.std.specs.Prelude.{ℕ, ◌==◌, Option, [], ◌∷◌}
-use Rattle.pol_cursor.specs.declared.Field.{Field}
-use Rattle.pol_cursor.specs.declared.field.Field.{Field}
-use Rattle.pol_cursor.specs.declared.fields.TheConstants.{CONSTRAINT_FLAGS, RANGE_HIGH, AV_XKIND}
+use Rattle.pol_fields.specs.declared.Field.{Field}
+use Rattle.pol_fields.specs.declared.field.Field.{Field}
+use Rattle.pol_fields.specs.declared.fields.TheConstants.{CONSTRAINT_FLAGS, RANGE_HIGH, AV_XKIND}
 use Rattle.pol_mls.specs.declared.RangeRec.{RangeRec}
 use Rattle.pol_constraints.specs.declared.ConstraintItem.{ConstraintItem}
 use Rattle.pol_constraints.specs.declared.ConstraintRec.{ConstraintRec}

@@ -4,8 +4,8 @@ use Rattle.std.specs.List.{flat_map, AllByRecursion}
 use Rattle.std.proofs.lemmas.Bool.{le-ltb}
 use Rattle.std.proofs.lemmas.List.{take_at, drop_at, length-append, append-nil}
 use Rattle.std.proofs.lemmas.List.Concat.{flat_map-cons}
-use Rattle.pol_cursor.specs.declared.Field.{Field}
-use Rattle.pol_cursor.specs.declared.Cause.{Cause}
+use Rattle.pol_fields.specs.declared.Field.{Field}
+use Rattle.pol_fields.specs.declared.Cause.{Cause}
 use Rattle.pol_cursor.specs.Outcome.{Outcome, Reader, Got, Bad, and_then, ◌>>=◌, done, judged, checked}
 use Rattle.pol_cursor.specs.Parts.{number, string, end_at, list_of, records_at, counted, spell_counted, optional}
 use Rattle.pol_cursor.specs.Spelling.{bytes_of}

@@ -5,8 +5,8 @@ use Rattle.std.specs.List.{find, flat_map, AllByRecursion}
 use Rattle.std.specs.Str.{bytes_eq}
 use Rattle.std.proofs.lemmas.Bool.{le-leb}
 use Rattle.std.proofs.lemmas.List.{append-nil}
-use Rattle.pol_cursor.specs.declared.field.Field.{Field}
-use Rattle.pol_cursor.specs.declared.fields.TheConstants.{CLASS_LEN, CLASS_LEN2, CLASS_VALUE, CLASS_NPRIM, CLASS_NEL, CLASS_NCONS, CLASS_NAME, CLASS_COMMON, CLASS_NVALID, CLASS_DEFAULT_USER, CLASS_DEFAULT_ROLE, CLASS_DEFAULT_RANGE, CLASS_DEFAULT_TYPE, CONSTRAINT_PERMISSIONS, CONSTRAINT_NEXPR, CONSTRAINT_KIND, CONSTRAINT_ATTR, CONSTRAINT_OP}
+use Rattle.pol_fields.specs.declared.field.Field.{Field}
+use Rattle.pol_fields.specs.declared.fields.TheConstants.{CLASS_LEN, CLASS_LEN2, CLASS_VALUE, CLASS_NPRIM, CLASS_NEL, CLASS_NCONS, CLASS_NAME, CLASS_COMMON, CLASS_NVALID, CLASS_DEFAULT_USER, CLASS_DEFAULT_ROLE, CLASS_DEFAULT_RANGE, CLASS_DEFAULT_TYPE, CONSTRAINT_PERMISSIONS, CONSTRAINT_NEXPR, CONSTRAINT_KIND, CONSTRAINT_ATTR, CONSTRAINT_OP}
 use Rattle.pol_cursor.specs.References.{Placed, values_of}
 use Rattle.pol_cursor.specs.Spelling.{bytes_of}
 use Rattle.pol_symtab.specs.Claims.{Claims}

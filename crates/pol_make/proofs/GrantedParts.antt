@@ -1,7 +1,7 @@
 -- What stands behind the symbol tables of a policy that is made is read.
 use Rattle.std.proofs.Common.{ℕ, ◌+◌, ◌≤◌, refl, append_assoc}
 use Rattle.std.proofs.lemmas.List.{append-nil}
-use Rattle.pol_cursor.specs.declared.fields.TheConstants.{CONDLIST_COUNT, ROLETRANS_COUNT, ROLEALLOW_COUNT, NAMETRANS_COUNT, FS_COUNT, FS_LEN, FS_NAME, PORT_COUNT, NETIF_COUNT, NETIF_LEN, NETIF_NAME, NODE_COUNT, NODE_ADDRESS, NODE_MASK, FSUSE_COUNT, NODE6_COUNT, NODE6_ADDRESS, NODE6_MASK, IBPKEY_COUNT, IBENDPORT_COUNT, GENFS_COUNT, RANGETRANS_COUNT}
+use Rattle.pol_fields.specs.declared.fields.TheConstants.{CONDLIST_COUNT, ROLETRANS_COUNT, ROLEALLOW_COUNT, NAMETRANS_COUNT, FS_COUNT, FS_LEN, FS_NAME, PORT_COUNT, NETIF_COUNT, NETIF_LEN, NETIF_NAME, NODE_COUNT, NODE_ADDRESS, NODE_MASK, FSUSE_COUNT, NODE6_COUNT, NODE6_ADDRESS, NODE6_MASK, IBPKEY_COUNT, IBENDPORT_COUNT, GENFS_COUNT, RANGETRANS_COUNT}
 use Rattle.pol_conditionals.specs.CondNodeRecord.{condnode_at, spell_condnode}
 use Rattle.pol_conditionals.specs.CondNodeList.{conditionals_at}
 use Rattle.pol_trans.specs.declared.NameTrans.TheVariants.{Entries}

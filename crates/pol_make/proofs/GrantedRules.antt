@@ -4,7 +4,7 @@ use Rattle.std.specs.List.{range_with_len, AllByRecursion}
 use Rattle.std.proofs.Math.Nat.{mod-lt}
 use Rattle.std.proofs.lemmas.List.{append-nil}
 use Rattle.std.proofs.lemmas.List.FromFn.{length-range_with_len}
-use Rattle.pol_cursor.specs.declared.fields.TheConstants.{AV_SOURCE, AV_TARGET, AV_CLASS, AV_SPECIFIED, AV_DATA, AVTAB_NEL}
+use Rattle.pol_fields.specs.declared.fields.TheConstants.{AV_SOURCE, AV_TARGET, AV_CLASS, AV_SPECIFIED, AV_DATA, AVTAB_NEL}
 use Rattle.pol_cursor.specs.Parts.{spell_counted}
 use Rattle.pol_cursor.specs.References.{values_of}
 use Rattle.pol_avtab.specs.declared.AvKey.{AvKey}

@@ -1,8 +1,8 @@
 -- The initial SID of a policy that is made is read, and so are its other tables, which are empty.
 use Rattle.std.proofs.Common.{◌≡◌, ℕ, ◌^◌, ◌<◌, List, [], ◌∷◌, refl, append_assoc, arith}
 use Rattle.std.proofs.lemmas.List.{append-nil}
-use Rattle.pol_cursor.specs.declared.field.Field.{Field}
-use Rattle.pol_cursor.specs.declared.fields.TheConstants.{RANGE_N, RANGE_LOW, CONTEXT_USER, CONTEXT_ROLE, CONTEXT_TYPE, SID_COUNT, SID_SID}
+use Rattle.pol_fields.specs.declared.field.Field.{Field}
+use Rattle.pol_fields.specs.declared.fields.TheConstants.{RANGE_N, RANGE_LOW, CONTEXT_USER, CONTEXT_ROLE, CONTEXT_TYPE, SID_COUNT, SID_SID}
 use Rattle.pol_cursor.specs.Outcome.{Reader}
 use Rattle.pol_cursor.specs.Parts.{spell_counted}
 use Rattle.pol_mls.specs.RangeRecord.{range_at, spell_range}

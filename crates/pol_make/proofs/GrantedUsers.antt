@@ -2,7 +2,7 @@
 use Rattle.std.proofs.Common.{◌≡◌, ℕ, true, None, length, refl, append_assoc, arith}
 use Rattle.std.specs.List.{AllByRecursion}
 use Rattle.std.proofs.lemmas.List.{append-nil}
-use Rattle.pol_cursor.specs.declared.fields.TheConstants.{USER_LEN, USER_VALUE, USER_BOUNDS, USER_NAME, LEVEL_SENS, RANGE_N, RANGE_LOW, RANGE_HIGH}
+use Rattle.pol_fields.specs.declared.fields.TheConstants.{USER_LEN, USER_VALUE, USER_BOUNDS, USER_NAME, LEVEL_SENS, RANGE_N, RANGE_LOW, RANGE_HIGH}
 use Rattle.pol_cursor.specs.Outcome.{Reader}
 use Rattle.pol_bitmap.specs.Bitmap.{bitmap_at, spell_bitmap}
 use Rattle.pol_mls.specs.LevelRecord.{level_at, spell_level, LevelFits}

@@ -4,7 +4,7 @@ use Rattle.std.specs.Prelude.{codes, is_some, map}
 use Rattle.std.specs.List.{range_with_len, AllByRecursion}
 use Rattle.std.proofs.lemmas.Bool.{cases_lt, eq-eqb, or_left, or_right}
 use Rattle.std.proofs.lemmas.List.Folds.{list_any-append}
-use Rattle.pol_cursor.specs.declared.TableKind.TheVariants.{Classes, Roles, Types, Users, Levels}
+use Rattle.pol_fields.specs.declared.TableKind.TheVariants.{Classes, Roles, Types, Users, Levels}
 use Rattle.pol_cursor.specs.References.{values_of}
 use Rattle.pol_datums.specs.declared.TypeRec.{TypeRec}
 use Rattle.pol_datums.specs.declared.CategoryRec.{CategoryRec}

@@ -2,7 +2,7 @@
 use Rattle.std.proofs.Common.{◌≡◌, ℕ, ◌≤◌, Option, None, List, [], ◌∷◌, refl}
 use Rattle.std.specs.List.{AllByRecursion}
 use Rattle.std.proofs.lemmas.Bool.{eq-eqb}
-use Rattle.pol_cursor.specs.declared.Field.{Field}
+use Rattle.pol_fields.specs.declared.Field.{Field}
 use Rattle.pol_avtab.specs.declared.AvRec.{AvRec}
 use Rattle.pol_laws.specs.OptionalParts.{first_of, first_in}
 use Rattle.pol_laws.specs.RecordShapes.{shape_of_av}

@@ -2,7 +2,7 @@
 use Rattle.std.proofs.Common.{◌≡◌, ℕ, ◌+◌, ◌≤◌, None, [], ◌++◌, length, refl, sym, ap, subst, append_assoc, arith}
 use Rattle.std.proofs.lemmas.List.{append-nil}
 use Rattle.std.proofs.lemmas.Bool.{le-leb}
-use Rattle.pol_cursor.specs.declared.fields.TheConstants.{END_END}
+use Rattle.pol_fields.specs.declared.fields.TheConstants.{END_END}
 use Rattle.pol_cursor.specs.Outcome.{Outcome, Got, Bad}
 use Rattle.pol_header.specs.declared.HeaderRec.{HeaderRec}
 use Rattle.pol_symtab.specs.SymbolTables.{BareTable}

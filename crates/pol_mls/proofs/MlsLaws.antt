@@ -2,7 +2,7 @@
 use Rattle.std.proofs.Common.{[], subst, Bool, Option, Some, None, List, ◌<◌, ◌^◌, ◌≡◌, ℕ, refl, sym, append_assoc}
 use Rattle.std.proofs.lemmas.List.{append-nil}
 use Rattle.std.specs.Prelude.{◌==◌, option_map}
-use Rattle.pol_cursor.specs.declared.fields.TheConstants.{LEVEL_SENS, RANGE_N, RANGE_LOW, RANGE_HIGH}
+use Rattle.pol_fields.specs.declared.fields.TheConstants.{LEVEL_SENS, RANGE_N, RANGE_LOW, RANGE_HIGH}
 use Rattle.pol_cursor.specs.Outcome.{done}
 use Rattle.pol_cursor.specs.Parts.{spell_optional, OptionFits}
 use Rattle.pol_cursor.specs.Spelling.{bytes_of}

@@ -6,7 +6,7 @@ use Rattle.std.proofs.lemmas.List.{append-nil}
 use Rattle.std.proofs.lemmas.List.FromFn.{length-range_with_len, get_or-range_with_len}
 use Rattle.std.proofs.lemmas.Bool.{cases_Bool, eqb-true, eqb-false, eq-eqb, ne_eqb, le-leb}
 use Rattle.pol_cursor.specs.References.{Named}
-use Rattle.pol_cursor.specs.declared.table_kind.TableKind.TheVariants.{Categories}
+use Rattle.pol_fields.specs.declared.table_kind.TableKind.TheVariants.{Categories}
 use Rattle.pol_mls.specs.declared.run.Run.{Run}
 use Rattle.pol_mls.specs.MlsTexts.{name_of, with_value, runs_of, run_text, runs_text}
 use Rattle.pol_mls.specs.Runs.{values_of}

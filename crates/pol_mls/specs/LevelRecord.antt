@@ -1,7 +1,7 @@
 -- Record 14: a level of MLS, which is a sensitivity and a set of categories (libsepol's mls_read_level).
 use Rattle.std.specs.Prelude.{ℕ, ◌+◌, ◌*◌, ◌^◌, ◌<◌, None, List, [], ◌∷◌, ◌++◌, length}
-use Rattle.pol_cursor.specs.declared.table_kind.TableKind.TheVariants.{Levels}
-use Rattle.pol_cursor.specs.declared.fields.TheConstants.{LEVEL_SENS}
+use Rattle.pol_fields.specs.declared.table_kind.TableKind.TheVariants.{Levels}
+use Rattle.pol_fields.specs.declared.fields.TheConstants.{LEVEL_SENS}
 use Rattle.pol_cursor.specs.Outcome.{Reader, ◌>>=◌, done}
 use Rattle.pol_cursor.specs.Parts.{num, number}
 use Rattle.pol_cursor.specs.References.{Placed, Reference}

@@ -1,8 +1,8 @@
 -- The texts of levels and ranges, as SETools prints them.
 use Rattle.std.specs.Prelude.{ℕ, ◌+◌, ◌-◌, ◌^◌, ◌==◌, ◌&&◌, Bool, Option, Some, None, is_some, unwrap_or, List, [], ◌∷◌, ◌++◌, length, map, filter, get_or, codes, nat_le, nat_lt, bytes_eq, if◌then◌else◌}
 use Rattle.std.specs.List.{join_by}
-use Rattle.pol_cursor.specs.declared.table_kind.TableKind.{TableKind}
-use Rattle.pol_cursor.specs.declared.table_kind.TableKind.TheVariants.{Levels, Categories}
+use Rattle.pol_fields.specs.declared.table_kind.TableKind.{TableKind}
+use Rattle.pol_fields.specs.declared.table_kind.TableKind.TheVariants.{Levels, Categories}
 use Rattle.pol_cursor.specs.References.{Named}
 use Rattle.pol_bitmap.specs.Nodes.{bits_of}
 use Rattle.pol_mls.specs.declared.level_rec.LevelRec.{LevelRec}

@@ -1,9 +1,9 @@
 -- Record 15: a range of MLS, which is a low level and may be a high one (libsepol's mls_read_range_helper).
 use Rattle.std.specs.Prelude.{ℕ, ◌+◌, ◌*◌, ◌^◌, ◌<◌, ◌≡◌, ◌==◌, ◌||◌, Bool, true, false, Option, Some, None, List, [], ◌∷◌, ◌++◌, length, if◌then◌else◌}
-use Rattle.pol_cursor.specs.declared.fault.Cause.{Cause}
-use Rattle.pol_cursor.specs.declared.fault.Cause.TheVariants.{BadRange}
-use Rattle.pol_cursor.specs.declared.table_kind.TableKind.TheVariants.{Levels}
-use Rattle.pol_cursor.specs.declared.fields.TheConstants.{RANGE_N, RANGE_LOW, RANGE_HIGH}
+use Rattle.pol_fields.specs.declared.fault.Cause.{Cause}
+use Rattle.pol_fields.specs.declared.fault.Cause.TheVariants.{BadRange}
+use Rattle.pol_fields.specs.declared.table_kind.TableKind.TheVariants.{Levels}
+use Rattle.pol_fields.specs.declared.fields.TheConstants.{RANGE_N, RANGE_LOW, RANGE_HIGH}
 use Rattle.pol_cursor.specs.Outcome.{Reader, ◌>>=◌, done}
 use Rattle.pol_cursor.specs.Parts.{num, number, number_if, unless, optional, spell_optional, OptionFits}
 use Rattle.pol_cursor.specs.References.{Placed, Reference}

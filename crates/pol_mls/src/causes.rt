@@ -1,7 +1,7 @@
 ghost use Rattle.std.specs.Prelude.{◌≡◌};
 ghost use Rattle.pol_mls.specs.RangeRecord.{n_test};
 
-use pol_cursor::Cause;
+use pol_fields::Cause;
 
 /// `BadRange` where a range has neither one level nor two.
 pub fn n_cause(n: u32) -> Option<Cause>

@@ -5,8 +5,9 @@ ghost use Rattle.pol_mls.specs.LevelRecord.{level_at, level_in, level_length, le
 
 use crate::level_rec::LevelRec;
 use pol_bitmap::{BitmapView, Set};
-use pol_cursor::fields::LEVEL_SENS;
-use pol_cursor::{Cursor, Fault, Names, TableKind, dangling, u32_in};
+use pol_cursor::{Cursor, Names, dangling, u32_in};
+use pol_fields::fields::LEVEL_SENS;
+use pol_fields::{Fault, TableKind};
 use std::alloc::{AllocError, Global};
 use std::marker::Model;
 

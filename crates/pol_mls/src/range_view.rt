@@ -10,8 +10,9 @@ use crate::causes::n_cause;
 use crate::level_rec::LevelRec;
 use crate::range_rec::RangeRec;
 use pol_bitmap::{BitmapView, Set};
-use pol_cursor::fields::{RANGE_HIGH, RANGE_LOW, RANGE_N};
-use pol_cursor::{Cursor, Fault, Names, TableKind, dangling, refuse, u32_in};
+use pol_cursor::{Cursor, Names, dangling, refuse, u32_in};
+use pol_fields::fields::{RANGE_HIGH, RANGE_LOW, RANGE_N};
+use pol_fields::{Fault, TableKind};
 use std::alloc::{AllocError, Global};
 use std::marker::Model;
 

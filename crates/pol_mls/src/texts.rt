@@ -7,7 +7,8 @@ use crate::range_view::RangeView;
 use crate::run::Run;
 use crate::run_text::{push_name, push_run, push_value};
 use pol_bitmap::BitmapView;
-use pol_cursor::{Names, TableKind};
+use pol_cursor::Names;
+use pol_fields::TableKind;
 use std::alloc::{AllocError, Global};
 
 /// The text of a level: its sensitivity's name, and where it has declared categories a `:` and them in order of value.

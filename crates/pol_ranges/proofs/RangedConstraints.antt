@@ -2,7 +2,7 @@
 use Rattle.std.proofs.Common.{ℕ, ◌<◌, ◌^◌, None, refl, arith}
 use Rattle.std.specs.Prelude.{IfSome}
 use Rattle.std.proofs.lemmas.List.{length-append}
-use Rattle.pol_cursor.specs.declared.fields.TheConstants.{CONSTRAINT_FLAGS}
+use Rattle.pol_fields.specs.declared.fields.TheConstants.{CONSTRAINT_FLAGS}
 use Rattle.pol_cursor.proofs.Numbers.{length-bytes_of}
 use Rattle.pol_bitmap.specs.Bitmap.{spell_bitmap, BitmapFits}
 use Rattle.pol_constraints.specs.declared.TypeSet.{TypeSet}

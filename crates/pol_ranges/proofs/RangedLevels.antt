@@ -2,7 +2,7 @@
 use Rattle.std.proofs.Common.{◌≡◌, ◌+◌, ◌<◌, ◌^◌, ◌==◌, Option, Some, None, length, refl, arith}
 use Rattle.std.specs.Prelude.{IfSome}
 use Rattle.std.proofs.lemmas.List.{length-append}
-use Rattle.pol_cursor.specs.declared.fields.TheConstants.{RANGE_HIGH}
+use Rattle.pol_fields.specs.declared.fields.TheConstants.{RANGE_HIGH}
 use Rattle.pol_cursor.proofs.Numbers.{length-bytes_of}
 use Rattle.pol_cursor.specs.Parts.{spell_optional}
 use Rattle.pol_cursor.specs.Spelling.{bytes_of}

@@ -4,7 +4,7 @@ use Rattle.std.specs.Prelude.{IfSome}
 use Rattle.std.specs.List.{flat_map, AllByRecursion}
 use Rattle.std.proofs.lemmas.List.{length-append}
 use Rattle.std.proofs.lemmas.List.Concat.{flat_map-cons}
-use Rattle.pol_cursor.specs.declared.Field.{Field}
+use Rattle.pol_fields.specs.declared.Field.{Field}
 use Rattle.pol_cursor.specs.Parts.{spell_optional, OptionFits}
 use Rattle.pol_laws.specs.OptionalParts.{shape_of_part, first_of, first_in}
 use Rattle.pol_ranges.specs.Ranges.{IsRanged, AreRanged}

@@ -2,10 +2,10 @@
 use Rattle.std.proofs.Common.{◌≡◌, ◌<◌, ◌^◌, Bool, true, false, Option, Some, None, refl, subst, arith}
 use Rattle.std.specs.Prelude.{is_some}
 use Rattle.std.proofs.lemmas.List.{length-append}
-use Rattle.pol_cursor.specs.declared.field.Field.{Field}
-use Rattle.pol_cursor.specs.declared.fields.TheConstants.{AV_XKIND}
+use Rattle.pol_fields.specs.declared.field.Field.{Field}
+use Rattle.pol_fields.specs.declared.fields.TheConstants.{AV_XKIND}
 use Rattle.pol_cursor.proofs.Numbers.{length-bytes_of}
-use Rattle.pol_cursor.specs.declared.Field.{Field}
+use Rattle.pol_fields.specs.declared.Field.{Field}
 use Rattle.pol_expr.specs.declared.ConditionItem.{ConditionItem}
 use Rattle.pol_expr.specs.declared.ConditionRec.{ConditionRec}
 use Rattle.pol_expr.specs.ConditionRecord.{spell_item, ItemFits, spell_condition, ConditionFits}

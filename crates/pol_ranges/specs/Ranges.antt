@@ -1,7 +1,7 @@
 -- Records whose numbers are of types no wider than their fields, and lists of them.
 use Rattle.std.specs.Prelude.{◌≡◌, ℕ, ◌^◌, ◌<◌, ◌≤◌, Option, None, List, length}
 use Rattle.std.specs.List.{flat_map}
-use Rattle.pol_cursor.specs.declared.Field.{Field}
+use Rattle.pol_fields.specs.declared.Field.{Field}
 use Rattle.pol_cursor.specs.Parts.{CountedFits}
 use Rattle.pol_laws.specs.OptionalParts.{first_in}
 

@@ -1,7 +1,7 @@
 // What is known of the numbers of a record.
 ghost use Rattle.std.specs.Prelude.{◌≡◌, ℕ, IfSome, Option, length};
 ghost use Rattle.std.specs.List.{AllByRecursion};
-ghost use Rattle.pol_cursor.specs.declared.Field.{Field};
+ghost use Rattle.pol_fields.specs.declared.Field.{Field};
 ghost use Rattle.pol_ranges.specs.Ranges.{IsRanged, AreRanged};
 
 use pol_cursor::{OwnedList, Written};

@@ -4,8 +4,8 @@ use Rattle.std.specs.Prelude.{nat_le, if◌then◌else◌}
 use Rattle.std.specs.List.{flat_map, range_with_len}
 use Rattle.std.proofs.lemmas.List.{length-map, length-append, append_assoc}
 use Rattle.std.proofs.lemmas.List.Sums.{length-filter, count_by-le-length}
-use Rattle.pol_cursor.specs.declared.field.Field.{Field}
-use Rattle.pol_cursor.specs.declared.fields.TheConstants.{CONDNODE_NTRUE, CONDNODE_NFALSE, NAMETRANS_LEN, NAMETRANS_NAME, NAMEGROUP_LEN, NAMEGROUP_NAME, GENFS_COUNT, RANGETRANS_COUNT, END_END}
+use Rattle.pol_fields.specs.declared.field.Field.{Field}
+use Rattle.pol_fields.specs.declared.fields.TheConstants.{CONDNODE_NTRUE, CONDNODE_NFALSE, NAMETRANS_LEN, NAMETRANS_NAME, NAMEGROUP_LEN, NAMEGROUP_NAME, GENFS_COUNT, RANGETRANS_COUNT, END_END}
 use Rattle.pol_cursor.specs.Outcome.{Got, Reader, ◌>>=◌, done}
 use Rattle.pol_cursor.specs.Parts.{end_at, counted, records_at}
 use Rattle.pol_cursor.specs.References.{Placed}

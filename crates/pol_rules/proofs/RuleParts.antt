@@ -3,9 +3,9 @@ use Rattle.std.proofs.Common.{◌≡◌, ℕ, Bool, true, false, cond, Option, S
 use Rattle.std.specs.Prelude.{◌==◌, ◌||◌, ◌&&◌, not, nat_le, if◌then◌else◌}
 use Rattle.std.proofs.lemmas.Bool.{eqb-true}
 use Rattle.std.proofs.lemmas.Nat.{and_assoc}
-use Rattle.pol_cursor.specs.declared.Cause.{Cause}
-use Rattle.pol_cursor.specs.declared.Cause.TheVariants.{BadSpecified}
-use Rattle.pol_cursor.specs.declared.fields.TheConstants.{AV_SOURCE, AV_TARGET, AV_CLASS, AV_SPECIFIED, AV_XKIND, AV_DRIVER, AV_BITS, AV_DATA, AVTAB_NEL, CONDLIST_COUNT, CONDNODE_NTRUE, CONDNODE_NFALSE, ROLETRANS_COUNT, ROLEALLOW_COUNT, END_END}
+use Rattle.pol_fields.specs.declared.Cause.{Cause}
+use Rattle.pol_fields.specs.declared.Cause.TheVariants.{BadSpecified}
+use Rattle.pol_fields.specs.declared.fields.TheConstants.{AV_SOURCE, AV_TARGET, AV_CLASS, AV_SPECIFIED, AV_XKIND, AV_DRIVER, AV_BITS, AV_DATA, AVTAB_NEL, CONDLIST_COUNT, CONDNODE_NTRUE, CONDNODE_NFALSE, ROLETRANS_COUNT, ROLEALLOW_COUNT, END_END}
 use Rattle.pol_cursor.specs.Outcome.{Got, Reader}
 use Rattle.pol_cursor.specs.Parts.{number, number_if, string, end_at, counted, records_at}
 use Rattle.pol_cursor.specs.References.{placed}

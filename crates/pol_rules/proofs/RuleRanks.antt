@@ -11,8 +11,8 @@ use Rattle.std.specs.List.Sorted.{IsSortedByKey}
 use Rattle.std.proofs.lemmas.Cmp.{nat_cmp_total, on_total, then_total}
 use Rattle.std.proofs.lemmas.List.Sorted.{ranks_by, sorted_far}
 use Rattle.std.proofs.lemmas.Option.{slice_get_within, get_or_from_slice_get}
-use Rattle.pol_cursor.specs.declared.TableKind.{TableKind}
-use Rattle.pol_cursor.specs.declared.TableKind.TheVariants.{Commons, Classes, Roles, Types, Users, Booleans, Levels, Categories}
+use Rattle.pol_fields.specs.declared.TableKind.{TableKind}
+use Rattle.pol_fields.specs.declared.TableKind.TheVariants.{Commons, Classes, Roles, Types, Users, Booleans, Levels, Categories}
 use Rattle.pol_cursor.specs.References.{Placed}
 use Rattle.pol_symtab.specs.SymbolTables.{primary_name, rank_of, names_below}
 use Rattle.pol_symtab.proofs.RankLaw.{ranks_order}

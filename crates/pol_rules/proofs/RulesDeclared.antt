@@ -6,9 +6,9 @@ use Rattle.std.proofs.lemmas.List.Elements.{All-nil, All-cons, All-same, All-app
 use Rattle.std.proofs.lemmas.List.Concat.{flat_map-cons}
 use Rattle.std.proofs.lemmas.List.FromFn.{length-range_with_len, get_or-range_with_len}
 use Rattle.std.proofs.lemmas.Option.{none-some, same_Some, slice_get_within, get_or_from_slice_get}
-use Rattle.pol_cursor.specs.declared.Fault.{Fault}
-use Rattle.pol_cursor.specs.declared.TableKind.TheVariants.{Types, Classes}
-use Rattle.pol_cursor.specs.declared.fields.TheConstants.{AV_SOURCE, AV_TARGET, AV_CLASS, AV_DATA, NAMEGROUP_TARGET, NAMEGROUP_CLASS}
+use Rattle.pol_fields.specs.declared.Fault.{Fault}
+use Rattle.pol_fields.specs.declared.TableKind.TheVariants.{Types, Classes}
+use Rattle.pol_fields.specs.declared.fields.TheConstants.{AV_SOURCE, AV_TARGET, AV_CLASS, AV_DATA, NAMEGROUP_TARGET, NAMEGROUP_CLASS}
 use Rattle.pol_cursor.specs.References.{Placed, Reference, Named, dangling_of}
 use Rattle.pol_bitmap.specs.Nodes.{bits_of}
 use Rattle.pol_symbols.specs.PolicySymbols.{name_in}

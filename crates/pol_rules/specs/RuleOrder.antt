@@ -4,8 +4,8 @@ use Rattle.std.specs.declared.cmp.Ordering.{Ordering}
 use Rattle.std.specs.Option.{option_cmp}
 use Rattle.std.specs.Ordering.{is_le, nat_cmp, ordering_then}
 use Rattle.std.specs.Cmp.Lexicographic.{slice_cmp}
-use Rattle.pol_cursor.specs.declared.TableKind.{TableKind}
-use Rattle.pol_cursor.specs.declared.TableKind.TheVariants.{Roles, Types, Classes}
+use Rattle.pol_fields.specs.declared.TableKind.{TableKind}
+use Rattle.pol_fields.specs.declared.TableKind.TheVariants.{Roles, Types, Classes}
 use Rattle.pol_symbols.specs.PolicySymbols.{name_in, rank_in}
 use Rattle.pol_symbols.specs.declared.Symbols.{Symbols}
 use Rattle.pol_rules.specs.declared.rule.RuleKind.{RuleKind}

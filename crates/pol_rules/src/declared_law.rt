@@ -1,6 +1,6 @@
 // What is said of the values of types that are declared, claimed by a function that does nothing.
 ghost use Rattle.std.specs.Prelude.{◌≡◌, ℕ, List, Ok, true, is_some};
-ghost use Rattle.pol_cursor.specs.declared.TableKind.TheVariants.{Types};
+ghost use Rattle.pol_fields.specs.declared.TableKind.TheVariants.{Types};
 ghost use Rattle.pol_symbols.specs.PolicySymbols.{flavour_in};
 ghost use Rattle.pol_symbols.specs.declared.Symbols.{Symbols};
 ghost use Rattle.pol_file.specs.Acceptance.{accept};

@@ -4,7 +4,7 @@ ghost use Rattle.pol_bitmap.specs.Nodes.{node_bits};
 ghost use Rattle.pol_rules.specs.StoredRules.{is_declared_type, declared_values};
 
 use pol_bitmap::{Node, split_lowest};
-use pol_cursor::TableKind;
+use pol_fields::TableKind;
 use pol_symbols::Symbols;
 
 // The type value that a bit stands for, where a primary record declares it.

@@ -4,7 +4,7 @@ ghost use Rattle.pol_rules.specs.StoredRules.{stored};
 ghost use Rattle.pol_rules.specs.RuleOrder.{kind_number, source_table, target_table, rank_key};
 
 use crate::rule::{Rule, RuleKind};
-use pol_cursor::TableKind;
+use pol_fields::TableKind;
 use pol_symbols::Symbols;
 
 /// What a rule is listed by: the number of its kind, the ranks of its names, and its own number. Keys rise in the order in which

@@ -1,7 +1,7 @@
 -- The two laws of users.
 use Rattle.std.proofs.Common.{ℕ, None, length, append_assoc}
 use Rattle.std.proofs.lemmas.List.{append-nil}
-use Rattle.pol_cursor.specs.declared.fields.TheConstants.{USER_LEN, USER_VALUE, USER_BOUNDS, USER_NAME}
+use Rattle.pol_fields.specs.declared.fields.TheConstants.{USER_LEN, USER_VALUE, USER_BOUNDS, USER_NAME}
 use Rattle.pol_cursor.specs.Laws.{IsReadAgain, IsReadFromSpelling}
 use Rattle.pol_cursor.proofs.Laws.{Reads-done, Reads-part, Reads-number, Reads-number_if, Again-done, Again-part, Again-as, Again-number, Again-number_if}
 use Rattle.pol_bitmap.proofs.Laws.{bitmap_spelled, bitmap_again}

@@ -1,6 +1,6 @@
 -- A user that was read has a new name and a new value.
 use Rattle.std.proofs.Common.{ℕ, None, true}
-use Rattle.pol_cursor.specs.declared.fields.TheConstants.{USER_LEN, USER_VALUE, USER_BOUNDS, USER_NAME}
+use Rattle.pol_fields.specs.declared.fields.TheConstants.{USER_LEN, USER_VALUE, USER_BOUNDS, USER_NAME}
 use Rattle.pol_bitmap.specs.Bitmap.{bitmap_at}
 use Rattle.pol_mls.specs.LevelRecord.{level_at}
 use Rattle.pol_mls.specs.RangeRecord.{range_at}

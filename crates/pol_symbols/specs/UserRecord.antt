@@ -1,7 +1,7 @@
 -- Record 10: a user, with its roles, its range and its default level (libsepol's user_read).
 use Rattle.std.specs.Prelude.{ℕ, ◌+◌, ◌*◌, ◌<◌, ◌^◌, None, List, ◌++◌, length, take, drop}
-use Rattle.pol_cursor.specs.declared.table_kind.TableKind.TheVariants.{Users}
-use Rattle.pol_cursor.specs.declared.fields.TheConstants.{USER_LEN, USER_VALUE, USER_BOUNDS, USER_NAME}
+use Rattle.pol_fields.specs.declared.table_kind.TableKind.TheVariants.{Users}
+use Rattle.pol_fields.specs.declared.fields.TheConstants.{USER_LEN, USER_VALUE, USER_BOUNDS, USER_NAME}
 use Rattle.pol_cursor.specs.Outcome.{Reader, ◌>>=◌, done}
 use Rattle.pol_cursor.specs.Parts.{num}
 use Rattle.pol_cursor.specs.References.{Placed, Reference}

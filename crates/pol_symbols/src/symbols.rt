@@ -8,8 +8,9 @@ ghost use Rattle.pol_symbols.specs.PolicySymbols.{flavour_in, permissions_of, pe
 use crate::user_kind::User;
 use pol_classes::{ClassTable, ClassView, read_class_table};
 use pol_commons::{CommonList, PermissionView, inherited_from, read_commons};
-use pol_cursor::{Cursor, Names, ReadError, TableKind};
+use pol_cursor::{Cursor, Names, ReadError};
 use pol_datums::{Boolean, Category, Flavour, Role, Sensitivity, Type};
+use pol_fields::TableKind;
 use pol_symtab::{SymbolTable, read_whole_table};
 use std::alloc::Global;
 

@@ -6,11 +6,10 @@ ghost use Rattle.pol_symbols.specs.UserRecord.{user_at, user_in, HasUser, roles_
 use crate::user_kind::User;
 use crate::user_rec::UserRec;
 use pol_bitmap::{BitmapView, Set};
-use pol_cursor::fields::{USER_BOUNDS, USER_LEN, USER_NAME, USER_VALUE};
-use pol_cursor::{
-    ByteList, Copied, Cursor, Fault, Mention, Names, Referring, TableKind, string_in, u32_in,
-};
+use pol_cursor::{ByteList, Copied, Cursor, Mention, Names, Referring, string_in, u32_in};
 use pol_datums::{dangling_bounds, read_bounds, read_new_value};
+use pol_fields::fields::{USER_BOUNDS, USER_LEN, USER_NAME, USER_VALUE};
+use pol_fields::{Fault, TableKind};
 use pol_mls::{LevelView, RangeView, read_level, read_range};
 use pol_symtab::{Taken, read_symbol_length, read_symbol_name};
 use std::alloc::{AllocError, Global};

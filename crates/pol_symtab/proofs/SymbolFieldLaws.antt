@@ -1,6 +1,6 @@
 -- The two laws of a symbol's length and of its name, for the laws of the records that have them.
 use Rattle.std.proofs.Common.{◌≡◌, ℕ, ◌<◌, ◌^◌, List, None, length}
-use Rattle.pol_cursor.specs.declared.field.Field.{Field}
+use Rattle.pol_fields.specs.declared.field.Field.{Field}
 use Rattle.pol_cursor.specs.Laws.{Reads, Again, IsSpelling}
 use Rattle.pol_cursor.specs.Spelling.{bytes_of}
 use Rattle.pol_cursor.proofs.Laws.{Reads-number_if, Reads-string_if, Again-number_if, Again-string_if}

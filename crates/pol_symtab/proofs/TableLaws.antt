@@ -1,7 +1,7 @@
 -- The two laws of a table, from those of its records.
 use Rattle.std.proofs.Common.{◌≡◌, ℕ, ◌<◌, ◌^◌, List, ◌++◌, length, refl, ap, ◌∙◌, append_assoc}
 use Rattle.std.proofs.lemmas.List.{append-nil}
-use Rattle.pol_cursor.specs.declared.fields.TheConstants.{TABLE_NPRIM, TABLE_NEL}
+use Rattle.pol_fields.specs.declared.fields.TheConstants.{TABLE_NPRIM, TABLE_NEL}
 use Rattle.pol_cursor.specs.Outcome.{Outcome, Reader, Got, Bad, and_then}
 use Rattle.pol_cursor.specs.Laws.{IsReadAgain, IsReadFromSpelling}
 use Rattle.pol_cursor.specs.Spelling.{bytes_of}

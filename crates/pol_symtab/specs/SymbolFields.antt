@@ -1,9 +1,9 @@
 -- The parts that every symbol record has, its length, its name and its value, and their conditions in the order in which they are tried.
 use Rattle.std.specs.Prelude.{ℕ, Bool, ◌&&◌, Option, Some, None, List, nat_le, if◌then◌else◌}
 use Rattle.std.specs.List.{list_all}
-use Rattle.pol_cursor.specs.declared.fault.Cause.{Cause}
-use Rattle.pol_cursor.specs.declared.fault.Cause.TheVariants.{EmptyName, BadNameByte, DuplicateName, DuplicateValue, ValueOut}
-use Rattle.pol_cursor.specs.declared.field.Field.{Field}
+use Rattle.pol_fields.specs.declared.fault.Cause.{Cause}
+use Rattle.pol_fields.specs.declared.fault.Cause.TheVariants.{EmptyName, BadNameByte, DuplicateName, DuplicateValue, ValueOut}
+use Rattle.pol_fields.specs.declared.field.Field.{Field}
 use Rattle.pol_cursor.specs.Outcome.{Reader}
 use Rattle.pol_cursor.specs.Parts.{number_if, string_if, unless}
 use Rattle.pol_symtab.specs.Claims.{Claims, has_name, has_value}

@@ -4,9 +4,9 @@ use Rattle.std.specs.List.{find, position, count_by, flat_map, AllByRecursion}
 use Rattle.std.specs.Str.{bytes_eq}
 use Rattle.std.specs.Ordering.{is_lt, nat_cmp}
 use Rattle.std.specs.Cmp.Lexicographic.{slice_cmp}
-use Rattle.pol_cursor.specs.declared.fault.Cause.{Cause}
-use Rattle.pol_cursor.specs.declared.fault.Cause.TheVariants.{TableTooLarge}
-use Rattle.pol_cursor.specs.declared.fields.TheConstants.{TABLE_NPRIM, TABLE_NEL}
+use Rattle.pol_fields.specs.declared.fault.Cause.{Cause}
+use Rattle.pol_fields.specs.declared.fault.Cause.TheVariants.{TableTooLarge}
+use Rattle.pol_fields.specs.declared.fields.TheConstants.{TABLE_NPRIM, TABLE_NEL}
 use Rattle.pol_cursor.specs.Outcome.{Reader, ◌>>=◌, done}
 use Rattle.pol_cursor.specs.Parts.{number, number_if, unless, list_of}
 use Rattle.pol_cursor.specs.Spelling.{bytes_of}

@@ -5,7 +5,7 @@ ghost use Rattle.std.specs.List.{list_all};
 ghost use Rattle.pol_symtab.specs.SymbolFields.{length_test, is_name_byte, name_test, value_test, new_value_test, primary_value_test};
 
 use crate::taken::Taken;
-use pol_cursor::Cause;
+use pol_fields::Cause;
 
 /// `EmptyName` where a name would have no byte.
 pub fn length_cause(len: u32) -> Option<Cause>

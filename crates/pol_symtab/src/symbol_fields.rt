@@ -5,7 +5,8 @@ ghost use Rattle.pol_symtab.specs.SymbolFields.{symbol_length_at, symbol_name_at
 
 use crate::causes::{length_cause, name_cause};
 use crate::taken::Taken;
-use pol_cursor::{Cursor, Fault, Field, refuse};
+use pol_cursor::{Cursor, refuse};
+use pol_fields::{Fault, Field};
 
 /// The length of a symbol's name. `EmptyName` where it is 0.
 #[tactic(auto, unfolding(crate::specs::SymbolFields::symbol_length_at), using(pol_cursor::proofs::Facts::number_is))]

@@ -13,9 +13,10 @@ use crate::table_head::{TableHead, read_table_head};
 use crate::taken::{TableContext, Taken};
 use crate::value_index::index_values;
 use pol_cursor::{
-    Copied, Cursor, Fault, Names, OwnedList, ReadError, Records, Referring, check_records,
+    Copied, Cursor, Names, OwnedList, ReadError, Records, Referring, check_records,
     read_records_after,
 };
+use pol_fields::Fault;
 use std::alloc::{AllocError, Global};
 use std::marker::Model;
 

@@ -2,8 +2,9 @@ ghost use Rattle.std.specs.Prelude.{◌≡◌, ◌≤◌, IfOk};
 ghost use Rattle.pol_cursor.specs.Outcome.{Answers};
 ghost use Rattle.pol_symtab.specs.SymbolTables.{nprim_test, table_head_at};
 
-use pol_cursor::fields::{TABLE_NEL, TABLE_NPRIM};
-use pol_cursor::{Cause, Cursor, Fault, refuse};
+use pol_cursor::{Cursor, refuse};
+use pol_fields::fields::{TABLE_NEL, TABLE_NPRIM};
+use pol_fields::{Cause, Fault};
 
 /// The numbers before the records of a table.
 #[derive(Clone, Copy, Debug, PartialEq, Eq)]

@@ -1,8 +1,8 @@
 -- The two laws of transitions and role allows, and of their lists.
 use Rattle.std.proofs.Common.{List, ℕ, None, append_assoc}
 use Rattle.std.proofs.lemmas.List.{append-nil}
-use Rattle.pol_cursor.specs.declared.field.Field.{Field}
-use Rattle.pol_cursor.specs.declared.fields.TheConstants.{ROLETRANS_ROLE, ROLETRANS_TYPE, ROLETRANS_NEWROLE, ROLETRANS_CLASS, ROLEALLOW_ROLE, ROLEALLOW_NEWROLE, NAMETRANS_LEN, NAMETRANS_NAME, NAMETRANS_SOURCE, NAMETRANS_TARGET, NAMETRANS_CLASS, NAMETRANS_DEFAULT, NAMEGROUP_LEN, NAMEGROUP_NAME, NAMEGROUP_TARGET, NAMEGROUP_CLASS, NAMEGROUP_NDATUM, NAMEGROUP_DEFAULT, RANGETRANS_SOURCE, RANGETRANS_TARGET, RANGETRANS_CLASS}
+use Rattle.pol_fields.specs.declared.field.Field.{Field}
+use Rattle.pol_fields.specs.declared.fields.TheConstants.{ROLETRANS_ROLE, ROLETRANS_TYPE, ROLETRANS_NEWROLE, ROLETRANS_CLASS, ROLEALLOW_ROLE, ROLEALLOW_NEWROLE, NAMETRANS_LEN, NAMETRANS_NAME, NAMETRANS_SOURCE, NAMETRANS_TARGET, NAMETRANS_CLASS, NAMETRANS_DEFAULT, NAMEGROUP_LEN, NAMEGROUP_NAME, NAMEGROUP_TARGET, NAMEGROUP_CLASS, NAMEGROUP_NDATUM, NAMEGROUP_DEFAULT, RANGETRANS_SOURCE, RANGETRANS_TARGET, RANGETRANS_CLASS}
 use Rattle.pol_cursor.specs.Outcome.{Reader}
 use Rattle.pol_cursor.specs.Parts.{counted, records_at, spell_counted, CountedFits}
 use Rattle.pol_cursor.specs.Laws.{IsReadAgain, IsReadFromSpelling}

@@ -1,8 +1,8 @@
 -- Record 23: a group of file-name transitions with one name, target and class, which version 33 brought. Each of its data has the
 -- sources and the default type that objects of theirs have (libsepol's filename_trans_read_one).
 use Rattle.std.specs.Prelude.{ℕ, ◌+◌, ◌*◌, ◌^◌, ◌<◌, ◌≤◌, None, List, ◌∷◌, ◌++◌, length, map}
-use Rattle.pol_cursor.specs.declared.table_kind.TableKind.TheVariants.{Types, Classes}
-use Rattle.pol_cursor.specs.declared.fields.TheConstants.{NAMEGROUP_LEN, NAMEGROUP_NAME, NAMEGROUP_TARGET, NAMEGROUP_CLASS, NAMEGROUP_NDATUM, NAMEGROUP_DEFAULT}
+use Rattle.pol_fields.specs.declared.table_kind.TableKind.TheVariants.{Types, Classes}
+use Rattle.pol_fields.specs.declared.fields.TheConstants.{NAMEGROUP_LEN, NAMEGROUP_NAME, NAMEGROUP_TARGET, NAMEGROUP_CLASS, NAMEGROUP_NDATUM, NAMEGROUP_DEFAULT}
 use Rattle.pol_cursor.specs.Outcome.{Reader, ◌>>=◌, done}
 use Rattle.pol_cursor.specs.Parts.{num, number, counted, records_at, spell_counted, CountedFits}
 use Rattle.pol_cursor.specs.References.{Placed, Reference, values_of}

@@ -1,8 +1,8 @@
 -- Record 22: a file-name transition, by which an object of a class that a source makes under a name in an object of a target
 -- has the default type (libsepol's filename_trans_read_one_compat).
 use Rattle.std.specs.Prelude.{ℕ, ◌+◌, ◌^◌, ◌<◌, ◌≤◌, List, [], ◌∷◌, ◌++◌, length}
-use Rattle.pol_cursor.specs.declared.table_kind.TableKind.TheVariants.{Types, Classes}
-use Rattle.pol_cursor.specs.declared.fields.TheConstants.{NAMETRANS_LEN, NAMETRANS_NAME, NAMETRANS_SOURCE, NAMETRANS_TARGET, NAMETRANS_CLASS, NAMETRANS_DEFAULT}
+use Rattle.pol_fields.specs.declared.table_kind.TableKind.TheVariants.{Types, Classes}
+use Rattle.pol_fields.specs.declared.fields.TheConstants.{NAMETRANS_LEN, NAMETRANS_NAME, NAMETRANS_SOURCE, NAMETRANS_TARGET, NAMETRANS_CLASS, NAMETRANS_DEFAULT}
 use Rattle.pol_cursor.specs.Outcome.{Reader, ◌>>=◌, done}
 use Rattle.pol_cursor.specs.Parts.{num, number}
 use Rattle.pol_cursor.specs.References.{Placed, Reference}

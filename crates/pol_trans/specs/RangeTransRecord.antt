@@ -1,8 +1,8 @@
 -- Record 35: a range transition, by which an object of a class that a source makes from a target has a range of MLS (libsepol's
 -- range_read).
 use Rattle.std.specs.Prelude.{ℕ, ◌+◌, ◌^◌, ◌<◌, List, ◌∷◌, ◌++◌}
-use Rattle.pol_cursor.specs.declared.table_kind.TableKind.TheVariants.{Types, Classes}
-use Rattle.pol_cursor.specs.declared.fields.TheConstants.{RANGETRANS_SOURCE, RANGETRANS_TARGET, RANGETRANS_CLASS}
+use Rattle.pol_fields.specs.declared.table_kind.TableKind.TheVariants.{Types, Classes}
+use Rattle.pol_fields.specs.declared.fields.TheConstants.{RANGETRANS_SOURCE, RANGETRANS_TARGET, RANGETRANS_CLASS}
 use Rattle.pol_cursor.specs.Outcome.{Reader, ◌>>=◌, done}
 use Rattle.pol_cursor.specs.Parts.{num, number}
 use Rattle.pol_cursor.specs.References.{Placed, Reference}

@@ -1,7 +1,7 @@
 -- Record 21: a role allow, by which a process may change from one role to another (libsepol's role_allow_read).
 use Rattle.std.specs.Prelude.{ℕ, ◌+◌, ◌^◌, ◌<◌, ◌≤◌, List, [], ◌∷◌, ◌++◌, length}
-use Rattle.pol_cursor.specs.declared.table_kind.TableKind.TheVariants.{Roles}
-use Rattle.pol_cursor.specs.declared.fields.TheConstants.{ROLEALLOW_ROLE, ROLEALLOW_NEWROLE}
+use Rattle.pol_fields.specs.declared.table_kind.TableKind.TheVariants.{Roles}
+use Rattle.pol_fields.specs.declared.fields.TheConstants.{ROLEALLOW_ROLE, ROLEALLOW_NEWROLE}
 use Rattle.pol_cursor.specs.Outcome.{Reader, ◌>>=◌, done}
 use Rattle.pol_cursor.specs.Parts.{num, number}
 use Rattle.pol_cursor.specs.References.{Placed, Reference}

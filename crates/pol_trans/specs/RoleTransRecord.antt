@@ -1,8 +1,8 @@
 -- Record 20: a role transition, by which a process of a role that runs a file of a type changes to another role (libsepol's
 -- role_trans_read). Its class is that of the new object.
 use Rattle.std.specs.Prelude.{ℕ, ◌+◌, ◌^◌, ◌<◌, ◌≤◌, List, [], ◌∷◌, ◌++◌, length}
-use Rattle.pol_cursor.specs.declared.table_kind.TableKind.TheVariants.{Roles, Types, Classes}
-use Rattle.pol_cursor.specs.declared.fields.TheConstants.{ROLETRANS_ROLE, ROLETRANS_TYPE, ROLETRANS_NEWROLE, ROLETRANS_CLASS}
+use Rattle.pol_fields.specs.declared.table_kind.TableKind.TheVariants.{Roles, Types, Classes}
+use Rattle.pol_fields.specs.declared.fields.TheConstants.{ROLETRANS_ROLE, ROLETRANS_TYPE, ROLETRANS_NEWROLE, ROLETRANS_CLASS}
 use Rattle.pol_cursor.specs.Outcome.{Reader, ◌>>=◌, done}
 use Rattle.pol_cursor.specs.Parts.{num, number}
 use Rattle.pol_cursor.specs.References.{Placed, Reference}

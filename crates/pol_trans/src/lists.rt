@@ -12,8 +12,9 @@ use crate::range_trans_rec::RangeTransRec;
 use crate::role_allow_rec::RoleAllowRec;
 use crate::role_trans_rec::RoleTransRec;
 use crate::transition::TransitionKind;
-use pol_cursor::fields::{RANGETRANS_COUNT, ROLEALLOW_COUNT, ROLETRANS_COUNT};
-use pol_cursor::{Cursor, Field, ReadAlone, ReadError, Records, read_counted};
+use pol_cursor::{Cursor, ReadAlone, ReadError, Records, read_counted};
+use pol_fields::Field;
+use pol_fields::fields::{RANGETRANS_COUNT, ROLEALLOW_COUNT, ROLETRANS_COUNT};
 use std::alloc::Global;
 
 /// The role transitions of a policy. Contracts see the list of them, each with its place.

@@ -5,9 +5,10 @@ ghost use Rattle.pol_trans.specs.NameGroupRecord.{name_datum_in, HasNameDatum, n
 use crate::name_datum_rec::NameDatumRec;
 use crate::transition::{Stored, TransitionView};
 use pol_bitmap::{BitmapView, Set};
-use pol_cursor::TableKind::Types;
-use pol_cursor::fields::NAMEGROUP_DEFAULT;
-use pol_cursor::{Copied, Cursor, Fault, Inner, Names, Record, RecordView, dangling, u32_in};
+use pol_cursor::{Copied, Cursor, Inner, Names, Record, RecordView, dangling, u32_in};
+use pol_fields::Fault;
+use pol_fields::TableKind::Types;
+use pol_fields::fields::NAMEGROUP_DEFAULT;
 use std::alloc::{AllocError, Global};
 use std::marker::PhantomData;
 

@@ -8,12 +8,13 @@ use crate::name_group_rec::NameGroupRec;
 use crate::name_parts::{behind_name, name_standing};
 use crate::transition::{Stored, Transition, TransitionView, read_transition};
 use pol_bitmap::BitmapView;
-use pol_cursor::TableKind::{Classes, Types};
-use pol_cursor::fields::{
-    NAMEGROUP_CLASS, NAMEGROUP_LEN, NAMEGROUP_NAME, NAMEGROUP_NDATUM, NAMEGROUP_TARGET,
-};
 use pol_cursor::{
-    ByteList, Cursor, Fault, Mention, Names, Run, first_dangling, read_name, read_run, u32_in,
+    ByteList, Cursor, Mention, Names, Run, first_dangling, read_name, read_run, u32_in,
+};
+use pol_fields::Fault;
+use pol_fields::TableKind::{Classes, Types};
+use pol_fields::fields::{
+    NAMEGROUP_CLASS, NAMEGROUP_LEN, NAMEGROUP_NAME, NAMEGROUP_NDATUM, NAMEGROUP_TARGET,
 };
 use std::alloc::{AllocError, Global};
 

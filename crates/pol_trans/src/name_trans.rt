@@ -2,8 +2,8 @@ ghost use Rattle.pol_cursor.specs.Outcome.{Yields};
 ghost use Rattle.pol_trans.specs.NameTransitions.{name_transitions_at};
 
 use crate::lists::{NameGroupList, NameTransList, read_list};
-use pol_cursor::fields::{NAMEGROUP_COUNT, NAMETRANS_COUNT};
 use pol_cursor::{Cursor, ReadError};
+use pol_fields::fields::{NAMEGROUP_COUNT, NAMETRANS_COUNT};
 use std::alloc::Global;
 
 /// The file-name transitions of a policy.

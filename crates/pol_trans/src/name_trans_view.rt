@@ -5,12 +5,13 @@ ghost use Rattle.pol_trans.specs.NameTransRecord.{name_trans_at, name_trans_in, 
 use crate::name_parts::{behind_name, name_standing};
 use crate::name_trans_rec::NameTransRec;
 use crate::transition::{Stored, Transition, TransitionView, read_transition};
-use pol_cursor::TableKind::{Classes, Types};
-use pol_cursor::fields::{
+use pol_cursor::{ByteList, Cursor, Mention, Names, first_dangling, read_name, u32_in};
+use pol_fields::Fault;
+use pol_fields::TableKind::{Classes, Types};
+use pol_fields::fields::{
     NAMETRANS_CLASS, NAMETRANS_DEFAULT, NAMETRANS_LEN, NAMETRANS_NAME, NAMETRANS_SOURCE,
     NAMETRANS_TARGET,
 };
-use pol_cursor::{ByteList, Cursor, Fault, Mention, Names, first_dangling, read_name, u32_in};
 use std::alloc::{AllocError, Global};
 
 /// A file-name transition in the buffer.

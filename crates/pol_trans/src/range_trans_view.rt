@@ -4,9 +4,10 @@ ghost use Rattle.pol_trans.specs.RangeTransRecord.{range_trans_at, range_trans_i
 
 use crate::range_trans_rec::RangeTransRec;
 use crate::transition::{Stored, Transition, TransitionView, read_transition};
-use pol_cursor::TableKind::{Classes, Types};
-use pol_cursor::fields::{RANGETRANS_CLASS, RANGETRANS_SOURCE, RANGETRANS_TARGET};
-use pol_cursor::{Cursor, Fault, Mention, Names, first_dangling, u32_in};
+use pol_cursor::{Cursor, Mention, Names, first_dangling, u32_in};
+use pol_fields::Fault;
+use pol_fields::TableKind::{Classes, Types};
+use pol_fields::fields::{RANGETRANS_CLASS, RANGETRANS_SOURCE, RANGETRANS_TARGET};
 use pol_mls::{RangeView, read_range};
 use std::alloc::{AllocError, Global};
 

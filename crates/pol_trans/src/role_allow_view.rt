@@ -4,9 +4,10 @@ ghost use Rattle.pol_trans.specs.RoleAllowRecord.{role_allow_at, role_allow_in, 
 
 use crate::role_allow_rec::RoleAllowRec;
 use crate::transition::{Stored, Transition, TransitionView, read_transition};
-use pol_cursor::TableKind::Roles;
-use pol_cursor::fields::{ROLEALLOW_NEWROLE, ROLEALLOW_ROLE};
-use pol_cursor::{Cursor, Fault, Mention, Names, first_dangling, u32_in};
+use pol_cursor::{Cursor, Mention, Names, first_dangling, u32_in};
+use pol_fields::Fault;
+use pol_fields::TableKind::Roles;
+use pol_fields::fields::{ROLEALLOW_NEWROLE, ROLEALLOW_ROLE};
 use std::alloc::{AllocError, Global};
 
 /// A role allow in the buffer.

@@ -4,9 +4,10 @@ ghost use Rattle.pol_trans.specs.RoleTransRecord.{role_trans_at, role_trans_in, 
 
 use crate::role_trans_rec::RoleTransRec;
 use crate::transition::{Stored, Transition, TransitionView, read_transition};
-use pol_cursor::TableKind::{Classes, Roles, Types};
-use pol_cursor::fields::{ROLETRANS_CLASS, ROLETRANS_NEWROLE, ROLETRANS_ROLE, ROLETRANS_TYPE};
-use pol_cursor::{Cursor, Fault, Mention, Names, first_dangling, u32_in};
+use pol_cursor::{Cursor, Mention, Names, first_dangling, u32_in};
+use pol_fields::Fault;
+use pol_fields::TableKind::{Classes, Roles, Types};
+use pol_fields::fields::{ROLETRANS_CLASS, ROLETRANS_NEWROLE, ROLETRANS_ROLE, ROLETRANS_TYPE};
 use std::alloc::{AllocError, Global};
 
 /// A role transition in the buffer.

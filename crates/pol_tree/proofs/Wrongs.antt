@@ -2,7 +2,7 @@
 use Rattle.std.proofs.Common.{◌≡◌, ℕ, ◌+◌, ◌<◌, ◌≤◌, Option, Some, None, List, length, drop, get_or, refl, add-one}
 use Rattle.std.proofs.Math.Seq.{drop-cons}
 use Rattle.std.proofs.lemmas.List.{drop_all}
-use Rattle.pol_cursor.specs.declared.Field.{Field}
+use Rattle.pol_fields.specs.declared.Field.{Field}
 use Rattle.pol_laws.specs.OptionalParts.{first_of, first_in}
 
 -- ---- of parts

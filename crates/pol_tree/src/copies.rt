@@ -4,7 +4,7 @@ ghost use Rattle.pol_tree.specs.PolicyTree.{nprims_of, tree_of};
 use crate::copied_lists::{copy_contexts, copy_rows, copy_rules, copy_symbols};
 use crate::tree::Tree;
 use pol_bitmap::Set;
-use pol_cursor::TableKind;
+use pol_fields::TableKind;
 use pol_read::Policy;
 use pol_symbols::Symbols;
 use std::alloc::{AllocError, Global};

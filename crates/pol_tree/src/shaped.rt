@@ -1,9 +1,10 @@
 // The optional parts of records and of lists.
 ghost use Rattle.std.specs.Prelude.{◌≡◌, ℕ, Option};
-ghost use Rattle.pol_cursor.specs.declared.Field.{Field};
+ghost use Rattle.pol_fields.specs.declared.Field.{Field};
 ghost use Rattle.pol_laws.specs.OptionalParts.{wrong_if, shape_of_part, shape_of_list, first_of, first_in};
 
-use pol_cursor::{Field, OwnedList};
+use pol_cursor::OwnedList;
+use pol_fields::Field;
 
 /// A record or a list of records, of which some have parts that stand in the file or not.
 pub trait Shaped {

@@ -4,8 +4,8 @@ ghost use Rattle.pol_tree.specs.TreeShape.{shape_of_symbols, shape_of_rules, sha
 
 use crate::shaped::{Shaped, first_wrong, wrong_list, wrong_where};
 use crate::tree::Tree;
-use pol_cursor::Field;
-use pol_cursor::fields::{
+use pol_fields::Field;
+use pol_fields::fields::{
     BITMAP_UNIT, IBENDPORT_COUNT, IBPKEY_COUNT, NAMEGROUP_COUNT, NAMETRANS_COUNT,
 };
 

@@ -1,9 +1,9 @@
 -- The tree of a policy that was read fits: each part of it does.
 use Rattle.std.proofs.Common.{ℕ, Bool, true, false, None, List, [], refl, if◌then◌else◌, lit<}
 use Rattle.std.specs.List.{AllByRecursion}
-use Rattle.pol_cursor.specs.declared.Field.{Field}
-use Rattle.pol_cursor.specs.declared.field.Field.{Field}
-use Rattle.pol_cursor.specs.declared.fields.TheConstants.{FS_COUNT, FS_LEN, FS_NAME, NETIF_COUNT, NETIF_LEN, NETIF_NAME, NODE_COUNT, NODE_ADDRESS, NODE_MASK, NODE6_COUNT, NODE6_ADDRESS, NODE6_MASK, END_END}
+use Rattle.pol_fields.specs.declared.Field.{Field}
+use Rattle.pol_fields.specs.declared.field.Field.{Field}
+use Rattle.pol_fields.specs.declared.fields.TheConstants.{FS_COUNT, FS_LEN, FS_NAME, NETIF_COUNT, NETIF_LEN, NETIF_NAME, NODE_COUNT, NODE_ADDRESS, NODE_MASK, NODE6_COUNT, NODE6_ADDRESS, NODE6_MASK, END_END}
 use Rattle.pol_cursor.specs.Parts.{end_at, CountedFits}
 use Rattle.pol_cursor.specs.References.{values_of}
 use Rattle.pol_cursor.proofs.Laws.{Reads-as}

@@ -1,7 +1,7 @@
 -- Both laws of the lists of a policy, each seen without the places of its records.
 use Rattle.std.proofs.Common.{◌≡◌, ℕ, Bool, true, false, List, [], length, refl, subst}
 use Rattle.std.specs.List.{flat_map, AllByRecursion}
-use Rattle.pol_cursor.specs.declared.Field.{Field}
+use Rattle.pol_fields.specs.declared.Field.{Field}
 use Rattle.pol_cursor.specs.Outcome.{Reader}
 use Rattle.pol_cursor.specs.Parts.{number, list_of, records_at, counted, spell_counted, CountedFits}
 use Rattle.pol_cursor.specs.References.{Placed, placed, values_of}

@@ -1,7 +1,7 @@
 -- Which trees are policies, and why the others are not (this project's profile; what the bytes have to be is acceptance).
 use Rattle.std.specs.Prelude.{◌≡◌, ℕ, nat_le, Option, Some, None, Result, Ok, Err, List, length, if◌then◌else◌}
-use Rattle.pol_cursor.specs.declared.Fault.{Fault}
-use Rattle.pol_cursor.specs.declared.Field.{Field}
+use Rattle.pol_fields.specs.declared.Fault.{Fault}
+use Rattle.pol_fields.specs.declared.Field.{Field}
 use Rattle.pol_file.specs.declared.Parts.{Parts}
 use Rattle.pol_file.specs.Acceptance.{accept}
 use Rattle.pol_tree.specs.declared.Tree.{Tree}

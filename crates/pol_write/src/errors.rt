@@ -1,4 +1,4 @@
-use pol_cursor::{Fault, Field};
+use pol_fields::{Fault, Field};
 use std::alloc::AllocError;
 
 /// Why a tree cannot be written as a policy.

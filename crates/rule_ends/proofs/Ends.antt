@@ -7,8 +7,8 @@ use Rattle.std.proofs.lemmas.List.{length_push, get_or_push, get_or_append_left}
 use Rattle.std.proofs.lemmas.List.Elements.{All-push, All-head, All-tail}
 use Rattle.std.proofs.lemmas.Option.{none-some, same_Some, slice_get_within}
 use Rattle.pol_cursor.specs.References.{Placed}
-use Rattle.pol_cursor.specs.declared.TableKind.{TableKind}
-use Rattle.pol_cursor.specs.declared.TableKind.TheVariants.{Types}
+use Rattle.pol_fields.specs.declared.TableKind.{TableKind}
+use Rattle.pol_fields.specs.declared.TableKind.TheVariants.{Types}
 use Rattle.pol_symtab.specs.SymbolTables.{declares, primary_name}
 use Rattle.pol_datums.specs.declared.TypeRec.{TypeRec}
 use Rattle.pol_datums.specs.declared.Flavour.TheVariants.{Plain, Attribute}

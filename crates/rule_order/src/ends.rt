@@ -2,7 +2,7 @@
 ghost use Rattle.std.specs.Prelude.{◌≡◌};
 ghost use Rattle.pol_rules.specs.RuleOrder.{source_table, target_table};
 
-use pol_cursor::TableKind;
+use pol_fields::TableKind;
 use pol_read::RuleKind;
 
 /// The table that declares the sources of the rules of a kind: roles, or types with the attributes.

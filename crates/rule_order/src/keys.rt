@@ -8,7 +8,7 @@ ghost use Rattle.pol_symbols.specs.PolicySymbols.{rank_in};
 ghost use Rattle.rule_order.specs.Keys.{AreWords, key_of_ends, key_of_word, keys_total, names_number, plain_cmp, rank_or_zero};
 
 use crate::ends::{table_of_source, table_of_target};
-use pol_cursor::TableKind;
+use pol_fields::TableKind;
 use pol_read::RuleEnds;
 use pol_symbols::Symbols;
 use std::cmp::Ordering;

@@ -6,7 +6,7 @@ use Rattle.std.specs.List.{filter, list_any, list_all, range_with_len}
 use Rattle.std.specs.List.Sorted.{IsStrictlyIncreasing}
 use Rattle.pol_bitmap.proofs.Elements.{kept, keeps, contains_range}
 use Rattle.pol_expand.proofs.Values.{filter_rises}
-use Rattle.pol_cursor.specs.declared.TableKind.TheVariants.{Booleans}
+use Rattle.pol_fields.specs.declared.TableKind.TheVariants.{Booleans}
 use Rattle.pol_bitmap.specs.declared.Node.{Node}
 use Rattle.pol_bitmap.specs.Nodes.{bits_of, has_bit}
 use Rattle.pol_bitmap.specs.Sets.{ShareBit, ContainsEach}

@@ -1,6 +1,6 @@
 -- Tests pass exactly the rules that meet their criteria.
 use Rattle.std.proofs.Common.{◌≡◌, ℕ, ◌<◌, Option, Some, None, List, length, refl}
-use Rattle.pol_cursor.specs.declared.TableKind.TheVariants.{Classes}
+use Rattle.pol_fields.specs.declared.TableKind.TheVariants.{Classes}
 use Rattle.pol_bitmap.specs.declared.Node.{Node}
 use Rattle.pol_bitmap.specs.Nodes.{has_bit}
 use Rattle.pol_symbols.specs.declared.Symbols.{Symbols}

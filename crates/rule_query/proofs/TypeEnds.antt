@@ -3,7 +3,7 @@ use Rattle.std.proofs.Common.{◌≡◌, ℕ, Bool, true, false, Option, Some, N
 use Rattle.std.specs.Prelude.{nat_eq, is_some, option_map, Contains, if◌then◌else◌}
 use Rattle.std.specs.List.{find, list_any, All}
 use Rattle.pol_cursor.specs.References.{Placed}
-use Rattle.pol_cursor.specs.declared.TableKind.TheVariants.{Types}
+use Rattle.pol_fields.specs.declared.TableKind.TheVariants.{Types}
 use Rattle.pol_bitmap.specs.declared.Node.{Node}
 use Rattle.pol_bitmap.specs.Nodes.{bits_of, has_bit}
 use Rattle.std.proofs.lemmas.List.Elements.{All-head, All-tail}

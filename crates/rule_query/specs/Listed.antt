@@ -2,8 +2,8 @@
 use Rattle.std.specs.Prelude.{ℕ, Bool, false, ◌&&◌, nat_eq, Option, Some, None, List, [], slice_get, if◌then◌else◌}
 use Rattle.std.specs.List.{filter_map, list_any, list_all}
 use Rattle.pol_cursor.specs.References.{Placed}
-use Rattle.pol_cursor.specs.declared.TableKind.{TableKind}
-use Rattle.pol_cursor.specs.declared.TableKind.TheVariants.{Classes, Booleans}
+use Rattle.pol_fields.specs.declared.TableKind.{TableKind}
+use Rattle.pol_fields.specs.declared.TableKind.TheVariants.{Classes, Booleans}
 use Rattle.pol_symbols.specs.PolicySymbols.{value_in}
 use Rattle.pol_symbols.specs.declared.Symbols.{Symbols}
 use Rattle.pol_expr.specs.ConditionMeaning.{booleans_in}

@@ -1,6 +1,6 @@
 // What a criterion asks of the source or the target of rules, as sets of values.
 ghost use Rattle.std.specs.Prelude.{◌≡◌, ℕ, IfOk};
-ghost use Rattle.pol_cursor.specs.declared.TableKind.TheVariants.{Types};
+ghost use Rattle.pol_fields.specs.declared.TableKind.TheVariants.{Types};
 ghost use Rattle.pol_bitmap.specs.Nodes.{bits_of, has_bit};
 ghost use Rattle.pol_file.specs.TypeValues.{IsTypeValue};
 ghost use Rattle.pol_expand.specs.PolicyMap.{IsPolicyMap, expand};
@@ -11,8 +11,8 @@ ghost use Rattle.rule_query.specs.Tests.{AreEnds, AreMeant, HasPattern, IsMapIfM
 use crate::marked_set::MarkedSet;
 use named_values::{values_found, values_named};
 use pol_bitmap::Set;
-use pol_cursor::TableKind;
 use pol_expand::{TypeMap, type_map};
+use pol_fields::TableKind;
 use pol_read::Policy;
 use pol_symbols::Symbols;
 use regex::Regex;

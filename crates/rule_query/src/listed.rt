@@ -1,7 +1,7 @@
 // What a criterion asks of the class and the condition of rules, as sets of numbers.
 ghost use Rattle.std.specs.Prelude.{◌≡◌, ◌↔◌, ◌<◌, ℕ, IfOk, IsTrue, length};
 ghost use Rattle.std.specs.List.{filter, range_with_len};
-ghost use Rattle.pol_cursor.specs.declared.TableKind.TheVariants.{Booleans};
+ghost use Rattle.pol_fields.specs.declared.TableKind.TheVariants.{Booleans};
 ghost use Rattle.pol_bitmap.specs.Nodes.{bits_of, has_bit};
 ghost use Rattle.pol_bitmap.specs.Sets.{ContainsEach};
 ghost use Rattle.rule_query.specs.Listed.{is_listed, meets_node};
@@ -9,7 +9,7 @@ ghost use Rattle.rule_query.specs.Tests.{HasPattern};
 
 use named_values::{values_found, values_named};
 use pol_bitmap::Set;
-use pol_cursor::TableKind;
+use pol_fields::TableKind;
 use pol_read::Policy;
 use pol_symbols::Symbols;
 use regex::Regex;

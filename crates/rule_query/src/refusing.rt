@@ -7,7 +7,7 @@ ghost use Rattle.rule_query.specs.Refusals.{is_end_missing, is_missing, is_patte
 
 use crate::given::{Aspect, GivenCriterion};
 use crate::kinds::is_any_asked;
-use pol_cursor::TableKind;
+use pol_fields::TableKind;
 use pol_read::RuleKind;
 use pol_symbols::Symbols;
 use rule_tests::{elements, span_of};

@@ -7,7 +7,7 @@ use crate::ends::Ends;
 use crate::marked_set::has_value;
 use crate::numbered_rule::NumberedRule;
 use pol_bitmap::Set;
-use pol_cursor::TableKind;
+use pol_fields::TableKind;
 use pol_read::{Condition, RuleEnds, RuleKind, RulePart};
 use pol_symbols::Symbols;
 use rule_order::{table_of_source, table_of_target};

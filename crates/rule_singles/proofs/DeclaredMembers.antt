@@ -4,7 +4,7 @@ use Rattle.std.specs.Prelude.{is_some, option_map, ◌&&◌, ◌-◌, if◌then�
 use Rattle.std.specs.List.{All, filter, range_with_len}
 use Rattle.std.proofs.lemmas.List.Elements.{All-cons, All-nil, All-weaker, filter_passes}
 use Rattle.pol_cursor.specs.References.{Placed}
-use Rattle.pol_cursor.specs.declared.TableKind.TheVariants.{Types}
+use Rattle.pol_fields.specs.declared.TableKind.TheVariants.{Types}
 use Rattle.pol_bitmap.specs.Nodes.{has_bit}
 use Rattle.pol_symtab.specs.SymbolTables.{primary_name}
 use Rattle.pol_datums.specs.declared.TypeRec.{TypeRec}

@@ -6,8 +6,8 @@ use Rattle.std.proofs.Math.Seq.{get_or-append_seam}
 use Rattle.std.proofs.lemmas.Bool.{cases_eq}
 use Rattle.std.proofs.lemmas.List.{get_or_append_left}
 use Rattle.std.proofs.lemmas.Option.{get_or_from_slice_get}
-use Rattle.pol_cursor.specs.declared.TableKind.{TableKind}
-use Rattle.pol_cursor.specs.declared.TableKind.TheVariants as tables
+use Rattle.pol_fields.specs.declared.TableKind.{TableKind}
+use Rattle.pol_fields.specs.declared.TableKind.TheVariants as tables
 use Rattle.pol_bitmap.specs.declared.Node.{Node}
 use Rattle.pol_bitmap.specs.Nodes.{bits_of}
 use Rattle.pol_bitmap.specs.Kept.{IsNumberOf}

@@ -2,8 +2,8 @@
 -- that a criterion does not ask for is left out.
 use Rattle.std.specs.Prelude.{ℕ, Bool, true, ◌||◌, Option, Some, None, List, [], ◌∷◌, map, slice_get}
 use Rattle.std.specs.List.{filter}
-use Rattle.pol_cursor.specs.declared.TableKind.{TableKind}
-use Rattle.pol_cursor.specs.declared.TableKind.TheVariants.{Types}
+use Rattle.pol_fields.specs.declared.TableKind.{TableKind}
+use Rattle.pol_fields.specs.declared.TableKind.TheVariants.{Types}
 use Rattle.pol_file.specs.declared.Parts.{Parts}
 use Rattle.pol_expand.specs.PolicyMap.{expand}
 use Rattle.pol_places.specs.declared.Single.{Single}

@@ -1,7 +1,7 @@
 // The sets of types that the ends of rules stand for.
 ghost use Rattle.std.specs.Prelude.{◌≡◌, ◌<◌, ℕ, IfOk, Some, None, length, option_map, slice_index_or};
 ghost use Rattle.std.specs.List.{filter};
-ghost use Rattle.pol_cursor.specs.declared.TableKind.TheVariants.{Types};
+ghost use Rattle.pol_fields.specs.declared.TableKind.TheVariants.{Types};
 ghost use Rattle.pol_bitmap.specs.Nodes.{bits_of};
 ghost use Rattle.pol_expand.specs.PolicyMap.{IsPolicyMap, expand};
 ghost use Rattle.pol_rules.specs.DeclaredRules.{IsDeclaredIn};
@@ -11,8 +11,8 @@ ghost use Rattle.rule_singles.specs.EndSets.{AreAsked, AreSetsOf, Grows, IsNumbe
 use crate::asked_types::{cut, types_left};
 use crate::keeping::{keep, no_numbers};
 use pol_bitmap::{Pool, Set};
-use pol_cursor::TableKind;
 use pol_expand::TypeMap;
+use pol_fields::TableKind;
 use pol_read::Policy;
 use rule_criteria::Criterion;
 use std::alloc::{AllocError, Global};

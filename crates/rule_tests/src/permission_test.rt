@@ -6,7 +6,7 @@ ghost use Rattle.rule_tests.specs.Tests.{meets_mask, permissions_test, IsPermiss
 
 use crate::class_bits::{ClassBits, is_among};
 use crate::text_elements::elements;
-use pol_cursor::TableKind;
+use pol_fields::TableKind;
 use pol_read::RulePart;
 use pol_symbols::Symbols;
 use rule_criteria::{Criterion, Mode};

@@ -1,7 +1,7 @@
 -- The text of a stored rule, as sesearch of SETools prints it (the words and the order of the policy language; what the manual page
 -- leaves open is this project's profile).
 use Rattle.std.specs.Prelude.{ℕ, Option, Some, None, List, [], ◌++◌, codes, slice_get, option_map}
-use Rattle.pol_cursor.specs.declared.TableKind.TheVariants.{Classes}
+use Rattle.pol_fields.specs.declared.TableKind.TheVariants.{Classes}
 use Rattle.pol_mls.specs.MlsTexts.{name_of, range_text}
 use Rattle.pol_symbols.specs.PolicySymbols.{name_in, permissions_in_class}
 use Rattle.pol_symbols.specs.declared.Symbols.{Symbols}

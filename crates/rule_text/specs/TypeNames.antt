@@ -1,6 +1,6 @@
 -- The names of types that were looked up: what serves the code alone.
 use Rattle.std.specs.Prelude.{◌≡◌, ℕ, IfSome, slice_get}
-use Rattle.pol_cursor.specs.declared.TableKind.TheVariants.{Types}
+use Rattle.pol_fields.specs.declared.TableKind.TheVariants.{Types}
 use Rattle.pol_mls.specs.MlsTexts.{name_of}
 use Rattle.pol_symbols.specs.PolicySymbols.{name_in}
 use Rattle.pol_symbols.specs.declared.Symbols.{Symbols}

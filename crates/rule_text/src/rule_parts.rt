@@ -12,7 +12,7 @@ ghost use Rattle.rule_text.specs.RuleTexts.{keyword, class_text, part_text, file
 use crate::ioctl_texts::push_ioctl_text;
 use crate::shown_names::push_shown;
 use pol_commons::PermissionView;
-use pol_cursor::TableKind;
+use pol_fields::TableKind;
 use pol_mls::{RangeView, push_name, range_text};
 use pol_read::{Rule, RuleKind, RulePart};
 use pol_symbols::Symbols;

@@ -1,14 +1,14 @@
 //! The names of types by their values.
 
 ghost use Rattle.std.specs.Prelude.{◌≡◌, ◌++◌, IfOk, OnOk};
-ghost use Rattle.pol_cursor.specs.declared.TableKind.TheVariants.{Types};
+ghost use Rattle.pol_fields.specs.declared.TableKind.TheVariants.{Types};
 ghost use Rattle.pol_mls.specs.MlsTexts.{name_of};
 ghost use Rattle.pol_symbols.specs.PolicySymbols.{name_in};
 ghost use Rattle.pol_rules.specs.RuleOrder.{target_table};
 ghost use Rattle.rule_text.specs.TypeNames.{AreNamesOf};
 
 use crate::rule_parts::push_target;
-use pol_cursor::TableKind;
+use pol_fields::TableKind;
 use pol_mls::push_name;
 use pol_read::RuleKind;
 use pol_symbols::Symbols;

@@ -1,7 +1,7 @@
 -- The texts of transitions, with the rules behind each. They are this project's own.
 use Rattle.std.specs.Prelude.{ℕ, List, ◌++◌, codes}
 use Rattle.std.specs.List.{flat_map}
-use Rattle.pol_cursor.specs.declared.TableKind.TheVariants.{Types}
+use Rattle.pol_fields.specs.declared.TableKind.TheVariants.{Types}
 use Rattle.pol_file.specs.declared.Parts.{Parts}
 use Rattle.pol_mls.specs.MlsTexts.{name_of}
 use Rattle.pol_symbols.specs.PolicySymbols.{name_in}

@@ -1,8 +1,8 @@
 -- The bytes of a policy that is made are accepted.
 use Rattle.std.proofs.Common.{◌≡◌, ◌∙◌, ◌≤◌, ℕ, Bool, true, false, Option, Some, None, Result, Ok, Err, List, length, refl, ap, arith}
 use Rattle.std.specs.Prelude.{nat_le, if◌then◌else◌}
-use Rattle.pol_cursor.specs.declared.Fault.{Fault}
-use Rattle.pol_cursor.specs.declared.Field.{Field}
+use Rattle.pol_fields.specs.declared.Fault.{Fault}
+use Rattle.pol_fields.specs.declared.Field.{Field}
 use Rattle.pol_file.specs.declared.Parts.{Parts}
 use Rattle.pol_file.specs.Acceptance.{accept}
 use Rattle.pol_tree.specs.declared.Tree.{Tree}

@@ -1,6 +1,6 @@
 -- The answer of make.
 use Rattle.std.specs.Prelude.{ℕ, List, [], ◌++◌, codes, length, flat_map, Result, Ok, Err, if◌then◌else◌}
-use Rattle.pol_cursor.specs.declared.Fault.{Fault}
+use Rattle.pol_fields.specs.declared.Fault.{Fault}
 use Rattle.pol_file.specs.Acceptance.{accept}
 use Rattle.pol_file.specs.declared.Parts.{Parts}
 use Rattle.pol_tree.specs.TreeSpelling.{spell}

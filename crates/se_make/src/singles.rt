@@ -1,13 +1,13 @@
 // How many rules between single types there are.
 ghost use Rattle.std.specs.Prelude.{◌≡◌, ◌≤◌, IfOk, length};
-ghost use Rattle.pol_cursor.specs.declared.TableKind.TheVariants.{Types};
+ghost use Rattle.pol_fields.specs.declared.TableKind.TheVariants.{Types};
 ghost use Rattle.pol_expand.specs.PolicyMap.{IsPolicyMap, expand};
 ghost use Rattle.pol_rules.specs.DeclaredRules.{IsDeclaredIn, IsDeclaredRule};
 ghost use Rattle.pol_rules.specs.StoredRules.{stored};
 ghost use Rattle.se_make.specs.Singles.{pairs_of, singles_of, types_of_end};
 
-use pol_cursor::TableKind;
 use pol_expand::{TypeMap, type_map};
+use pol_fields::TableKind;
 use pol_read::{Policy, Rule};
 use rule_order::{table_of_source, table_of_target};
 use std::alloc::{AllocError, Global};

@@ -2,10 +2,10 @@
 use Rattle.std.specs.Prelude.{ℕ, List, [], ◌∷◌, ◌++◌, codes, decimal}
 use Rattle.std.specs.List.{concat}
 use Rattle.perm_map.specs.MapFaults.{cause_word as map_cause_word}
-use Rattle.pol_cursor.specs.declared.Cause.{Cause}
-use Rattle.pol_cursor.specs.declared.Cause.TheVariants.{Dangling}
-use Rattle.pol_cursor.specs.FaultWords.{cause_word, table_word}
-use Rattle.pol_cursor.specs.FieldWords.{field_word}
+use Rattle.pol_fields.specs.declared.Cause.{Cause}
+use Rattle.pol_fields.specs.declared.Cause.TheVariants.{Dangling}
+use Rattle.pol_fields.specs.FaultWords.{cause_word, table_word}
+use Rattle.pol_fields.specs.FieldWords.{field_word}
 use Rattle.se_outside.specs.declared.Slot.{Slot}
 use Rattle.se_outside.specs.declared.Slot.TheVariants.{Policy, Map}
 use Rattle.se_outside.specs.declared.PatternKind.{PatternKind}

@@ -7,7 +7,7 @@ use crate::Status;
 use arrayvec::ArrayString;
 use itoa::Buffer;
 use perm_map::MapFault;
-use pol_cursor::{Cause, Fault};
+use pol_fields::{Cause, Fault};
 use se_items::write_all;
 use se_outside::{Failed, PatternKind, Sink, Slot};
 

@@ -1,6 +1,6 @@
 // How a run ends.
 use perm_map::MapFault;
-use pol_cursor::Fault;
+use pol_fields::Fault;
 use se_outside::{PatternKind, Slot};
 
 /// How a run ends.

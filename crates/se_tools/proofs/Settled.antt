@@ -1,7 +1,7 @@
 -- From the answer of a tool to that about a policy that was read.
 use Rattle.std.proofs.Common.{◌≡◌, ℕ, List, [], true, false, Option, None, Result, Ok, Err, Vec, refl, arith}
 use Rattle.std.specs.Global.{Global}
-use Rattle.pol_cursor.specs.declared.Fault.{Fault}
+use Rattle.pol_fields.specs.declared.Fault.{Fault}
 use Rattle.pol_file.specs.declared.Parts.{Parts}
 use Rattle.se_outside.specs.Outside.{IsAsked, NoneAsked, SlotState, World, told}
 use Rattle.se_outside.specs.declared.Slot.{Slot}

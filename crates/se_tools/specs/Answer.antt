@@ -1,6 +1,6 @@
 -- The answer of the program to the words about the contents of the files.
 use Rattle.std.specs.Prelude.{ℕ, List, [], length, Option, Some, None, option_map, Result, Ok, Err, nat_lt, if◌then◌else◌}
-use Rattle.pol_cursor.specs.declared.Fault.{Fault}
+use Rattle.pol_fields.specs.declared.Fault.{Fault}
 use Rattle.pol_file.specs.Acceptance.{accept}
 use Rattle.pol_file.specs.declared.Parts.{Parts}
 use Rattle.rule_query.specs.Given.{Given}

@@ -1,6 +1,6 @@
 -- How a run meets the answer to the words.
 use Rattle.std.specs.Prelude.{◌≡◌, ◌≤◌, ◌+◌, ℕ, List, length, true, ⊤, Option, Some, None, Result, Ok, Err, IsOk, IsSome, MatchOption}
-use Rattle.pol_cursor.specs.declared.Fault.{Fault}
+use Rattle.pol_fields.specs.declared.Fault.{Fault}
 use Rattle.pol_file.specs.Acceptance.{accept}
 use Rattle.pol_file.specs.declared.Parts.{Parts}
 use Rattle.se_outside.specs.Outside.{Rose, SlotState, World, told, IsAsked}

@@ -2,7 +2,7 @@
 ghost use Rattle.std.specs.Prelude.{◌≡◌, ◌++◌, OnOk};
 ghost use Rattle.se_walks.specs.WalkTexts.{ends_text};
 
-use pol_cursor::TableKind;
+use pol_fields::TableKind;
 use pol_mls::push_name;
 use pol_symbols::Symbols;
 use std::alloc::AllocError;

@@ -9,9 +9,9 @@ ghost use Rattle.se_walks.specs.TypeNames.{first_unknown, is_excluded, plain_val
 
 use named_values::values_named;
 use pol_bitmap::Set;
-use pol_cursor::TableKind;
 use pol_datums::Flavour;
 use pol_expand::is_flavour;
+use pol_fields::TableKind;
 use pol_read::Policy;
 use pol_symbols::Symbols;
 use se_options::Named;

@@ -2,7 +2,7 @@ use Rattle.std.proofs.Common.{◌≡◌, List, ℕ, Some, IfOk, slice_get, map, 
 use Rattle.pol_bitmap.specs.declared.Node.{Node}
 use Rattle.std.specs.List.{Contains}
 use Rattle.pol_expand.specs.Expansion.{IsDeclared}
-use Rattle.pol_cursor.specs.declared.TableKind.TheVariants.{Types}
+use Rattle.pol_fields.specs.declared.TableKind.TheVariants.{Types}
 use Rattle.pol_symbols.specs.declared.symbols.Symbols.{Symbols}
 use Rattle.info_lines.specs.NameSets.{names_of_values}
 use Rattle.pol_expand.proofs.PolicyMaps.{members_are}

@@ -1,5 +1,5 @@
 use Rattle.std.proofs.Common.{◌≡◌, ◌++◌, List, ℕ, Bor, OnOk, map, sym, ap, subst, ◌∙◌}
-use Rattle.pol_cursor.specs.declared.TableKind.TheVariants.{Types}
+use Rattle.pol_fields.specs.declared.TableKind.TheVariants.{Types}
 use Rattle.info_lines.specs.NameSets.{names_of_values}
 use Rattle.pol_expand.specs.PolicyMap.{expand}
 use Rattle.info_symbols.specs.AttributeStatement.{statement_text}

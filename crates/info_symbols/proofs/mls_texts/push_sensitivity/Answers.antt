@@ -1,7 +1,7 @@
 use Rattle.std.proofs.Common.{◌≡◌, ℕ, List, ◌++◌, Bool, true, append_assoc, ap}
 use Rattle.std.specs.Prelude.{codes, slice_index_or, []}
 use Rattle.std.proofs.lemmas.Result.{on_ok_weaker}
-use Rattle.pol_cursor.specs.declared.TableKind.TheVariants.{Levels}
+use Rattle.pol_fields.specs.declared.TableKind.TheVariants.{Levels}
 use Rattle.pol_datums.specs.declared.SensitivityRec.{SensitivityRec}
 use Rattle.pol_symbols.specs.declared.symbols.Symbols.{Symbols}
 use Rattle.pol_texts.specs.NameLists.{in_order}

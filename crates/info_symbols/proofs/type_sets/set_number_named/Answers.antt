@@ -1,5 +1,5 @@
 use Rattle.std.proofs.Common.{◌<◌, length, refl, sym, subst}
-use Rattle.pol_cursor.specs.declared.TableKind.TheVariants.{Types}
+use Rattle.pol_fields.specs.declared.TableKind.TheVariants.{Types}
 use Rattle.pol_symbols.specs.declared.symbols.Symbols.{Symbols}
 use Rattle.info_lines.proofs.Placing.{named_within}
 use Rattle.info_symbols.proofs.type_sets.set_number_named.Goals as goal

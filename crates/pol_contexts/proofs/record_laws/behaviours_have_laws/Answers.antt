@@ -1,4 +1,4 @@
-use Rattle.pol_cursor.specs.declared.fields.TheConstants.{FSUSE_COUNT}
+use Rattle.pol_fields.specs.declared.fields.TheConstants.{FSUSE_COUNT}
 use Rattle.pol_context.proofs.ContextLaws.{entries_spelled, entries_again}
 use Rattle.pol_contexts.specs.FsUseRecord.{fsuse_at, spell_fsuse, FsUseFits}
 use Rattle.pol_contexts.proofs.ContextLaws.{fsuse_spelled, fsuse_again}

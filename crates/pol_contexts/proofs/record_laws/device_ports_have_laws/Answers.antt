@@ -1,4 +1,4 @@
-use Rattle.pol_cursor.specs.declared.fields.TheConstants.{IBENDPORT_COUNT}
+use Rattle.pol_fields.specs.declared.fields.TheConstants.{IBENDPORT_COUNT}
 use Rattle.pol_context.proofs.ContextLaws.{entries_spelled, entries_again}
 use Rattle.pol_contexts.specs.IbEndPortRecord.{ibendport_at, spell_ibendport, IbEndPortFits}
 use Rattle.pol_contexts.proofs.ContextLaws.{ibendport_spelled, ibendport_again}

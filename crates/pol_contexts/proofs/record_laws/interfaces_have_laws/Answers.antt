@@ -1,4 +1,4 @@
-use Rattle.pol_cursor.specs.declared.fields.TheConstants.{NETIF_COUNT, NETIF_LEN, NETIF_NAME}
+use Rattle.pol_fields.specs.declared.fields.TheConstants.{NETIF_COUNT, NETIF_LEN, NETIF_NAME}
 use Rattle.pol_context.proofs.ContextLaws.{entries_spelled, entries_again}
 use Rattle.pol_contexts.specs.NamedRecord.{named_at, spell_named, NamedFits}
 use Rattle.pol_contexts.proofs.ContextLaws.{named_spelled, named_again}

@@ -1,4 +1,4 @@
-use Rattle.pol_cursor.specs.declared.fields.TheConstants.{NODE6_COUNT, NODE6_ADDRESS, NODE6_MASK}
+use Rattle.pol_fields.specs.declared.fields.TheConstants.{NODE6_COUNT, NODE6_ADDRESS, NODE6_MASK}
 use Rattle.pol_context.proofs.ContextLaws.{entries_spelled, entries_again}
 use Rattle.pol_contexts.specs.AddressRecord.{address_at, spell_address, AddressFits}
 use Rattle.pol_contexts.proofs.ContextLaws.{address_spelled, address_again}

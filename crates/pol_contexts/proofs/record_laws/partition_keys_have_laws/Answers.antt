@@ -1,4 +1,4 @@
-use Rattle.pol_cursor.specs.declared.fields.TheConstants.{IBPKEY_COUNT}
+use Rattle.pol_fields.specs.declared.fields.TheConstants.{IBPKEY_COUNT}
 use Rattle.pol_context.proofs.ContextLaws.{entries_spelled, entries_again}
 use Rattle.pol_contexts.specs.IbPkeyRecord.{ibpkey_at, spell_ibpkey, IbPkeyFits}
 use Rattle.pol_contexts.proofs.ContextLaws.{ibpkey_spelled, ibpkey_again}

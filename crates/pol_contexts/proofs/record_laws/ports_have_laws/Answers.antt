@@ -1,4 +1,4 @@
-use Rattle.pol_cursor.specs.declared.fields.TheConstants.{PORT_COUNT}
+use Rattle.pol_fields.specs.declared.fields.TheConstants.{PORT_COUNT}
 use Rattle.pol_context.proofs.ContextLaws.{entries_spelled, entries_again}
 use Rattle.pol_contexts.specs.PortRecord.{port_at, spell_port, PortFits}
 use Rattle.pol_contexts.proofs.ContextLaws.{port_spelled, port_again}

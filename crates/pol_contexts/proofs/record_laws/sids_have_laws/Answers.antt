@@ -1,4 +1,4 @@
-use Rattle.pol_cursor.specs.declared.fields.TheConstants.{SID_COUNT}
+use Rattle.pol_fields.specs.declared.fields.TheConstants.{SID_COUNT}
 use Rattle.pol_context.proofs.ContextLaws.{entries_spelled, entries_again}
 use Rattle.pol_contexts.specs.SidRecord.{sid_at, spell_sid, SidFits}
 use Rattle.pol_contexts.proofs.ContextLaws.{sid_spelled, sid_again}

@@ -1,4 +1,4 @@
-use Rattle.pol_cursor.specs.declared.fields.TheConstants.{GENFS_COUNT}
+use Rattle.pol_fields.specs.declared.fields.TheConstants.{GENFS_COUNT}
 use Rattle.pol_genfs.specs.GenfsRecord.{genfs_at, spell_genfs, GenfsFits}
 use Rattle.pol_context.proofs.ContextLaws.{entries_spelled, entries_again}
 use Rattle.pol_genfs.proofs.GenfsLaws.{genfs_spelled, genfs_again}

@@ -1,4 +1,4 @@
-use Rattle.pol_cursor.specs.declared.fields.TheConstants.{NAMEGROUP_COUNT}
+use Rattle.pol_fields.specs.declared.fields.TheConstants.{NAMEGROUP_COUNT}
 use Rattle.pol_trans.specs.NameGroupRecord.{name_group_at, spell_name_group, NameGroupFits}
 use Rattle.pol_trans.proofs.TransLaws.{name_group_spelled, name_group_again, list_spelled, list_again}
 use Rattle.pol_trans.proofs.record_laws.name_groups_have_laws.Goals as goal

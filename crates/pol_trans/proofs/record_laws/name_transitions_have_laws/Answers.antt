@@ -1,4 +1,4 @@
-use Rattle.pol_cursor.specs.declared.fields.TheConstants.{NAMETRANS_COUNT}
+use Rattle.pol_fields.specs.declared.fields.TheConstants.{NAMETRANS_COUNT}
 use Rattle.pol_trans.specs.NameTransRecord.{name_trans_at, spell_name_trans, NameTransFits}
 use Rattle.pol_trans.proofs.TransLaws.{name_trans_spelled, name_trans_again, list_spelled, list_again}
 use Rattle.pol_trans.proofs.record_laws.name_transitions_have_laws.Goals as goal

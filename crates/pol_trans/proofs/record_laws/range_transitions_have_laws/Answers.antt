@@ -1,4 +1,4 @@
-use Rattle.pol_cursor.specs.declared.fields.TheConstants.{RANGETRANS_COUNT}
+use Rattle.pol_fields.specs.declared.fields.TheConstants.{RANGETRANS_COUNT}
 use Rattle.pol_trans.specs.RangeTransRecord.{range_trans_at, spell_range_trans, RangeTransFits}
 use Rattle.pol_trans.proofs.TransLaws.{range_trans_spelled, range_trans_again, list_spelled, list_again}
 use Rattle.pol_trans.proofs.record_laws.range_transitions_have_laws.Goals as goal

@@ -1,4 +1,4 @@
-use Rattle.pol_cursor.specs.declared.fields.TheConstants.{ROLEALLOW_COUNT}
+use Rattle.pol_fields.specs.declared.fields.TheConstants.{ROLEALLOW_COUNT}
 use Rattle.pol_trans.specs.RoleAllowRecord.{role_allow_at, spell_role_allow, RoleAllowFits}
 use Rattle.pol_trans.proofs.TransLaws.{role_allow_spelled, role_allow_again, list_spelled, list_again}
 use Rattle.pol_trans.proofs.record_laws.role_allows_have_laws.Goals as goal

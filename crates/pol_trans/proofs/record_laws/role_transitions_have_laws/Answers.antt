@@ -1,4 +1,4 @@
-use Rattle.pol_cursor.specs.declared.fields.TheConstants.{ROLETRANS_COUNT}
+use Rattle.pol_fields.specs.declared.fields.TheConstants.{ROLETRANS_COUNT}
 use Rattle.pol_trans.specs.RoleTransRecord.{role_trans_at, spell_role_trans, RoleTransFits}
 use Rattle.pol_trans.proofs.TransLaws.{role_trans_spelled, role_trans_again, list_spelled, list_again}
 use Rattle.pol_trans.proofs.record_laws.role_transitions_have_laws.Goals as goal

@@ -1,5 +1,5 @@
 use Rattle.std.proofs.Common.{not, refl, arith, length-append}
-use Rattle.pol_cursor.specs.declared.fields.TheConstants.{NAMETRANS_COUNT, NAMEGROUP_COUNT, IBPKEY_COUNT, IBENDPORT_COUNT}
+use Rattle.pol_fields.specs.declared.fields.TheConstants.{NAMETRANS_COUNT, NAMEGROUP_COUNT, IBPKEY_COUNT, IBENDPORT_COUNT}
 use Rattle.pol_cursor.specs.Parts.{spell_counted}
 use Rattle.pol_trans.specs.NameTransRecord.{spell_name_trans}
 use Rattle.pol_trans.specs.NameGroupRecord.{spell_name_group}

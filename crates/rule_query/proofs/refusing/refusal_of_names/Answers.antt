@@ -1,6 +1,6 @@
 use Rattle.std.proofs.Common.{◌∙◌, Bor, Bool, List, ℕ, ap}
 use Rattle.std.specs.Prelude.{not, is_some}
-use Rattle.pol_cursor.specs.declared.TableKind.TheVariants.{Classes, Booleans}
+use Rattle.pol_fields.specs.declared.TableKind.TheVariants.{Classes, Booleans}
 use Rattle.rule_criteria.specs.Elements.{elements_of}
 use Rattle.rule_query.specs.declared.refusing.Refusal.TheVariants.{NotThere, NoNumber}
 use Rattle.rule_tests.specs.Numbers.{span_of}

@@ -1,6 +1,6 @@
 use Rattle.std.proofs.Common.{ℕ, length, leb, refl, sym, ap, ◌∙◌, arith}
 use Rattle.std.proofs.lemmas.Option.{slice_get_read}
-use Rattle.pol_cursor.specs.declared.TableKind.TheVariants.{Classes}
+use Rattle.pol_fields.specs.declared.TableKind.TheVariants.{Classes}
 use Rattle.pol_symbols.specs.declared.Symbols.{Symbols}
 use Rattle.pol_symbols.specs.PolicySymbols.{index_in}
 use Rattle.pol_file.specs.declared.Parts.{Parts}

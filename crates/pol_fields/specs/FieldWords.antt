@@ -1,6 +1,6 @@
 -- The word of each field: the record's, a point and the part's (this project's profile).
 use Rattle.std.specs.Prelude.{ℕ, zero, suc, List, [], ◌∷◌, ◌++◌, map, codes, Option, None, slice_get, unwrap_or}
-use Rattle.pol_cursor.specs.declared.field.Field.{Field}
+use Rattle.pol_fields.specs.declared.field.Field.{Field}
 
 -- the words of a record's fields
 abbrev pub fields_of : List ℕ → List (List ℕ) → List (List ℕ)

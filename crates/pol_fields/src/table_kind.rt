@@ -14,7 +14,7 @@ pub enum TableKind {
 }
 
 impl TableKind {
-    ghost use Rattle.pol_cursor.specs.FaultWords.{table_word};
+    ghost use Rattle.pol_fields.specs.FaultWords.{table_word};
 
     /// The table's word in a message, as `types`.
     pub fn word(&self) -> &'static str

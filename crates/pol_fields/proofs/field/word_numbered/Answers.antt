@@ -1,6 +1,6 @@
 use Rattle.std.proofs.Common.{◌<◌, Bor, List, ℕ, arith}
-use Rattle.pol_cursor.proofs.FieldTable.{item_numbered}
-use Rattle.pol_cursor.proofs.field.word_numbered.Goals as goal
+use Rattle.pol_fields.proofs.FieldTable.{item_numbered}
+use Rattle.pol_fields.proofs.field.word_numbered.Goals as goal
 
 pub returns-in-Some : goal.returns-in-Some
 returns-in-Some c =

@@ -1,9 +1,9 @@
 -- The words of causes and tables in a message (this project's profile): a cause's own name, and a table's.
 use Rattle.std.specs.Prelude.{ℕ, List, codes}
-use Rattle.pol_cursor.specs.declared.fault.Cause.{Cause}
-use Rattle.pol_cursor.specs.declared.fault.Cause.TheVariants as causes
-use Rattle.pol_cursor.specs.declared.table_kind.TableKind.{TableKind}
-use Rattle.pol_cursor.specs.declared.table_kind.TableKind.TheVariants as tables
+use Rattle.pol_fields.specs.declared.fault.Cause.{Cause}
+use Rattle.pol_fields.specs.declared.fault.Cause.TheVariants as causes
+use Rattle.pol_fields.specs.declared.table_kind.TableKind.{TableKind}
+use Rattle.pol_fields.specs.declared.table_kind.TableKind.TheVariants as tables
 
 abbrev pub cause_word : Cause → List ℕ
 cause_word causes.Short = codes "Short"

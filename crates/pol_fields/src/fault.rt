@@ -81,7 +81,7 @@ pub enum Cause {
 }
 
 impl Cause {
-    ghost use Rattle.pol_cursor.specs.FaultWords.{cause_word};
+    ghost use Rattle.pol_fields.specs.FaultWords.{cause_word};
 
     /// The cause's word in a message: its name.
     pub fn word(&self) -> &'static str

@@ -1,7 +1,7 @@
 -- Look-ups in the table of words.
 use Rattle.std.proofs.Common.{◌≡◌, ℕ, zero, suc, ◌-◌, ◌<◌, ◌≤◌, List, [], ◌∷◌, length, map, get_or, slice_get, unwrap_or, ap, arith}
 use Rattle.std.proofs.lemmas.Option.{slice_get_past}
-use Rattle.pol_cursor.specs.FieldWords.{all_words, numbered, record_words}
+use Rattle.pol_fields.specs.FieldWords.{all_words, numbered, record_words}
 
 pub record_words_past : (row : ℕ) → 37 ≤ row → record_words row ≡ []
 record_words_past zero past = absurd (omega arith)

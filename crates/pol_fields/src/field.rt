@@ -1,5 +1,5 @@
 ghost use Rattle.std.specs.Prelude.{◌≡◌, [], map, unwrap_or};
-ghost use Rattle.pol_cursor.specs.FieldWords.{numbered, record_words};
+ghost use Rattle.pol_fields.specs.FieldWords.{numbered, record_words};
 
 /// A field of the format, by the code of its record and the number of the part.
 #[derive(Clone, Copy, Debug, PartialEq, Eq)]
@@ -9,7 +9,7 @@ pub struct Field {
 }
 
 impl Field {
-    ghost use Rattle.pol_cursor.specs.FieldWords.{field_word};
+    ghost use Rattle.pol_fields.specs.FieldWords.{field_word};
 
     /// The field's word, as `header.magic`. It is empty for a code that the format does not have.
     pub fn word(&self) -> &'static str

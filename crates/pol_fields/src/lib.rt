@@ -1,0 +1,11 @@
+//! The fields of the format by their words, and what can be wrong at one.
+#![tactic(auto)]
+
+mod fault;
+mod field;
+pub mod fields;
+mod table_kind;
+
+pub use fault::{Cause, Fault};
+pub use field::Field;
+pub use table_kind::TableKind;
