@@ -6,3 +6,4 @@ pub mod KeyWords
 pub mod SharedWords
 pub mod SharedFirst
 pub mod DeclaredEnds
+pub mod KeyOrder

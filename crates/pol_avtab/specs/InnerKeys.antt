@@ -1,12 +1,14 @@
 -- How the code finds a rule that has the key of an earlier one. Nothing here is promised to a caller.
-use Rattle.std.specs.Prelude.{◌≡◌, ℕ, ◌+◌, ◌-◌, ◌*◌, ◌/◌, ◌%◌, ◌^◌, ◌≤◌, ◌==◌, Bool, true, not, Option, Some, None, List, [], ◌∷◌, map, length, slice_index, if◌then◌else◌}
-use Rattle.std.specs.List.{filter, Contains}
-use Rattle.std.specs.Int.{bit_at}
+use Rattle.std.specs.Prelude.{◌≡◌, ◌⊎◌, ◌<◌, ℕ, ◌+◌, ◌-◌, ◌*◌, ◌/◌, ◌%◌, ◌^◌, ◌≤◌, ◌==◌, Bool, true, not, Option, Some, None, List, [], ◌∷◌, map, length, slice_index, if◌then◌else◌}
+use Rattle.std.specs.List.{filter, Contains, IsDistinct}
+use Rattle.std.specs.Int.{bit_at, rotate_left, w32}
+use Rattle.std.specs.Int.Bits.{bit_and, bit_xor}
 use Rattle.pol_cursor.specs.Outcome.{Reader, Position, Got}
 use Rattle.pol_cursor.specs.Contexts.{records_after}
 use Rattle.pol_cursor.specs.References.{Placed}
 use Rattle.pol_avtab.specs.declared.av_rec.AvRec.{AvRec}
 use Rattle.pol_avtab.specs.declared.av_key.AvKey.{AvKey}
+use Rattle.pol_avtab.specs.declared.key_order.LastKey.{LastKey}
 use Rattle.pol_avtab.specs.AvKeys.{key_of, with_key, word_of}
 use Rattle.pol_avtab.specs.AvRecord.{is_extended, av_at}
 
@@ -39,6 +41,49 @@ rules_behind version collects n = records_after rule_behind after_collecting n (
 -- the keys of the rules that are not extended, as words
 abbrev pub words_of : List (Placed AvRec) → List ℕ
 words_of rules = map word_of (filter (λ key. not (is_extended key.specified)) (map (λ rule. key_of rule.value) rules))
+
+-- ---- the order in which libsepol writes a table. Any function of a word would do; that of libsepol's hash passes the tables that it wrote.
+
+-- its hash with one more number (the macro mix of avtab_hash)
+unfoldable pub hashed : ℕ → ℕ → ℕ
+hashed hash number =
+    let scrambled = rotate_left w32 (number * 0xCC9E2D51 % 2 ^ 32) 15 * 0x1B873593 % 2 ^ 32 in
+    (rotate_left w32 (bit_xor hash scrambled) 13 * 5 % 2 ^ 32 + 0xE6546B64) % 2 ^ 32
+
+-- its hash when all numbers are in it
+unfoldable pub finished : ℕ → ℕ
+finished hash =
+    let once = bit_xor hash (hash / 2 ^ 16) * 0x85EBCA6B % 2 ^ 32 in
+    let twice = bit_xor once (once / 2 ^ 13) * 0xC2B2AE35 % 2 ^ 32 in
+    bit_xor twice (twice / 2 ^ 16)
+
+-- the place of a key in that order: its slot, which is one of 2 ^ 20, its source, its target and the low bits of its class
+unfoldable pub order_of : ℕ → ℕ
+order_of word =
+    let source = word % 2 ^ 16 in
+    let target = word / 2 ^ 16 % 2 ^ 16 in
+    let class = word / 2 ^ 32 % 2 ^ 16 in
+    let slot = finished (hashed (hashed (hashed 0 class) target) source) % 2 ^ 20 in
+    0x1000 * (0x10000 * (0x10000 * slot + source) + target) + class % 0x1000
+
+-- the kind of a word's rule, which is a bit
+abbrev pub kind_bit : ℕ → ℕ
+kind_bit word = word / 2 ^ 48
+
+-- A word stands before the last one, or has its place, and a kind that is in the last one's.
+abbrev pub IsPassed : LastKey → ℕ → Type 0
+IsPassed last word = (order_of word < last.order) ⊎ ((order_of word ≡ last.order) × (bit_and last.kinds (kind_bit word) ≡ kind_bit word))
+
+-- A word is none that was passed, and is passed from then on, as those are that were.
+pub record Follows (last : LastKey) (word : ℕ) (next : LastKey) : Type 0 where
+  pub new : IsPassed last word → ⊥
+  pub passed : IsPassed next word
+  pub stay : (other : ℕ) → IsPassed last other → IsPassed next other
+
+-- No word stands twice, and all are passed.
+pub record AreRising (last : LastKey) (words : List ℕ) : Type 0 where
+  pub distinct : IsDistinct ◌==◌ words
+  pub passed : (word : ℕ) → Contains words word → IsPassed last word
 
 -- ---- marks of words, by two bits for each bucket
 

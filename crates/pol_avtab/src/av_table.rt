@@ -8,6 +8,7 @@ ghost use Rattle.pol_avtab.specs.InnerKeys.{rules_behind, words_of, AreMarked, i
 use crate::av_keys::AvKeys;
 use crate::av_kind::{Av, AvContext};
 use crate::causes::is_extended;
+use crate::key_order::LastKey;
 use crate::word_marks::WordMarks;
 use pol_cursor::{Cursor, ReadError, Records, read_records_after};
 use pol_fields::fields::AVTAB_NEL;
@@ -81,15 +82,31 @@ fn read_rules<'a>(
     Ok(read_records_after(alloc, c, n, context)?.0)
 }
 
-// Whether no two rules have the same key, but for extended ones. Equal words share a bucket, so only those of the shared ones are
-// sorted, which are few unless the policy is made for it.
+// Whether no two rules have the same key, but for extended ones. Tables that libsepol wrote tell it by their order. In others equal
+// words share a bucket, so only those of the shared ones are sorted, which are few unless the policy is made for it.
 fn are_distinct(alloc: Global, table: &AvTable<'_>) -> Result<bool, AllocError>
     ensures { IfOk result (λ distinct. distinct ≡ true → IsDistinct ◌==◌ (words_of table.now)) }
 {
+    if have_rising_keys(table) {
+        return Ok(true);
+    }
     let marks = mark_words(alloc, table)?;
     let mut words = shared_words(alloc, table, &marks)?;
     words.sort_unstable();
     Ok(words.is_sorted_by(|word, next| word < next))
+}
+
+// Whether the keys of all rules, but for extended ones, stand in the order of tables that libsepol wrote.
+fn have_rising_keys(table: &AvTable<'_>) -> bool
+    ensures { result ≡ true → IsDistinct ◌==◌ (words_of table.now) }
+{
+    let mut last = LastKey { order: 0, kinds: 0 };
+    for i in 0..table.len() {
+        if !last.follow(word_at(table, i)) {
+            return false;
+        }
+    }
+    true
 }
 
 // The marks of the keys of all rules.

@@ -9,6 +9,7 @@ mod av_table;
 mod av_view;
 mod av_write;
 mod causes;
+mod key_order;
 mod parts;
 mod record_laws;
 mod word_marks;
