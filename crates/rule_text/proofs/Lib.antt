@@ -5,5 +5,3 @@ pub mod PermissionLists
 pub mod ClassLists
 pub mod ConditionTrees
 pub mod Frames
-pub mod KeptSlots
-pub mod ReadAhead

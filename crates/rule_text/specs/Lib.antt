@@ -6,5 +6,3 @@ pub mod IoctlRuns
 pub mod ShownNames
 pub mod ClassPermissions
 pub mod TypeNames
-pub mod KeptTexts
-pub mod ReadRules

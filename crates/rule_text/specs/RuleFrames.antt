@@ -1,12 +1,14 @@
--- A rule's line with its ends left open: what serves the code alone.
+-- A rule's line in pieces, and with its ends left open: what serves the code alone.
 use Rattle.std.specs.Prelude.{ℕ, List, ◌++◌, codes}
 use Rattle.pol_mls.specs.MlsTexts.{name_of}
 use Rattle.pol_symbols.specs.PolicySymbols.{name_in}
 use Rattle.pol_symbols.specs.declared.Symbols.{Symbols}
 use Rattle.pol_rules.specs.RuleOrder.{source_table, target_table}
 use Rattle.pol_rules.specs.declared.rule.RuleKind.{RuleKind}
+use Rattle.pol_rules.specs.declared.rule.RulePart.{RulePart}
+use Rattle.pol_rules.specs.StoredRules.{StoredRule}
 use Rattle.rule_text.specs.declared.rule_frame.RuleFrame.{RuleFrame}
-use Rattle.rule_text.specs.RuleTexts.{keyword}
+use Rattle.rule_text.specs.RuleTexts.{keyword, class_text, part_text, file_name_text}
 
 -- what stands before a target: the first word, and a source by its name
 unfoldable pub head_text : Symbols → RuleKind → ℕ → List ℕ
@@ -23,3 +25,11 @@ frame_target frame target = name_of (name_in frame.symbols.now) (target_table fr
 -- the line between two ends
 abbrev pub frame_line : RuleFrame → ℕ → ℕ → List ℕ
 frame_line frame source target = frame_head frame source ++ frame_target frame target ++ frame.rest.items
+
+-- the class of a rule and what the rule gives
+unfoldable pub given_text : Symbols → RuleKind → ℕ → RulePart → List ℕ
+given_text symbols kind class part = class_text symbols kind class ++ part_text symbols kind class part
+
+-- what stands between that and the condition
+abbrev pub end_text : StoredRule → List ℕ
+end_text rule = file_name_text rule.name ++ codes ";"

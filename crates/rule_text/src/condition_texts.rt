@@ -12,7 +12,7 @@ use std::alloc::{AllocError, Global};
 
 /// Adds the condition behind a rule, or nothing where it stands under none.
 #[tactic(auto, unfolding(crate::specs::ConditionTexts::condition_text))]
-pub(crate) fn push_condition(
+pub fn push_condition(
     buffer: &mut Vec<u8>,
     policy: &Policy<'_>,
     condition: Option<Condition>,

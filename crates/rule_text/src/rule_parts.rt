@@ -71,7 +71,7 @@ fn default_table(kind: RuleKind) -> TableKind
 
 /// Adds the first word of the rules of a kind and a source, each with the space behind it.
 #[tactic(auto, unfolding(crate::specs::RuleFrames::head_text))]
-pub(crate) fn push_head(
+pub fn push_head(
     buffer: &mut Vec<u8>,
     symbols: &Symbols<'_>,
     kind: RuleKind,

@@ -4,7 +4,7 @@ ghost use Rattle.std.specs.Prelude.{◌≡◌, ◌<◌, ◌++◌, ℕ, OnOk, IfO
 ghost use Rattle.pol_symbols.specs.PolicySymbols.{permissions_in_class};
 ghost use Rattle.pol_rules.specs.StoredRules.{stored_rules};
 ghost use Rattle.rule_text.specs.ClassPermissions.{ShowsPart};
-ghost use Rattle.rule_text.specs.KeptTexts.{given_text};
+ghost use Rattle.rule_text.specs.RuleFrames.{given_text};
 ghost use Rattle.rule_text.specs.RuleFrames.{frame_line};
 ghost use Rattle.rule_text.specs.RuleTexts.{text_of_rule, single_text};
 
@@ -102,14 +102,14 @@ impl<'p, 'a> RuleTexts<'p, 'a> {
     }
 
     /// The policy.
-    pub(crate) fn policy(&self) -> &'p Policy<'a>
+    pub fn policy(&self) -> &'p Policy<'a>
         ensures { result.now ≡ self.now }
     {
         self.policy
     }
 
     /// Adds the class of a rule and what the rule gives.
-    pub(crate) fn push_given(&self, buffer: &mut Vec<u8>, rule: &Rule<'a>) -> Result<(), AllocError>
+    pub fn push_given(&self, buffer: &mut Vec<u8>, rule: &Rule<'a>) -> Result<(), AllocError>
         ensures { OnOk result (buffer.new.items ≡ buffer.old.items ++ given_text self.now.symbols rule.now.kind rule.now.class rule.now.part) }
     {
         push_given(

@@ -34,7 +34,7 @@ impl<'a> TypeNames<'a> {
     }
 
     /// Adds the name of a target of a rule of a kind. The tables of the policy are handed in.
-    pub(crate) fn push_target(
+    pub fn push_target(
         &self,
         symbols: &Symbols<'_>,
         kind: RuleKind,

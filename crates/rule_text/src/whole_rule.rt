@@ -5,7 +5,7 @@ ghost use Rattle.pol_symbols.specs.PolicySymbols.{permissions_in_class};
 ghost use Rattle.pol_rules.specs.StoredRules.{stored};
 ghost use Rattle.pol_rules.specs.DeclaredRules.{StandsUnder};
 ghost use Rattle.rule_text.specs.ClassPermissions.{ShowsPart};
-ghost use Rattle.rule_text.specs.KeptTexts.{end_text, given_text};
+ghost use Rattle.rule_text.specs.RuleFrames.{end_text, given_text};
 ghost use Rattle.rule_text.specs.RuleTexts.{between, ends_text, keyword, rest_text, rule_text};
 
 use crate::condition_texts::push_condition;
@@ -50,7 +50,7 @@ fn push_ends(
 }
 
 /// Adds what stands behind the ends of a rule.
-#[tactic(auto, unfolding(crate::specs::RuleTexts::rest_text, crate::specs::KeptTexts::given_text))]
+#[tactic(auto, unfolding(crate::specs::RuleTexts::rest_text, crate::specs::RuleFrames::given_text))]
 pub(crate) fn push_rest(
     buffer: &mut Vec<u8>,
     policy: &Policy<'_>,
@@ -67,7 +67,7 @@ pub(crate) fn push_rest(
 }
 
 /// Adds the class of a rule and what the rule gives.
-#[tactic(auto, unfolding(crate::specs::KeptTexts::given_text))]
+#[tactic(auto, unfolding(crate::specs::RuleFrames::given_text))]
 pub(crate) fn push_given(
     buffer: &mut Vec<u8>,
     symbols: &Symbols<'_>,
@@ -82,7 +82,7 @@ pub(crate) fn push_given(
 }
 
 /// Adds what stands between that and the condition: the name of the new object, where it has one, and the end.
-pub(crate) fn push_end(buffer: &mut Vec<u8>, rule: &Rule<'_>) -> Result<(), AllocError>
+pub fn push_end(buffer: &mut Vec<u8>, rule: &Rule<'_>) -> Result<(), AllocError>
     ensures { OnOk result (buffer.new.items ≡ buffer.old.items ++ end_text (stored rule.now)) }
 {
     push_file_name(buffer, rule.name)?;

@@ -1,8 +1,8 @@
 -- The lines of rules that were looked at are those of their numbers.
 use Rattle.std.proofs.Common.{◌≡◌, ◌∙◌, ℕ, Bool, true, false, List, [], ◌∷◌, ◌++◌, map, sym, ap}
 use Rattle.pol_file.specs.declared.Parts.{Parts}
-use Rattle.rule_text.specs.declared.rules_ahead.NumberedKind.{NumberedKind}
-use Rattle.rule_text.specs.ReadRules.{IsOfFirst, PassesNumber}
+use Rattle.rule_listing.specs.declared.rules_ahead.NumberedKind.{NumberedKind}
+use Rattle.rule_listing.specs.ReadRules.{IsOfFirst, PassesNumber}
 use Rattle.se_items.specs.Items.{Passes, PushesItem}
 use Rattle.se_search.specs.SearchAnswer.{rule_line}
 

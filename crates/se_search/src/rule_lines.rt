@@ -1,10 +1,10 @@
 // The lines of rules, as items that are written one after the other.
 ghost use Rattle.std.specs.Prelude.{◌≡◌, ◌++◌, IfOk, OnOk, map};
 ghost use Rattle.rule_order.specs.ListedOrder.{AreRules};
-ghost use Rattle.rule_text.specs.ReadRules.{IsStored};
+ghost use Rattle.rule_listing.specs.ReadRules.{IsStored};
 ghost use Rattle.se_search.specs.SearchAnswer.{rule_line};
 
-use rule_text::{ListedTexts, NumberedKind, RulesAhead};
+use rule_listing::{ListedTexts, NumberedKind, RulesAhead};
 use se_items::Items;
 use std::alloc::{AllocError, Global};
 

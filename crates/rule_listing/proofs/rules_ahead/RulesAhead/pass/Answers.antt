@@ -1,9 +1,9 @@
 use Rattle.std.proofs.Common.{◌∙◌, ◌<◌, ℕ, length, ap, arith, sym}
 use Rattle.std.proofs.lemmas.List.Elements.{All-rest}
 use Rattle.pol_rules.specs.StoredRules.{stored_rules}
-use Rattle.rule_text.specs.ReadRules.{RulesLeft}
-use Rattle.rule_text.proofs.ReadAhead.{first_passed}
-use Rattle.rule_text.proofs.rules_ahead.RulesAhead.pass.Goals as goal
+use Rattle.rule_listing.specs.ReadRules.{RulesLeft}
+use Rattle.rule_listing.proofs.ReadAhead.{first_passed}
+use Rattle.rule_listing.proofs.rules_ahead.RulesAhead.pass.Goals as goal
 
 pub invariant_of-self : goal.invariant_of-self
 invariant_of-self c =

@@ -1,7 +1,7 @@
 use Rattle.std.proofs.Common.{◌≡◌}
 use Rattle.std.specs.VecDeque.{deque_capacity, deque_len}
-use Rattle.rule_text.proofs.ReadAhead.{GoesOn}
-use Rattle.rule_text.proofs.rules_ahead.read_kinds.Given as goal
+use Rattle.rule_listing.proofs.ReadAhead.{GoesOn}
+use Rattle.rule_listing.proofs.rules_ahead.read_kinds.Given as goal
 
 -- those of the numbers before are read
 abbrev pub invariant-loop-number : goal.invariant-loop-number

@@ -5,11 +5,11 @@ ghost use Rattle.pol_symbols.specs.PolicySymbols.{name_in};
 ghost use Rattle.pol_rules.specs.DeclaredRules.{StandsUnder};
 ghost use Rattle.pol_file.specs.declared.Parts.{Parts};
 ghost use Rattle.rule_text.specs.ConditionTexts.{condition_text};
-ghost use Rattle.rule_text.specs.KeptTexts.{AreKept, IsKept, given_text, text_of};
+ghost use Rattle.rule_text.specs.RuleFrames.{given_text};
+ghost use Rattle.rule_listing.specs.KeptTexts.{AreKept, IsKept, text_of};
 
-use crate::condition_texts::push_condition;
-use crate::rule_texts::RuleTexts;
 use pol_read::{Condition, Policy, Rule, RuleKind, RulePart};
+use rule_text::{RuleTexts, push_condition};
 use std::alloc::{AllocError, Global};
 use std::marker::Model;
 
@@ -83,7 +83,7 @@ pub(crate) struct KeptTexts<'p, 'a> {
 
 impl<'p, 'a> Model for KeptTexts<'p, 'a> {
     ghost use Rattle.pol_file.specs.declared.Parts.{Parts};
-    ghost use Rattle.rule_text.specs.KeptTexts.{AreKept};
+    ghost use Rattle.rule_listing.specs.KeptTexts.{AreKept};
 
     ghost Value = { Parts };
 
@@ -132,7 +132,7 @@ impl<'p, 'a> KeptTexts<'p, 'a> {
     }
 
     /// Adds the condition behind a rule, or nothing where it stands under none.
-    #[tactic(auto, unfolding(crate::specs::ConditionTexts::condition_text))]
+    #[tactic(auto, unfolding(rule_text::specs::ConditionTexts::condition_text))]
     pub(crate) fn push_condition(
         &mut self,
         condition: Option<Condition>,

@@ -1,5 +1,5 @@
-use Rattle.rule_text.proofs.KeptSlots.{one_more, one_longer}
-use Rattle.rule_text.proofs.kept_texts.empty_slots.Goals as goal
+use Rattle.rule_listing.proofs.KeptSlots.{one_more, one_longer}
+use Rattle.rule_listing.proofs.kept_texts.empty_slots.Goals as goal
 
 pub slots-preserved : goal.slots-preserved
 slots-preserved c =

@@ -2,11 +2,11 @@
 
 ghost use Rattle.std.specs.Prelude.{◌≡◌, ◌++◌, OnOk, IfOk};
 ghost use Rattle.rule_text.specs.RuleFrames.{head_text};
-ghost use Rattle.rule_text.specs.KeptTexts.{IsHead};
+ghost use Rattle.rule_listing.specs.KeptTexts.{IsHead};
 
-use crate::rule_parts::push_head;
 use pol_read::RuleKind;
 use pol_symbols::Symbols;
+use rule_text::push_head;
 use std::alloc::{AllocError, Global};
 
 /// The text that stands before the targets of the rules of a kind and a source.

@@ -3,7 +3,7 @@ use Rattle.std.specs.Prelude.{◌≡◌, ◌<◌, ℕ, Bool, true, false, List, 
 use Rattle.std.specs.List.{All}
 use Rattle.pol_file.specs.declared.Parts.{Parts}
 use Rattle.pol_rules.specs.StoredRules.{StoredRule, stored_rules}
-use Rattle.rule_text.specs.declared.rules_ahead.NumberedKind.{NumberedKind}
+use Rattle.rule_listing.specs.declared.rules_ahead.NumberedKind.{NumberedKind}
 
 -- the rules of a policy that are left: their numbers, and of how many of the first of them the kinds were read
 pub record RulesLeft : Type 0 where

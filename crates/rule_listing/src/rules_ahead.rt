@@ -3,7 +3,7 @@
 ghost use Rattle.std.specs.Prelude.{◌≡◌, ◌<◌, ◌≤◌, ℕ, [], All, IfOk, MatchOption, length};
 ghost use Rattle.std.specs.VecDeque.{deque_capacity};
 ghost use Rattle.pol_rules.specs.StoredRules.{stored_rules};
-ghost use Rattle.rule_text.specs.ReadRules.{AreRead, IsOfFirst, PassesNumber, none_read};
+ghost use Rattle.rule_listing.specs.ReadRules.{AreRead, IsOfFirst, PassesNumber, none_read};
 
 use pol_read::{Policy, RuleKind};
 use std::alloc::{AllocError, Global};
@@ -36,7 +36,7 @@ pub struct RulesAhead<'q, 'p, 'a> {
 impl<'q, 'p, 'a> Model for RulesAhead<'q, 'p, 'a> {
     ghost use Rattle.std.specs.Prelude.{◌≤◌, length};
     ghost use Rattle.std.specs.VecDeque.{deque_capacity};
-    ghost use Rattle.rule_text.specs.ReadRules.{AreNumbers, AreRead, RulesLeft};
+    ghost use Rattle.rule_listing.specs.ReadRules.{AreNumbers, AreRead, RulesLeft};
 
     ghost Value = { RulesLeft };
 

@@ -8,21 +8,12 @@ use Rattle.pol_rules.specs.declared.rule.RuleKind.{RuleKind}
 use Rattle.pol_rules.specs.declared.rule.RulePart.{RulePart}
 use Rattle.pol_rules.specs.declared.rule.RulePart.TheVariants as parts
 use Rattle.pol_rules.specs.StoredRules.{StoredRule}
-use Rattle.rule_text.specs.declared.kept_head.KeptHead.{KeptHead}
-use Rattle.rule_text.specs.declared.kept_texts.KeptText.{KeptText}
-use Rattle.rule_text.specs.declared.kept_texts.TextKey.{TextKey}
-use Rattle.rule_text.specs.declared.kept_texts.TextKey.TheVariants.{Perms, Default, Under}
-use Rattle.rule_text.specs.RuleFrames.{head_text}
+use Rattle.rule_listing.specs.declared.kept_head.KeptHead.{KeptHead}
+use Rattle.rule_listing.specs.declared.kept_texts.KeptText.{KeptText}
+use Rattle.rule_listing.specs.declared.kept_texts.TextKey.{TextKey}
+use Rattle.rule_listing.specs.declared.kept_texts.TextKey.TheVariants.{Perms, Default, Under}
+use Rattle.rule_text.specs.RuleFrames.{head_text, given_text}
 use Rattle.rule_text.specs.ConditionTexts.{condition_text}
-use Rattle.rule_text.specs.RuleTexts.{class_text, part_text, file_name_text}
-
--- the class of a rule and what the rule gives
-unfoldable pub given_text : Symbols → RuleKind → ℕ → RulePart → List ℕ
-given_text symbols kind class part = class_text symbols kind class ++ part_text symbols kind class part
-
--- what stands between that and the condition
-abbrev pub end_text : StoredRule → List ℕ
-end_text rule = file_name_text rule.name ++ codes ";"
 
 -- A kept head is that of its kind and source.
 abbrev pub IsHead : Symbols → KeptHead → Type 0

@@ -3,16 +3,14 @@
 ghost use Rattle.std.specs.Prelude.{◌≡◌, ◌++◌, OnOk, IfOk};
 ghost use Rattle.pol_rules.specs.StoredRules.{stored};
 ghost use Rattle.pol_rules.specs.DeclaredRules.{StandsUnder};
-ghost use Rattle.rule_text.specs.ReadRules.{IsStored};
+ghost use Rattle.rule_listing.specs.ReadRules.{IsStored};
 ghost use Rattle.rule_text.specs.RuleTexts.{rest_text, text_of_rule};
 
 use crate::kept_head::KeptHead;
 use crate::kept_texts::KeptTexts;
-use crate::rule_texts::RuleTexts;
 use crate::rules_ahead::NumberedKind;
-use crate::type_names::TypeNames;
-use crate::whole_rule::push_end;
 use pol_read::{Policy, Rule};
+use rule_text::{RuleTexts, TypeNames, push_end};
 use std::alloc::{AllocError, Global};
 use std::marker::Model;
 
@@ -28,7 +26,7 @@ pub struct ListedTexts<'p, 'a> {
 
 impl<'p, 'a> Model for ListedTexts<'p, 'a> {
     ghost use Rattle.pol_file.specs.declared.Parts.{Parts};
-    ghost use Rattle.rule_text.specs.KeptTexts.{IsHead};
+    ghost use Rattle.rule_listing.specs.KeptTexts.{IsHead};
     ghost use Rattle.rule_text.specs.TypeNames.{AreNamesOf};
 
     ghost Value = { Parts };
@@ -59,7 +57,7 @@ impl<'p, 'a> ListedTexts<'p, 'a> {
     }
 
     /// Adds the text of a stored rule, without a line feed.
-    #[tactic(auto, unfolding(crate::specs::RuleTexts::text_of_rule, crate::specs::RuleTexts::rule_text, crate::specs::RuleTexts::ends_text, crate::specs::RuleFrames::head_text))]
+    #[tactic(auto, unfolding(rule_text::specs::RuleTexts::text_of_rule, rule_text::specs::RuleTexts::rule_text, rule_text::specs::RuleTexts::ends_text, rule_text::specs::RuleFrames::head_text))]
     pub fn push_rule(&mut self, rule: &NumberedKind, buffer: &mut Vec<u8>) -> Result<(), AllocError>
         requires { IsStored self.old rule.now }
         ensures policy { self.new ≡ self.old }
@@ -76,7 +74,7 @@ impl<'p, 'a> ListedTexts<'p, 'a> {
 }
 
 // Adds what stands behind the ends of a rule.
-#[tactic(auto, unfolding(crate::specs::RuleTexts::rest_text, crate::specs::KeptTexts::given_text))]
+#[tactic(auto, unfolding(rule_text::specs::RuleTexts::rest_text, rule_text::specs::RuleFrames::given_text))]
 fn push_rest<'a>(
     texts: &mut KeptTexts<'_, 'a>,
     rule: &Rule<'a>,

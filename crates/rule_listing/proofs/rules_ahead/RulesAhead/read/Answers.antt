@@ -1,6 +1,6 @@
 use Rattle.std.proofs.Common.{arith}
-use Rattle.rule_text.proofs.ReadAhead.{of_front}
-use Rattle.rule_text.proofs.rules_ahead.RulesAhead.read.Goals as goal
+use Rattle.rule_listing.proofs.ReadAhead.{of_front}
+use Rattle.rule_listing.proofs.rules_ahead.RulesAhead.read.Goals as goal
 
 pub invariant_of-self : goal.invariant_of-self
 invariant_of-self c = (

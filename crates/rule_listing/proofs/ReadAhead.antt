@@ -1,8 +1,8 @@
 -- Rules that were looked at are those of the first of some numbers.
 use Rattle.std.proofs.Common.{◌≡◌, ℕ, zero, suc, List, [], ◌∷◌, ◌++◌, take, drop, subst, append-nil}
 use Rattle.pol_file.specs.declared.Parts.{Parts}
-use Rattle.rule_text.specs.declared.rules_ahead.NumberedKind.{NumberedKind}
-use Rattle.rule_text.specs.ReadRules.{AreRead}
+use Rattle.rule_listing.specs.declared.rules_ahead.NumberedKind.{NumberedKind}
+use Rattle.rule_listing.specs.ReadRules.{AreRead}
 
 -- what is read of the numbers that are left goes on with what was read
 abbrev pub GoesOn : Parts → List ℕ → ℕ → List NumberedKind → Type 0

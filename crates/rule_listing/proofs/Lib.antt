@@ -1,0 +1,2 @@
+pub mod KeptSlots
+pub mod ReadAhead

@@ -1,0 +1,10 @@
+//! The lines of stored rules where many are listed, one after the other: what they have in common is made once.
+#![tactic(auto)]
+
+mod kept_head;
+mod kept_texts;
+mod listed_texts;
+mod rules_ahead;
+
+pub use listed_texts::ListedTexts;
+pub use rules_ahead::{NumberedKind, RulesAhead};
