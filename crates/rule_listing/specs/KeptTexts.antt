@@ -1,13 +1,10 @@
 -- Texts that are kept from line to line: what serves the code alone.
-use Rattle.std.specs.Prelude.{◌≡◌, ℕ, List, ◌++◌, Option, Some, None, ⊤, codes, length}
+use Rattle.std.specs.Prelude.{◌≡◌, ℕ, List, Option, Some, None, ⊤, length}
 use Rattle.std.specs.List.{All}
 use Rattle.pol_symbols.specs.PolicySymbols.{name_in}
 use Rattle.pol_symbols.specs.declared.Symbols.{Symbols}
 use Rattle.pol_file.specs.declared.Parts.{Parts}
-use Rattle.pol_rules.specs.declared.rule.RuleKind.{RuleKind}
-use Rattle.pol_rules.specs.declared.rule.RulePart.{RulePart}
 use Rattle.pol_rules.specs.declared.rule.RulePart.TheVariants as parts
-use Rattle.pol_rules.specs.StoredRules.{StoredRule}
 use Rattle.rule_listing.specs.declared.kept_head.KeptHead.{KeptHead}
 use Rattle.rule_listing.specs.declared.kept_texts.KeptText.{KeptText}
 use Rattle.rule_listing.specs.declared.kept_texts.TextKey.{TextKey}

@@ -1,5 +1,5 @@
 -- The lines of rules that were looked at are those of their numbers.
-use Rattle.std.proofs.Common.{◌≡◌, ◌∙◌, ℕ, Bool, true, false, List, [], ◌∷◌, ◌++◌, map, sym, ap}
+use Rattle.std.proofs.Common.{◌≡◌, ◌∙◌, ℕ, Bool, true, false, List, [], ◌∷◌, ◌++◌, map, ap}
 use Rattle.pol_file.specs.declared.Parts.{Parts}
 use Rattle.rule_listing.specs.declared.rules_ahead.NumberedKind.{NumberedKind}
 use Rattle.rule_listing.specs.ReadRules.{IsOfFirst, PassesNumber}

@@ -2,7 +2,7 @@
 use Rattle.std.proofs.Common.{◌≡◌, ◌∙◌, ◌≤◌, ◌<◌, ◌+◌, ◌-◌, ◌++◌, ℕ, suc, List, [], ◌∷◌, Option, Some, None, length, take, drop, get_or, refl, sym, ap, arith, add-one, append-nil, append_assoc, drop-cons, length-drop}
 use Rattle.std.specs.List.{flat_map}
 use Rattle.std.specs.Iterator.{YieldsFirst}
-use Rattle.std.proofs.lemmas.List.{drop_all, take_all, take_more}
+use Rattle.std.proofs.lemmas.List.{take_more}
 use Rattle.se_items.proofs.Gains.{texts-more}
 use Rattle.se_search.specs.RowLines.{PushesTargets}
 

@@ -1,5 +1,5 @@
 -- The lines of rows, and of all rows that are left.
-use Rattle.std.proofs.Common.{inl, inr, ◌≡◌, ◌∙◌, ◌≤◌, ◌<◌, ◌+◌, ◌-◌, ◌*◌, ◌++◌, ℕ, zero, suc, List, [], ◌∷◌, Option, Some, None, length, map, take, drop, refl, sym, ap, arith, subst, append-nil, append_assoc, length-drop}
+use Rattle.std.proofs.Common.{inl, inr, ◌≡◌, ◌∙◌, ◌≤◌, ◌<◌, ◌+◌, ◌-◌, ◌++◌, ℕ, zero, suc, List, [], ◌∷◌, Option, Some, None, length, map, take, drop, refl, sym, ap, arith, subst, append-nil, append_assoc, length-drop}
 use Rattle.std.specs.Prelude.{min, slice_get}
 use Rattle.std.specs.List.{All, concat, flat_map}
 use Rattle.std.proofs.lemmas.Bool.{cases_lt}
