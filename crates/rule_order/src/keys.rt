@@ -5,11 +5,11 @@ ghost use Rattle.std.specs.Cmp.{partial_order_from_own_ties, partial_order_from_
 ghost use Rattle.std.specs.Cmp.Rules.{comparing};
 ghost use Rattle.std.specs.Ordering.{as_partial_cmp};
 ghost use Rattle.pol_symbols.specs.PolicySymbols.{rank_in};
+ghost use Rattle.pol_rules.specs.RuleOrder.{source_table, target_table};
 ghost use Rattle.rule_order.specs.Keys.{AreWords, key_of_ends, key_of_word, keys_total, names_number, plain_cmp, rank_or_zero};
 
-use crate::ends::{table_of_source, table_of_target};
 use pol_fields::TableKind;
-use pol_read::RuleEnds;
+use pol_read::{RuleEnds, RuleKind};
 use pol_symbols::Symbols;
 use std::cmp::Ordering;
 
@@ -41,8 +41,8 @@ impl Key {
     {
         Key {
             kind: ends.kind as u32,
-            source: rank_or_zero(symbols, table_of_source(ends.kind), ends.source),
-            target: rank_or_zero(symbols, table_of_target(ends.kind), ends.target),
+            source: source_rank(symbols, ends.kind, ends.source),
+            target: target_rank(symbols, ends.kind, ends.target),
             class: rank_or_zero(symbols, TableKind::Classes, ends.class),
             number,
         }
@@ -118,7 +118,32 @@ impl PartialOrd for Key {
     }
 }
 
+// The rank of a source of a rule of a kind. The table of each kind is named where it is asked, so that it is at hand.
+#[inline(always)]
+fn source_rank(symbols: &Symbols<'_>, kind: RuleKind, value: u32) -> u32
+    ensures { result ≡ rank_or_zero (rank_in symbols.now (source_table kind) value) }
+{
+    match kind {
+        RuleKind::RoleAllow | RuleKind::RoleTransition => {
+            rank_or_zero(symbols, TableKind::Roles, value)
+        }
+        _ => rank_or_zero(symbols, TableKind::Types, value),
+    }
+}
+
+// The rank of a target, in the same way.
+#[inline(always)]
+fn target_rank(symbols: &Symbols<'_>, kind: RuleKind, value: u32) -> u32
+    ensures { result ≡ rank_or_zero (rank_in symbols.now (target_table kind) value) }
+{
+    match kind {
+        RuleKind::RoleAllow => rank_or_zero(symbols, TableKind::Roles, value),
+        _ => rank_or_zero(symbols, TableKind::Types, value),
+    }
+}
+
 // The rank of a declared value in its table, or 0 where no primary record has it.
+#[inline(always)]
 fn rank_or_zero(symbols: &Symbols<'_>, table: TableKind, value: u32) -> u32
     ensures { result ≡ rank_or_zero (rank_in symbols.now table value) }
 {
