@@ -1,2 +1,3 @@
+pub mod FoundRules
 pub mod KeptSlots
 pub mod ReadAhead

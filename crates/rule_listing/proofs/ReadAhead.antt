@@ -1,16 +1,26 @@
 -- Rules that were looked at are those of the first of some numbers.
-use Rattle.std.proofs.Common.{◌≡◌, ℕ, zero, suc, List, [], ◌∷◌, ◌++◌, take, drop, subst, append-nil}
+use Rattle.std.proofs.Common.{◌≡◌, ℕ, zero, suc, List, [], ◌∷◌, ◌+◌, ◌<◌, ◌++◌, length, map, get_or, take, drop, sym, ap, subst, ◌∙◌, arith}
+use Rattle.std.proofs.lemmas.List.{take_more, map-append}
 use Rattle.pol_file.specs.declared.Parts.{Parts}
+use Rattle.rule_listing.specs.declared.found_rule.FoundRule.{FoundRule}
 use Rattle.rule_listing.specs.declared.rules_ahead.NumberedKind.{NumberedKind}
-use Rattle.rule_listing.specs.ReadRules.{AreRead}
+use Rattle.rule_listing.specs.ReadRules.{AreRead, IsRuleOf}
 
--- what is read of the numbers that are left goes on with what was read
-abbrev pub GoesOn : Parts → List ℕ → ℕ → List NumberedKind → Type 0
-GoesOn policy numbers i rules = (rest : List NumberedKind) → AreRead policy (drop i numbers) rest → AreRead policy numbers (rules ++ rest)
+-- one rule more
+pub read_more : (policy : Parts) (numbers : List ℕ) (rules : List NumberedKind) (number : ℕ) (rule : NumberedKind) → length rules ≡ length numbers → AreRead policy numbers rules → IsRuleOf policy number rule
+    → AreRead policy (numbers ++ number ∷ []) (rules ++ rule ∷ [])
+read_more policy [] [] number rule long are is = (is, tt)
+read_more policy [] (r ∷ rs) number rule long are is = absurd are
+read_more policy (n ∷ ns) [] number rule long are is = absurd (omega (arith, long))
+read_more policy (n ∷ ns) (r ∷ rs) number rule long are is = (are.0, read_more policy ns rs number rule (omega (arith, long)) are.1 is)
 
--- so what was read is
-pub so_far : (policy : Parts) (numbers : List ℕ) (i : ℕ) (rules : List NumberedKind) → GoesOn policy numbers i rules → AreRead policy numbers rules
-so_far policy numbers i rules goes = subst (AreRead policy numbers) (append-nil rules) (goes [] tt)
+-- the numbers of one rule more
+pub numbers_more : (found : List FoundRule) (i : ℕ) (rule : FoundRule) → i < length found → rule ≡ get_or found i rule
+    → map (λ (it : FoundRule). it.number) (take (i + 1) found) ≡ map (λ (it : FoundRule). it.number) (take i found) ++ rule.number ∷ []
+numbers_more found i rule lt is =
+    ap (map (λ (it : FoundRule). it.number)) (take_more found i rule lt)
+    ∙ map-append (λ (it : FoundRule). it.number) (take i found) (get_or found i rule ∷ [])
+    ∙ ap (λ (it : FoundRule). map (λ (other : FoundRule). other.number) (take i found) ++ it.number ∷ []) (sym is)
 
 -- of the front of some numbers, and so of all of them
 pub of_front : (policy : Parts) (count : ℕ) (numbers : List ℕ) (rules : List NumberedKind) → AreRead policy (take count numbers) rules → AreRead policy numbers rules

@@ -1,10 +1,12 @@
 //! Rules of a policy that are looked at some at a time, each before it is asked for.
 
-ghost use Rattle.std.specs.Prelude.{◌≡◌, ◌<◌, ◌≤◌, ℕ, [], All, IfOk, MatchOption, length};
+ghost use Rattle.std.specs.Prelude.{◌≡◌, ◌<◌, ◌≤◌, ℕ, [], All, IfOk, MatchOption, length, map};
+ghost use Rattle.std.specs.Vec.{vec_capacity};
 ghost use Rattle.std.specs.VecDeque.{deque_capacity};
 ghost use Rattle.pol_rules.specs.StoredRules.{stored_rules};
-ghost use Rattle.rule_listing.specs.ReadRules.{AreRead, IsOfFirst, PassesNumber, none_read};
+ghost use Rattle.rule_listing.specs.ReadRules.{AreFound, AreRead, IsFound, IsOfFirst, PassesNumber, none_read};
 
+use crate::found_rule::FoundRule;
 use pol_read::{Policy, RuleKind};
 use std::alloc::{AllocError, Global};
 use std::collections::VecDeque;
@@ -22,19 +24,23 @@ pub struct NumberedKind {
     pub kind: RuleKind,
 }
 
-/// The stored rules of some numbers, one after the other. Where the kind of the next one is read, so are those of the rules after it,
-/// in one loop that does nothing else: rules that are listed stand far apart in the file, and the processor fetches those of one loop
-/// side by side. Contracts see the policy, the numbers that are left, and of how many of their rules the kinds were read.
+/// The stored rules of some numbers, one after the other. Where the kind of the next one is read, so are those of the rules after it:
+/// they are found in a loop of its own, and their kinds are read in another, since rules that are listed stand far apart in the file,
+/// and the processor fetches what a small loop asks side by side. Contracts see the policy, the numbers that are left, and of how many
+/// of their rules the kinds were read.
 #[derive(Drop)]
 pub struct RulesAhead<'q, 'p, 'a> {
     policy: &'p Policy<'a>,
     numbers: &'q [u32],
     // those of the first of the numbers
     rules: VecDeque<NumberedKind>,
+    // room for those that are found together
+    found: Vec<FoundRule<'a>>,
 }
 
 impl<'q, 'p, 'a> Model for RulesAhead<'q, 'p, 'a> {
     ghost use Rattle.std.specs.Prelude.{◌≤◌, length};
+    ghost use Rattle.std.specs.Vec.{vec_capacity};
     ghost use Rattle.std.specs.VecDeque.{deque_capacity};
     ghost use Rattle.rule_listing.specs.ReadRules.{AreNumbers, AreRead, RulesLeft};
 
@@ -42,7 +48,7 @@ impl<'q, 'p, 'a> Model for RulesAhead<'q, 'p, 'a> {
 
     ghost view = { λ ahead. record { policy = ahead.policy.now; numbers = ahead.numbers.now; read = length ahead.rules.items } };
 
-    ghost invariant = { λ ahead. AreNumbers ahead.policy.now ahead.numbers.now × AreRead ahead.policy.now ahead.numbers.now ahead.rules.items × (32 ≤ deque_capacity ahead.rules) };
+    ghost invariant = { λ ahead. AreNumbers ahead.policy.now ahead.numbers.now × AreRead ahead.policy.now ahead.numbers.now ahead.rules.items × (32 ≤ deque_capacity ahead.rules) × (32 ≤ vec_capacity ahead.found) };
 }
 
 impl<'q, 'p, 'a> RulesAhead<'q, 'p, 'a> {
@@ -56,10 +62,12 @@ impl<'q, 'p, 'a> RulesAhead<'q, 'p, 'a> {
         ensures { IfOk result (λ ahead. ahead ≡ none_read policy.now numbers.now) }
     {
         let rules = VecDeque::with_capacity(alloc, MOST)?;
+        let found = Vec::with_capacity(alloc, MOST)?;
         Ok(RulesAhead {
             policy,
             numbers,
             rules,
+            found,
         })
     }
 
@@ -71,7 +79,8 @@ impl<'q, 'p, 'a> RulesAhead<'q, 'p, 'a> {
     {
         if self.rules.is_empty() {
             let count = MOST.min(self.numbers.len());
-            read_kinds(self.policy, &self.numbers[..count], &mut self.rules);
+            find_rules(self.policy, &self.numbers[..count], &mut self.found);
+            read_kinds(self.policy, &self.found, &mut self.rules);
         }
     }
 
@@ -96,19 +105,29 @@ impl<'q, 'p, 'a> RulesAhead<'q, 'p, 'a> {
     }
 }
 
-// Reads the kinds of the rules of these numbers. No memory is taken.
-fn read_kinds(policy: &Policy<'_>, numbers: &[u32], rules: &mut VecDeque<NumberedKind>)
+// Finds the rules of these numbers, in place of those that were found. No memory is taken.
+fn find_rules<'a>(policy: &Policy<'a>, numbers: &[u32], found: &mut Vec<FoundRule<'a>>)
     requires numbers { All (λ number. number < length (stored_rules policy.now)) numbers.now }
+    requires room { length numbers.now ≤ vec_capacity found.old }
+    ensures found { AreFound policy.now numbers.now found.new.items }
+    ensures room { vec_capacity found.new ≡ vec_capacity found.old }
+{
+    found.clear();
+    for number in numbers {
+        found.push_reserved(FoundRule::of(policy, *number));
+    }
+}
+
+// Reads the kinds of these rules. No memory is taken.
+fn read_kinds<'a>(policy: &Policy<'a>, found: &[FoundRule<'a>], rules: &mut VecDeque<NumberedKind>)
+    requires found { All (IsFound policy.now) found.now }
     requires none { rules.old.items ≡ [] }
-    requires room { length numbers.now ≤ deque_capacity rules.old }
-    ensures rules { AreRead policy.now numbers.now rules.new.items }
-    ensures length { length rules.new.items ≡ length numbers.now }
+    requires room { length found.now ≤ deque_capacity rules.old }
+    ensures rules { AreRead policy.now (map (λ rule. rule.number) found.now) rules.new.items }
+    ensures length { length rules.new.items ≡ length found.now }
     ensures room { deque_capacity rules.new ≡ deque_capacity rules.old }
 {
-    for number in numbers {
-        rules.push_back_reserved(NumberedKind {
-            number: *number,
-            kind: policy.rule_kind(*number),
-        });
+    for rule in found {
+        rules.push_back_reserved(rule.numbered_kind(policy));
     }
 }

@@ -14,6 +14,7 @@ invariant_of-self c =
       All-rest (λ (n : ℕ). n < length (stored_rules policy)) number others numbers c.in-Some.ensures.cases.0 c.self.invariant.0,
       rw c.pop_front.ensures.rest (first_passed policy number numbers others c.self.inside.rules.items c.in-Some.ensures.cases.0 c.self.invariant.1),
       omega (arith, c.pop_front.ensures.capacity, c.self.invariant.2),
+      c.self.invariant.3,
     )
 
 pub returns-clause-numbers : goal.returns-clause-numbers
