@@ -13,7 +13,7 @@ use std::collections::VecDeque;
 use std::marker::Model;
 
 // How many rules are looked at together at most.
-const MOST: usize = 32;
+const MOST: usize = 128;
 
 /// A stored rule, by its number and its kind.
 #[derive(Clone, Copy, Debug, PartialEq, Eq)]
@@ -48,7 +48,7 @@ impl<'q, 'p, 'a> Model for RulesAhead<'q, 'p, 'a> {
 
     ghost view = { λ ahead. record { policy = ahead.policy.now; numbers = ahead.numbers.now; read = length ahead.rules.items } };
 
-    ghost invariant = { λ ahead. AreNumbers ahead.policy.now ahead.numbers.now × AreRead ahead.policy.now ahead.numbers.now ahead.rules.items × (32 ≤ deque_capacity ahead.rules) × (32 ≤ vec_capacity ahead.found) };
+    ghost invariant = { λ ahead. AreNumbers ahead.policy.now ahead.numbers.now × AreRead ahead.policy.now ahead.numbers.now ahead.rules.items × (128 ≤ deque_capacity ahead.rules) × (128 ≤ vec_capacity ahead.found) };
 }
 
 impl<'q, 'p, 'a> RulesAhead<'q, 'p, 'a> {
