@@ -12,3 +12,4 @@ pub mod Ranks
 pub mod SortedNames
 pub mod ByteOrder
 pub mod NameSearch
+pub mod Prefixes

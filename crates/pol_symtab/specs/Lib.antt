@@ -3,3 +3,4 @@ pub mod SymbolFields
 pub mod Freshness
 pub mod SymbolTables
 pub mod TableIndex
+pub mod NamePrefixes

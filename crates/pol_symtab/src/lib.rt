@@ -3,6 +3,7 @@
 
 mod causes;
 mod name_order;
+mod name_prefix;
 mod record_laws;
 mod symbol;
 mod symbol_fields;

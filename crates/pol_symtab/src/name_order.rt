@@ -1,17 +1,22 @@
 //! The names of a table in the order of their bytes.
 
 ghost use Rattle.std.specs.Prelude.{◌≡◌, ◌<◌, ◌^◌, IfOk, length, map};
+ghost use Rattle.std.specs.List.{All};
+ghost use Rattle.pol_symtab.specs.NamePrefixes.{HasPrefix};
 ghost use Rattle.pol_symtab.specs.SymbolTables.{index_named};
 ghost use Rattle.pol_symtab.specs.TableIndex.{names_of, name_at, IsNameOrder, HaveDistinctNames, seen, numbered, NamesRise, AreSorted, AreNumbered, RankAll};
 
+use crate::name_prefix::prefix_of;
 use crate::symbol::Symbol;
 use pol_cursor::Records;
 use std::alloc::{AllocError, Global};
 use std::cmp::Ordering;
 
-/// The name of a record, its number in the list, and whether it is primary.
+/// The name of a record, its number in the list, and whether it is primary. Names are compared by their first bytes as one
+/// number, and further only where these are the same.
 #[derive(Clone, Copy, PartialEq, Eq, PartialOrd, Ord)]
 pub(crate) struct Entry<'a> {
+    prefix: u64,
     name: &'a [u8],
     number: u32,
     primary: bool,
@@ -41,13 +46,16 @@ fn entries_of<'a, K: Symbol<'a> + Drop>(
 where
     K::View: Drop,
     ensures same { IfOk result (λ entries. map seen entries.items ≡ numbered K.name_of K.is_primary 0 records.now) }
+    ensures prefixes { IfOk result (λ entries. All HasPrefix entries.items) }
     ensures few { IfOk result (λ entries. length entries.items < 2 ^ 32) }
 {
     let mut entries = Vec::new(alloc);
     for number in 0..records.len() {
         let record = records.view(number);
+        let name = K::name(&record);
         entries.push(Entry {
-            name: K::name(&record),
+            prefix: prefix_of(name),
+            name,
             number,
             primary: K::is_primary(&record),
         })?;

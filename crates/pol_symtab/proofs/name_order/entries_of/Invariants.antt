@@ -1,7 +1,11 @@
 use Rattle.std.proofs.Common.{◌≡◌}
 use Rattle.std.specs.Prelude.{map, take}
+use Rattle.std.specs.List.{All}
+use Rattle.pol_symtab.specs.NamePrefixes.{HasPrefix}
 use Rattle.pol_symtab.specs.TableIndex.{seen, numbered}
 use Rattle.pol_symtab.proofs.name_order.entries_of.Given as goal
 
 abbrev pub invariant-loop-number : goal.invariant-loop-number
-invariant-loop-number g l = map seen l.entries.items ≡ numbered g.K.SymbolKind.name_of g.K.SymbolKind.is_primary 0 (take l.number l.records)
+invariant-loop-number g l =
+    (map seen l.entries.items ≡ numbered g.K.SymbolKind.name_of g.K.SymbolKind.is_primary 0 (take l.number l.records))
+    × All HasPrefix l.entries.items

@@ -9,7 +9,7 @@ use Rattle.pol_symtab.proofs.name_order.rank_names.Goals as goal
 use Rattle.pol_symtab.proofs.name_order.rank_names.Goals.{then-entry, else-entry}
 
 abbrev no_entry : Entry
-no_entry = record { name = record { ref_ptr = (0, 0); now = [] }; number = 0; primary = false }
+no_entry = record { prefix = 0; name = record { ref_ptr = (0, 0); now = [] }; number = 0; primary = false }
 
 entry_at : (entries : List Entry) (k : ℕ) → k < length entries → slice_get (map seen entries) k ≡ Some (seen (get_or entries k no_entry))
 entry_at entries k lt = slice_get-map seen entries k ∙ ap (option_map seen) (slice_get-get_or entries k no_entry lt)
