@@ -155,7 +155,7 @@ apart_more false keys new (r ∷ rs) kind differs apart =
 
 -- ---- the rules
 
-abbrev kept : ℕ → ℕ → List ℕ → ℕ → Outcome (List (Placed AvRec))
+abbrev pub kept : ℕ → ℕ → List ℕ → ℕ → Outcome (List (Placed AvRec))
 kept version n bytes place = list_of (λ left context. placed (rule_behind context)) (λ context (r : Placed AvRec). after_collecting context r.value) n (record { version = version; keys = []; collects = false }) bytes place
 
 abbrev behind : ℕ → List AvKey → ℕ → List ℕ → ℕ → Outcome (List (Placed AvRec))
@@ -175,7 +175,7 @@ module _ (P : List (Placed AvRec) → Type 0) (place : ℕ) (rules : List (Place
       let s = same more k refl (subst P is holds) in
       rw (s.0, s.1) e
 
-  both_same : (first o : Outcome AvRec) (firsts others : AvRec → ℕ → Outcome (List (Placed AvRec)))
+  pub both_same : (first o : Outcome AvRec) (firsts others : AvRec → ℕ → Outcome (List (Placed AvRec)))
       → ((av : AvRec) (m : ℕ) (more : List (Placed AvRec)) (k : ℕ) → first ≡ Got av m → firsts av m ≡ Got more k → P (record { place = place; value = av } ∷ more) → (o ≡ Got av m) × (others av m ≡ Got more k))
       → both place first firsts ≡ Got rules end → both place o others ≡ Got rules end
   both_same (Bad b) o firsts others same e = absurd cc

@@ -1,4 +1,4 @@
-ghost use Rattle.std.specs.Prelude.{◌≡◌, ◌==◌, ◌<◌, ◌≤◌, ◌+◌, ◌++◌, true, IfOk, length, take};
+ghost use Rattle.std.specs.Prelude.{◌≡◌, ℕ, ◌==◌, ◌<◌, ◌≤◌, ◌+◌, ◌++◌, true, false, Ok, IfOk, IfSome, length, take};
 ghost use Rattle.std.specs.List.{IsDistinct, filter};
 ghost use Rattle.std.specs.Option.{option_to_list};
 ghost use Rattle.pol_cursor.specs.Outcome.{Yields};
@@ -10,7 +10,7 @@ use crate::av_kind::{Av, AvContext};
 use crate::causes::is_extended;
 use crate::key_order::LastKey;
 use crate::word_marks::WordMarks;
-use pol_cursor::{Cursor, ReadError, Records, read_records_after};
+use pol_cursor::{Cursor, ReadError, Records, read_records, read_records_after};
 use pol_fields::fields::AVTAB_NEL;
 use std::alloc::{AllocError, Global};
 
@@ -33,6 +33,11 @@ pub fn read_table<'a>(
 {
     let n = c.u32(AVTAB_NEL)?;
     let mut ahead = Cursor::at(c.bytes(), c.place());
+    if let Some(table) = read_plain(alloc, &mut ahead, n)? {
+        *c = ahead;
+        return Ok(table);
+    }
+    let mut ahead = Cursor::at(c.bytes(), c.place());
     if let Some(table) = read_distinct(alloc, &mut ahead, version, n)? {
         *c = ahead;
         return Ok(table);
@@ -40,9 +45,23 @@ pub fn read_table<'a>(
     read_rules(alloc, c, version, n, true)
 }
 
+// The next n rules, where all are right at first sight, as in most tables, and no two have the same key.
+#[inline(always)]
+#[tactic(auto, using(crate::proofs::PlainRules::plain_distinct))]
+fn read_plain<'a>(
+    alloc: Global,
+    c: &mut Cursor<'a>,
+    n: u32,
+) -> Result<Option<AvTable<'a>>, AllocError>
+    ensures { (version : ℕ) → IfOk result (λ found. IsRead (placed_rules_at version n) found c.old c.new) }
+{
+    let read = read_records(alloc, c, n);
+    if_distinct(alloc, read)
+}
+
 // The next n rules, where none is bad by itself and no two have the same key, but for extended ones. Else the first fault is one
 // that only the keys of the rules in their order tell.
-#[tactic(auto, using(crate::proofs::KeyWords::distinct_read))]
+#[tactic(auto, using(crate::proofs::PlainRules::each_distinct))]
 fn read_distinct<'a>(
     alloc: Global,
     c: &mut Cursor<'a>,
@@ -51,7 +70,18 @@ fn read_distinct<'a>(
 ) -> Result<Option<AvTable<'a>>, AllocError>
     ensures { IfOk result (λ found. IsRead (placed_rules_at version n) found c.old c.new) }
 {
-    let table = match read_rules(alloc, c, version, n, false) {
+    let read = read_rules(alloc, c, version, n, false);
+    if_distinct(alloc, read)
+}
+
+// What was read, unless it is a fault or two rules have the same key, but for extended ones.
+fn if_distinct<'a>(
+    alloc: Global,
+    read: Result<AvTable<'a>, ReadError>,
+) -> Result<Option<AvTable<'a>>, AllocError>
+    ensures { IfOk result (λ found. IfSome found (λ table. (read.entry ≡ Ok table) × IsDistinct ◌==◌ (words_of table))) }
+{
+    let table = match read {
         Ok(table) => table,
         Err(ReadError::Memory) => return Err(AllocError),
         Err(ReadError::Fault(_)) => return Ok(None),
