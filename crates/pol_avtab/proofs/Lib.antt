@@ -3,7 +3,7 @@ pub mod AvReading
 pub mod HeldNumbers
 pub mod AvLaws
 pub mod KeyWords
-pub mod PlainRules
+pub mod EvenRules
 pub mod SharedWords
 pub mod SharedFirst
 pub mod DeclaredEnds

@@ -1,18 +1,16 @@
 -- How the code finds a rule that has the key of an earlier one. Nothing here is promised to a caller.
-use Rattle.std.specs.Prelude.{◌≡◌, ◌⊎◌, ◌<◌, ℕ, ◌+◌, ◌-◌, ◌*◌, ◌/◌, ◌%◌, ◌^◌, ◌≤◌, ◌==◌, ◌&&◌, nat_le, Bool, true, not, Option, Some, None, List, [], ◌∷◌, map, length, slice_index, if◌then◌else◌}
+use Rattle.std.specs.Prelude.{◌≡◌, ◌⊎◌, ◌<◌, ℕ, ◌+◌, ◌-◌, ◌*◌, ◌/◌, ◌%◌, ◌^◌, ◌≤◌, ◌==◌, Bool, true, not, Option, Some, None, List, [], ◌∷◌, map, length, slice_index, if◌then◌else◌}
 use Rattle.std.specs.List.{filter, Contains, IsDistinct}
 use Rattle.std.specs.Int.{bit_at, rotate_left, w32}
 use Rattle.std.specs.Int.Bits.{bit_and, bit_xor}
-use Rattle.pol_fields.specs.declared.fault.Cause.TheVariants.{BadSpecified}
-use Rattle.pol_fields.specs.declared.fields.TheConstants.{AV_SPECIFIED}
-use Rattle.pol_cursor.specs.Outcome.{Reader, Position, Got, Bad, fault}
+use Rattle.pol_cursor.specs.Outcome.{Reader, Position, Got}
 use Rattle.pol_cursor.specs.Contexts.{records_after}
 use Rattle.pol_cursor.specs.References.{Placed}
 use Rattle.pol_avtab.specs.declared.av_rec.AvRec.{AvRec}
 use Rattle.pol_avtab.specs.declared.av_key.AvKey.{AvKey}
 use Rattle.pol_avtab.specs.declared.key_order.LastKey.{LastKey}
 use Rattle.pol_avtab.specs.AvKeys.{key_of, with_key, word_of}
-use Rattle.pol_avtab.specs.AvRecord.{is_extended, is_kind, specified_in, av_at, av_in}
+use Rattle.pol_avtab.specs.AvRecord.{is_extended, av_at}
 
 -- what a rule is read under: the version, and the keys of the rules before it, where they are collected
 pub record Collecting : Type 0 where
@@ -35,11 +33,6 @@ after_collecting context av = record {
 abbrev pub IsFirst : Option (List AvKey) → Type 0
 IsFirst None = Unit {0}
 IsFirst (Some keys) = keys ≡ []
-
--- an access vector that is right at first sight: its twelve bytes are there, and each version has its kind. The fault says nothing
--- but that it is none
-unfoldable pub plain_at : Reader AvRec
-plain_at bytes place = if nat_le (place + 12) (length bytes) && is_kind 0 (specified_in bytes place) then Got (av_in bytes place) (place + 12) else Bad (fault place AV_SPECIFIED BadSpecified)
 
 -- n rules, each behind those before it where keys are collected, and else each as if it were the first
 unfoldable pub rules_behind : ℕ → Bool → ℕ → Reader (List (Placed AvRec))

@@ -3,3 +3,5 @@ pub mod AvRecord
 pub mod XPerms
 pub mod AvTables
 pub mod InnerKeys
+pub mod EvenRules
+pub mod AvLists

@@ -3,13 +3,13 @@
 ghost use Rattle.std.specs.Prelude.{◌≡◌, None, IfOk, OnOk};
 ghost use Rattle.pol_cursor.specs.Outcome.{Answers, Yields};
 ghost use Rattle.pol_avtab.specs.AvRecord.{av_at, av_in, av_end, HasAv, av_references};
-ghost use Rattle.pol_avtab.specs.InnerKeys.{plain_at, rule_behind, after_collecting};
+ghost use Rattle.pol_avtab.specs.InnerKeys.{rule_behind, after_collecting};
 
 use crate::av_keys::AvKeys;
 use crate::av_rec::AvRec;
-use crate::av_view::{AvView, pass_plain, read_av};
+use crate::av_view::{AvView, read_av};
 use pol_cursor::{
-    Copied, Cursor, Inner, Names, ReadAfter, ReadAlone, ReadError, Record, RecordView, Referring,
+    Copied, Cursor, Inner, Names, ReadAfter, ReadError, Record, RecordView, Referring,
 };
 use pol_fields::Fault;
 use std::alloc::{AllocError, Global};
@@ -65,19 +65,6 @@ impl<'a> Referring<'a> for Av {
 
     fn dangling<N: Names>(view: &Self::View, names: &N) -> Option<Fault> {
         view.dangling(names)
-    }
-}
-
-// Where it is right at first sight.
-impl ReadAlone for Av {
-    ghost reads = { plain_at };
-
-    #[inline(always)]
-    fn pass(c: &mut Cursor<'_>) -> Result<(), Fault>
-        ensures exact { Answers (λ _. av_in c.old.bytes c.old.place) result plain_at c.old c.new }
-        ensures stands { OnOk result (HasAv c.old.bytes c.old.place) }
-    {
-        pass_plain(c)
     }
 }
 

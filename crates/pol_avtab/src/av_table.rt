@@ -1,4 +1,4 @@
-ghost use Rattle.std.specs.Prelude.{◌≡◌, ℕ, ◌==◌, ◌<◌, ◌≤◌, ◌+◌, ◌++◌, true, false, Ok, IfOk, IfSome, length, take};
+ghost use Rattle.std.specs.Prelude.{◌≡◌, ℕ, ◌==◌, ◌<◌, ◌≤◌, ◌+◌, ◌++◌, true, IfOk, length, take};
 ghost use Rattle.std.specs.List.{IsDistinct, filter};
 ghost use Rattle.std.specs.Option.{option_to_list};
 ghost use Rattle.pol_cursor.specs.Outcome.{Yields};
@@ -6,19 +6,18 @@ ghost use Rattle.pol_avtab.specs.AvTables.{placed_rules_at, table_at};
 ghost use Rattle.pol_avtab.specs.InnerKeys.{rules_behind, words_of, AreMarked, is_shared, IsRead};
 
 use crate::av_keys::AvKeys;
-use crate::av_kind::{Av, AvContext};
+use crate::av_kind::AvContext;
+use crate::av_list::{AvList, AvTable};
 use crate::causes::is_extended;
+use crate::even_rules::EvenRules;
 use crate::key_order::LastKey;
 use crate::word_marks::WordMarks;
-use pol_cursor::{Cursor, ReadError, Records, read_records, read_records_after};
+use pol_cursor::{Cursor, ReadError, read_records_after};
 use pol_fields::fields::AVTAB_NEL;
 use std::alloc::{AllocError, Global};
 
 // How many rules are looked at together: their marks lie far apart, and the processor fetches those of one loop side by side.
 const AT_ONCE: u32 = 128;
-
-/// The table of access vectors. Contracts see the list of them, each with its place.
-pub type AvTable<'a> = Records<'a, Av>;
 
 /// Reads the table of access vectors. Nothing is reserved by the number that the policy claims.
 ///
@@ -33,7 +32,7 @@ pub fn read_table<'a>(
 {
     let n = c.u32(AVTAB_NEL)?;
     let mut ahead = Cursor::at(c.bytes(), c.place());
-    if let Some(table) = read_plain(alloc, &mut ahead, n)? {
+    if let Some(table) = read_even(alloc, &mut ahead, n)? {
         *c = ahead;
         return Ok(table);
     }
@@ -45,23 +44,27 @@ pub fn read_table<'a>(
     read_rules(alloc, c, version, n, true)
 }
 
-// The next n rules, where all are right at first sight, as in most tables, and no two have the same key.
-#[inline(always)]
-#[tactic(auto, using(crate::proofs::PlainRules::plain_distinct))]
-fn read_plain<'a>(
+// The next n rules, where all take twelve bytes, as in most tables, and no two have the same key.
+fn read_even<'a>(
     alloc: Global,
     c: &mut Cursor<'a>,
     n: u32,
 ) -> Result<Option<AvTable<'a>>, AllocError>
     ensures { (version : ℕ) → IfOk result (λ found. IsRead (placed_rules_at version n) found c.old c.new) }
 {
-    let read = read_records(alloc, c, n);
-    if_distinct(alloc, read)
+    let Some(rules) = EvenRules::read(c, n) else {
+        return Ok(None);
+    };
+    let table = AvTable::of(AvList::Even(rules));
+    if are_distinct(alloc, &table)? {
+        return Ok(Some(table));
+    }
+    Ok(None)
 }
 
 // The next n rules, where none is bad by itself and no two have the same key, but for extended ones. Else the first fault is one
 // that only the keys of the rules in their order tell.
-#[tactic(auto, using(crate::proofs::PlainRules::each_distinct))]
+#[tactic(auto, using(crate::proofs::KeyWords::distinct_read))]
 fn read_distinct<'a>(
     alloc: Global,
     c: &mut Cursor<'a>,
@@ -70,18 +73,7 @@ fn read_distinct<'a>(
 ) -> Result<Option<AvTable<'a>>, AllocError>
     ensures { IfOk result (λ found. IsRead (placed_rules_at version n) found c.old c.new) }
 {
-    let read = read_rules(alloc, c, version, n, false);
-    if_distinct(alloc, read)
-}
-
-// What was read, unless it is a fault or two rules have the same key, but for extended ones.
-fn if_distinct<'a>(
-    alloc: Global,
-    read: Result<AvTable<'a>, ReadError>,
-) -> Result<Option<AvTable<'a>>, AllocError>
-    ensures { IfOk result (λ found. IfSome found (λ table. (read.entry ≡ Ok table) × IsDistinct ◌==◌ (words_of table))) }
-{
-    let table = match read {
+    let table = match read_rules(alloc, c, version, n, false) {
         Ok(table) => table,
         Err(ReadError::Memory) => return Err(AllocError),
         Err(ReadError::Fault(_)) => return Ok(None),
@@ -109,7 +101,8 @@ fn read_rules<'a>(
         keys,
         collects,
     };
-    Ok(read_records_after(alloc, c, n, context)?.0)
+    let (rules, _) = read_records_after(alloc, c, n, context)?;
+    Ok(AvTable::of(AvList::Placed(rules)))
 }
 
 // Whether no two rules have the same key, but for extended ones. Tables that libsepol wrote tell it by their order. In others equal

@@ -1,10 +1,10 @@
-ghost use Rattle.std.specs.Prelude.{◌≡◌, ℕ, ◌+◌, ◌^◌, ◌≤◌, ◌<◌, ◌&&◌, true, IfOk, OnOk, Ok, Some, None, option_map, is_some, nat_le, not, length, if◌then◌else◌};
+ghost use Rattle.std.specs.Prelude.{◌≡◌, ℕ, ◌+◌, ◌^◌, ◌≤◌, ◌<◌, ◌&&◌, true, IfOk, OnOk, Ok, Some, None, option_map, is_some, not, length, if◌then◌else◌};
 ghost use Rattle.pol_cursor.specs.Outcome.{Answers, Got};
 ghost use Rattle.pol_cursor.specs.References.{dangling_of};
 ghost use Rattle.pol_fields.specs.declared.TableKind.TheVariants.{Types, Classes};
 ghost use Rattle.pol_avtab.specs.AvKeys.{key_of, has_key, word_of};
 ghost use Rattle.pol_avtab.specs.AvRecord.{is_extended, is_kind, extended_at, part_at, av_at, av_in, specified_in, part_in, av_length, av_end, HasAv, av_references, part_references, is_default};
-ghost use Rattle.pol_avtab.specs.InnerKeys.{IsFirst, plain_at};
+ghost use Rattle.pol_avtab.specs.InnerKeys.{IsFirst};
 ghost use Rattle.pol_avtab.specs.XPerms.{mask_of, xperms_of};
 
 use crate::av_key::AvKey;
@@ -19,7 +19,7 @@ use pol_cursor::{
 use pol_fields::fields::{
     AV_BITS, AV_CLASS, AV_DATA, AV_DRIVER, AV_SOURCE, AV_SPECIFIED, AV_TARGET, AV_XKIND,
 };
-use pol_fields::{Cause, Fault, TableKind};
+use pol_fields::{Fault, TableKind};
 use std::alloc::{AllocError, Global};
 use std::marker::Model;
 
@@ -300,40 +300,18 @@ fn is_first(earlier: Option<&AvKeys>) -> bool
 // Whether 12 bytes are there, and a kind that each version has.
 fn has_plain_kind(bytes: &[u8], place: usize) -> bool
     requires { place < 2 ^ 32 }
-    ensures exact { result ≡ (nat_le (place + 12) (length bytes.now) && is_kind 0 (specified_in bytes.now place)) }
     ensures long { result ≡ true → place + 12 ≤ length bytes.now }
     ensures kind { result ≡ true → is_kind 0 (specified_in bytes.now place) ≡ true }
 {
     place + 12 <= bytes.len() && is_plain_kind(u16_in(bytes, place + 6))
 }
 
-// Whether each version has the kind. That of an allow rule is asked first, since most rules are such.
+/// Whether each version has the kind. That of an allow rule is asked first, since most rules are such.
 #[inline(always)]
-fn is_plain_kind(kind: u16) -> bool
+pub(crate) fn is_plain_kind(kind: u16) -> bool
     ensures { result ≡ is_kind 0 kind }
 {
     kind == ALLOW || is_kind(0, kind)
-}
-
-/// Passes over an access vector that is right at first sight. Takes no memory.
-///
-/// The error says nothing but that it is none: `BadSpecified`, whatever is wrong.
-#[inline(always)]
-#[tactic(auto, unfolding(crate::specs::InnerKeys::plain_at), using(crate::proofs::AvReading::plain_end))]
-pub(crate) fn pass_plain(c: &mut Cursor<'_>) -> Result<(), Fault>
-    ensures exact { Answers (λ _. av_in c.old.bytes c.old.place) result plain_at c.old c.new }
-    ensures stands { OnOk result (HasAv c.old.bytes c.old.place) }
-{
-    let place = c.place();
-    if !has_plain_kind(c.bytes(), place as usize) {
-        return Err(Fault {
-            place,
-            field: AV_SPECIFIED,
-            cause: Cause::BadSpecified,
-        });
-    }
-    *c = Cursor::at(c.bytes(), place + 12);
-    Ok(())
 }
 
 // Passes over its parts, one after the other.
