@@ -7,6 +7,6 @@ mod rules_from;
 mod sorting;
 
 pub use pol_file::{TypeMap, TypeMapRow};
-pub use pol_rules::{Condition, Rule, RuleEnds, RuleKey, RuleKind, RulePart};
+pub use pol_rules::{Condition, Rule, RuleEnds, RuleKey, RuleKind, RulePart, RuleRecord};
 pub use policy::{Policy, read};
 pub use rules_from::Rules;

@@ -51,6 +51,20 @@ impl<'a> RuleRecord<'a> {
         }
     }
 
+    /// Its kind. Nothing else of the rule is read.
+    #[inline(always)]
+    pub fn kind(&self) -> RuleKind
+        ensures { result ≡ (rule_of self.now).kind }
+    {
+        match self {
+            RuleRecord::Vector(view, _) => vector_kind(view),
+            RuleRecord::RoleTrans(_) => RuleKind::RoleTransition,
+            RuleRecord::RoleAllow(_) => RuleKind::RoleAllow,
+            RuleRecord::NameTrans(_) | RuleRecord::NameSource(_, _, _) => RuleKind::TypeTransition,
+            RuleRecord::RangeTrans(_) => RuleKind::RangeTransition,
+        }
+    }
+
     /// Its ends, with its kind and its class.
     pub fn ends(&self) -> RuleEnds
         ensures { result ≡ ends_of (rule_of self.now) }
