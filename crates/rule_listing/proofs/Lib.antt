@@ -1,3 +1,2 @@
-pub mod FoundRules
 pub mod KeptSlots
 pub mod ReadAhead

@@ -1,38 +1,39 @@
--- Rules that were looked at are those of the first of some numbers.
-use Rattle.std.proofs.Common.{◌≡◌, ℕ, zero, suc, List, [], ◌∷◌, ◌+◌, ◌<◌, ◌++◌, length, map, get_or, take, drop, sym, ap, subst, ◌∙◌, arith}
-use Rattle.std.proofs.lemmas.List.{take_more, map-append}
+-- The next of the rules that were found is that of the first of the numbers that are left.
+use Rattle.std.proofs.Common.{◌≡◌, ℕ, zero, suc, List, [], ◌∷◌, Some, length, take, drop, get_or, slice_get, option_map, sym, ap, subst, ◌∙◌}
+use Rattle.std.proofs.lemmas.Option.{slice_get-map, slice_get_within, get_or_from_slice_get}
 use Rattle.pol_file.specs.declared.Parts.{Parts}
+use Rattle.pol_rules.specs.DeclaredRules.{IsDeclaredRule}
+use Rattle.pol_rules.specs.RuleRecords.{rule_of}
+use Rattle.pol_rules.specs.StoredRules.{stored_rules}
+use Rattle.pol_rules.specs.declared.rule.RuleKind.{RuleKind}
+use Rattle.pol_rules.specs.declared.rule_record.RuleRecord.{RuleRecord}
 use Rattle.rule_listing.specs.declared.found_rule.FoundRule.{FoundRule}
-use Rattle.rule_listing.specs.declared.rules_ahead.NumberedKind.{NumberedKind}
-use Rattle.rule_listing.specs.ReadRules.{AreRead, IsRuleOf}
+use Rattle.rule_listing.specs.declared.listed_rule.ListedRule.{ListedRule}
+use Rattle.rule_listing.specs.ReadRules.{AreAhead, IsFound, IsOfFirst, IsRuleOf, IsStored}
 
--- one rule more
-pub read_more : (policy : Parts) (numbers : List ℕ) (rules : List NumberedKind) (number : ℕ) (rule : NumberedKind) → length rules ≡ length numbers → AreRead policy numbers rules → IsRuleOf policy number rule
-    → AreRead policy (numbers ++ number ∷ []) (rules ++ rule ∷ [])
-read_more policy [] [] number rule long are is = (is, tt)
-read_more policy [] (r ∷ rs) number rule long are is = absurd are
-read_more policy (n ∷ ns) [] number rule long are is = absurd (omega (arith, long))
-read_more policy (n ∷ ns) (r ∷ rs) number rule long are is = (are.0, read_more policy ns rs number rule (omega (arith, long)) are.1 is)
+-- one of the first of some numbers is the first of those from it on
+first_of_rest : (count : ℕ) (numbers : List ℕ) (next number : ℕ) → slice_get (take count numbers) next ≡ Some number → drop next numbers ≡ number ∷ drop (suc next) numbers
+first_of_rest zero numbers next number e = absurd (cc e)
+first_of_rest (suc count) [] next number e = absurd (cc e)
+first_of_rest (suc count) (n ∷ ns) zero number e = cc e
+first_of_rest (suc count) (n ∷ ns) (suc next) number e = first_of_rest count ns next number e
 
--- the numbers of one rule more
-pub numbers_more : (found : List FoundRule) (i : ℕ) (rule : FoundRule) → i < length found → rule ≡ get_or found i rule
-    → map (λ (it : FoundRule). it.number) (take (i + 1) found) ≡ map (λ (it : FoundRule). it.number) (take i found) ++ rule.number ∷ []
-numbers_more found i rule lt is =
-    ap (map (λ (it : FoundRule). it.number)) (take_more found i rule lt)
-    ∙ map-append (λ (it : FoundRule). it.number) (take i found) (get_or found i rule ∷ [])
-    ∙ ap (λ (it : FoundRule). map (λ (other : FoundRule). other.number) (take i found) ++ it.number ∷ []) (sym is)
-
--- of the front of some numbers, and so of all of them
-pub of_front : (policy : Parts) (count : ℕ) (numbers : List ℕ) (rules : List NumberedKind) → AreRead policy (take count numbers) rules → AreRead policy numbers rules
-of_front policy count numbers [] h = tt
-of_front policy zero numbers (rule ∷ rules) h = absurd h
-of_front policy (suc count) [] (rule ∷ rules) h = absurd h
-of_front policy (suc count) (number ∷ numbers) (rule ∷ rules) h = (h.0, of_front policy count numbers rules h.1)
-
--- the first is passed over
-pub first_passed : (policy : Parts) (number : ℕ) (old numbers : List ℕ) (rules : List NumberedKind) → old ≡ number ∷ numbers → AreRead policy old rules → AreRead policy numbers (drop 1 rules)
-first_passed policy number old numbers rules e h = passed rules (subst (λ (ns : List ℕ). AreRead policy ns rules) e h)
-  where
-    passed : (rs : List NumberedKind) → AreRead policy (number ∷ numbers) rs → AreRead policy numbers (drop 1 rs)
-    passed [] h = tt
-    passed (r ∷ rs) h = h.1
+-- the number, the kind and the record of a rule that was found
+pub next_found : (policy : Parts) (numbers : List ℕ) (rules : List FoundRule) (kinds : List RuleKind) (next : ℕ) (rule : FoundRule) (listed : ListedRule)
+    → AreAhead policy numbers rules kinds → slice_get rules next ≡ Some rule
+    → listed.number ≡ rule.number → listed.kind ≡ get_or kinds next listed.kind → listed.record.now ≡ rule.record
+    → IsOfFirst policy (drop next numbers) listed
+next_found policy numbers rules kinds next rule listed ahead there number kind from =
+    let number_of = λ (it : FoundRule). it.number in
+    let kind_of = λ (it : FoundRule). (rule_of it.record).kind in
+    let at : get_or rules next rule ≡ rule = get_or_from_slice_get rules next rule rule there in
+    let found : IsFound policy rule = subst (IsFound policy) at (ahead.found.each next rule (slice_get_within rules next rule there)) in
+    let numbered : slice_get (take (length rules) numbers) next ≡ Some rule.number = ap (λ (ns : List ℕ). slice_get ns next) (sym ahead.found.are) ∙ slice_get-map number_of rules next ∙ ap (option_map number_of) there in
+    let read : slice_get kinds next ≡ Some (kind_of rule) = ap (λ (ks : List RuleKind). slice_get ks next) ahead.read ∙ slice_get-map kind_of rules next ∙ ap (option_map kind_of) there in
+    let stored : IsStored policy listed = record {
+      there = ap (slice_get (stored_rules policy)) number ∙ found.there ∙ ap (λ (it : RuleRecord). Some (rule_of it)) (sym from);
+      kind = kind ∙ get_or_from_slice_get kinds next (kind_of rule) listed.kind read ∙ ap (λ (it : RuleRecord). (rule_of it).kind) (sym from);
+      declared = subst (λ (it : RuleRecord). IsDeclaredRule policy (rule_of it)) (sym from) found.declared;
+    } in
+    let is : IsRuleOf policy rule.number listed = record { number = number; stored = stored } in
+    subst (λ (ns : List ℕ). IsOfFirst policy ns listed) (sym (first_of_rest (length rules) numbers next rule.number numbered)) is

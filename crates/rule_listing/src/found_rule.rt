@@ -2,18 +2,15 @@
 
 ghost use Rattle.std.specs.Prelude.{◌≡◌, ◌<◌, length};
 ghost use Rattle.pol_rules.specs.StoredRules.{stored_rules};
-ghost use Rattle.rule_listing.specs.ReadRules.{IsFound, IsOfKind, IsRuleOf};
+ghost use Rattle.rule_listing.specs.ReadRules.{IsFound};
 
-use crate::rules_ahead::NumberedKind;
-use pol_avtab::AvView;
-use pol_read::{Policy, RuleKind};
-use pol_rules::vector_kind;
+use pol_read::{Policy, RuleRecord};
 
-/// A stored rule by its number, and the access vector that it is, where it stands in the table of them.
+/// A stored rule by its number, and what it is read from.
 #[derive(Drop)]
 pub(crate) struct FoundRule<'a> {
     pub(crate) number: u32,
-    pub(crate) vector: Option<AvView<'a>>,
+    pub(crate) record: RuleRecord<'a>,
 }
 
 impl<'a> FoundRule<'a> {
@@ -24,37 +21,7 @@ impl<'a> FoundRule<'a> {
         ensures found { IsFound policy.now result }
         ensures number { result.number ≡ number }
     {
-        let table = policy.table();
-        let vector = if number < table.len() {
-            Some(table.view(number))
-        } else {
-            None
-        };
-        FoundRule { number, vector }
-    }
-
-    /// Its number and its kind.
-    #[inline(always)]
-    pub(crate) fn numbered_kind(&self, policy: &Policy<'a>) -> NumberedKind
-        requires { IsFound policy.now self.now }
-        ensures { IsRuleOf policy.now self.now.number result }
-    {
-        NumberedKind {
-            number: self.number,
-            kind: self.kind(policy),
-        }
-    }
-
-    // Its kind.
-    #[inline(always)]
-    #[tactic(auto, using(crate::proofs::FoundRules::kind_of_vector))]
-    fn kind(&self, policy: &Policy<'a>) -> RuleKind
-        requires { IsFound policy.now self.now }
-        ensures { IsOfKind policy.now self.now.number result }
-    {
-        match &self.vector {
-            Some(vector) => vector_kind(vector),
-            None => policy.rule_kind(self.number),
-        }
+        let record = policy.rule_record(number);
+        FoundRule { number, record }
     }
 }

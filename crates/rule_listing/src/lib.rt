@@ -4,8 +4,10 @@
 mod found_rule;
 mod kept_head;
 mod kept_texts;
+mod listed_rule;
 mod listed_texts;
 mod rules_ahead;
 
+pub use listed_rule::ListedRule;
 pub use listed_texts::ListedTexts;
-pub use rules_ahead::{NumberedKind, RulesAhead};
+pub use rules_ahead::RulesAhead;

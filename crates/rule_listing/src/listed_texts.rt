@@ -8,7 +8,7 @@ ghost use Rattle.rule_text.specs.RuleTexts.{rest_text, text_of_rule};
 
 use crate::kept_head::KeptHead;
 use crate::kept_texts::KeptTexts;
-use crate::rules_ahead::NumberedKind;
+use crate::listed_rule::ListedRule;
 use pol_read::{Policy, Rule};
 use rule_text::{RuleTexts, TypeNames, push_end};
 use std::alloc::{AllocError, Global};
@@ -58,7 +58,11 @@ impl<'p, 'a> ListedTexts<'p, 'a> {
 
     /// Adds the text of a stored rule, without a line feed.
     #[tactic(auto, unfolding(rule_text::specs::RuleTexts::text_of_rule, rule_text::specs::RuleTexts::rule_text, rule_text::specs::RuleTexts::ends_text, rule_text::specs::RuleFrames::head_text))]
-    pub fn push_rule(&mut self, rule: &NumberedKind, buffer: &mut Vec<u8>) -> Result<(), AllocError>
+    pub fn push_rule(
+        &mut self,
+        rule: &ListedRule<'_, 'a>,
+        buffer: &mut Vec<u8>,
+    ) -> Result<(), AllocError>
         requires { IsStored self.old rule.now }
         ensures policy { self.new ≡ self.old }
         ensures text { OnOk result (buffer.new.items ≡ buffer.old.items ++ text_of_rule self.old rule.now.number) }
@@ -66,7 +70,7 @@ impl<'p, 'a> ListedTexts<'p, 'a> {
         let policy = self.texts.policy();
         let symbols = policy.symbols();
         let kind = rule.kind;
-        let rule = policy.rule(rule.number);
+        let rule = rule.record.rule();
         self.head.push(symbols, kind, rule.source, buffer)?;
         self.names.push_target(symbols, kind, rule.target, buffer)?;
         push_rest(&mut self.texts, &rule, buffer)

@@ -1,7 +1,7 @@
 -- The lines of rules that were looked at are those of their numbers.
 use Rattle.std.proofs.Common.{◌≡◌, ◌∙◌, ℕ, Bool, true, false, List, [], ◌∷◌, ◌++◌, map, ap}
 use Rattle.pol_file.specs.declared.Parts.{Parts}
-use Rattle.rule_listing.specs.declared.rules_ahead.NumberedKind.{NumberedKind}
+use Rattle.rule_listing.specs.declared.listed_rule.ListedRule.{ListedRule}
 use Rattle.rule_listing.specs.ReadRules.{IsOfFirst, PassesNumber}
 use Rattle.se_items.specs.Items.{Passes, PushesItem}
 use Rattle.se_search.specs.SearchAnswer.{rule_line}
@@ -12,7 +12,7 @@ line-passed policy old new true passes = (rule_line policy passes.0, ap (map (ru
 line-passed policy old new false passes = (ap (map (rule_line policy)) passes.0, ap (map (rule_line policy)) passes.1)
 
 -- and one that is added
-pub line-pushed : (policy : Parts) (rule : NumberedKind) (old new : List ℕ) (had has : List ℕ) (more : Bool) → IsOfFirst policy old rule → PassesNumber old new more
+pub line-pushed : (policy : Parts) (rule : ListedRule) (old new : List ℕ) (had has : List ℕ) (more : Bool) → IsOfFirst policy old rule → PassesNumber old new more
     → has ≡ had ++ rule_line policy rule.number → PushesItem (map (rule_line policy) old) (map (rule_line policy) new) had has more
 line-pushed policy rule [] new had has more first passes is = absurd first
 line-pushed policy rule (number ∷ numbers) new had has true first passes is =

@@ -4,7 +4,7 @@ ghost use Rattle.rule_order.specs.ListedOrder.{AreRules};
 ghost use Rattle.rule_listing.specs.ReadRules.{IsStored};
 ghost use Rattle.se_search.specs.SearchAnswer.{rule_line};
 
-use rule_listing::{ListedTexts, NumberedKind, RulesAhead};
+use rule_listing::{ListedRule, ListedTexts, RulesAhead};
 use se_items::Items;
 use std::alloc::{AllocError, Global};
 
@@ -47,16 +47,16 @@ impl Items for RuleLines<'_, '_, '_> {
         let Some(rule) = self.rules.front() else {
             return Ok(false);
         };
-        push_line(&mut self.texts, rule, buffer)?;
+        push_line(&mut self.texts, &rule, buffer)?;
         Ok(self.rules.pass())
     }
 }
 
 // Adds the line of a rule.
 #[tactic(auto, unfolding(crate::specs::SearchAnswer::rule_line))]
-fn push_line(
-    texts: &mut ListedTexts<'_, '_>,
-    rule: &NumberedKind,
+fn push_line<'a>(
+    texts: &mut ListedTexts<'_, 'a>,
+    rule: &ListedRule<'_, 'a>,
     buffer: &mut Vec<u8>,
 ) -> Result<(), AllocError>
     requires { IsStored texts.old rule.now }

@@ -7,7 +7,7 @@ use Rattle.se_search.proofs.rule_lines.RuleLinesItems.push_next.Goals as goal
 pub returns : goal.returns
 returns c =
     let old = c.args.self.now in
-    let rule = c.in-Some.rule.now in
+    let rule = c.in-Some.rule in
     let left = c.pass.new.self.numbers in
     let read : IsOfFirst c.read.new.self.policy old.rules.numbers rule = subst (λ (numbers : List ℕ). IsOfFirst c.read.new.self.policy numbers rule) c.read.ensures.numbers c.in-Some.ensures in
     let first : IsOfFirst old.texts old.rules.numbers rule = subst (λ (policy : Parts). IsOfFirst policy old.rules.numbers rule) (c.read.ensures.policy ∙ old.of_policy) read in
