@@ -1,7 +1,6 @@
 pub mod EndLists
 pub mod FirstLists
 pub mod RuleSums
-pub mod RuleKinds
 pub mod RuleRanks
 pub mod RuleRooms
 pub mod RuleCounts

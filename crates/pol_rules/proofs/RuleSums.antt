@@ -130,6 +130,11 @@ table_first policy n av e =
     let within : n < length rules = omega (arith, slice_get_within policy.rules.table n av e, length-map policy.rules.table (av_rule None)) in
     found (λ (rules : List StoredRule). rules) (rule_sections policy) 0 n n rules refl (omega arith) within ∙ get_map (av_rule None) policy.rules.table n av e
 
+-- those under conditions come next
+pub conditional_behind : (policy : Parts) (n i : ℕ) → length policy.rules.table + i ≡ n → i < length (rules_of_nodes policy.rules.conditionals) → slice_get (stored_rules policy) n ≡ slice_get (rules_of_nodes policy.rules.conditionals) i
+conditional_behind policy n i e within =
+    found (λ (rules : List StoredRule). rules) (rule_sections policy) 1 i n (rules_of_nodes policy.rules.conditionals) refl (omega (arith, e, length-map policy.rules.table (av_rule None))) within
+
 -- ---- the part of an access vector
 
 pub part_of_numbers : (specified : ℕ) (part : AvPart) (numbers : Numbers) → xperms_of part ≡ Some numbers → rule_part specified part ≡ parts.Numbers numbers

@@ -64,7 +64,7 @@ pub fn ends_at(parts: &Parts<'_>, index: &RuleIndex, n: u32) -> RuleEnds
     }
 }
 
-/// The kind of that rule. Its section tells it, and an access vector is found in the same way. Nothing else of the rule is read.
+/// The kind of that rule. It is found in the same way, and nothing else of the rule is read.
 #[inline(always)]
 pub fn kind_at(parts: &Parts<'_>, index: &RuleIndex, n: u32) -> RuleKind
     requires index { IsIndexOf parts.now index.now }
@@ -74,7 +74,7 @@ pub fn kind_at(parts: &Parts<'_>, index: &RuleIndex, n: u32) -> RuleKind
     if n < parts.rules.table.len() {
         vector_kind(&vector_at(parts, n))
     } else {
-        section_kind(parts, index, n)
+        record_at(parts, index, n).kind()
     }
 }
 
@@ -88,31 +88,25 @@ fn vector_at<'a>(parts: &Parts<'a>, n: u32) -> AvView<'a>
     parts.rules.table.view(n)
 }
 
-// The kind of the rule of that number.
-#[tactic(auto, using(crate::proofs::RuleSums::total_is, crate::proofs::RuleSums::found, crate::proofs::RuleSums::found_length))]
+// What the rule of that number is read from. Most rules outside the table stand under conditions, right behind it.
+#[tactic(auto, using(crate::proofs::RuleSums::total_is, crate::proofs::RuleSums::conditional_behind))]
 #[inline(never)]
-fn section_kind(parts: &Parts<'_>, index: &RuleIndex, n: u32) -> RuleKind
+fn record_at<'a>(parts: &Parts<'a>, index: &RuleIndex, n: u32) -> RuleRecord<'a>
     requires index { IsIndexOf parts.now index.now }
     requires rule { n < length (stored_rules parts.now) }
-    ensures { option_map (λ rule. rule.kind) (slice_get (stored_rules parts.now) n) ≡ Some result }
+    ensures { slice_get (stored_rules parts.now) n ≡ Some (rule_of result) }
 {
-    let (section, i) = index.sections.find(n);
-    match section {
-        0 => table_record(&parts.rules.table, i).ends().kind,
-        1 => conditional_record(&parts.rules.conditionals, &index.nodes, i)
-            .ends()
-            .kind,
-        2 => RuleKind::RoleTransition,
-        3 => RuleKind::RoleAllow,
-        4 => RuleKind::TypeTransition,
-        _ => RuleKind::RangeTransition,
+    match n.checked_sub(parts.rules.table.len()) {
+        Some(i) if i < index.nodes.total() => {
+            conditional_record(&parts.rules.conditionals, &index.nodes, i)
+        }
+        _ => section_record(parts, index, n),
     }
 }
 
-// What the rule of that number is read from.
+// The same, by the section in which the rule stands.
 #[tactic(auto, using(crate::proofs::RuleSums::total_is, crate::proofs::RuleSums::found, crate::proofs::RuleSums::found_length))]
-#[inline(never)]
-fn record_at<'a>(parts: &Parts<'a>, index: &RuleIndex, n: u32) -> RuleRecord<'a>
+fn section_record<'a>(parts: &Parts<'a>, index: &RuleIndex, n: u32) -> RuleRecord<'a>
     requires index { IsIndexOf parts.now index.now }
     requires rule { n < length (stored_rules parts.now) }
     ensures { slice_get (stored_rules parts.now) n ≡ Some (rule_of result) }

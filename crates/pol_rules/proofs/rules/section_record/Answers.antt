@@ -1,7 +1,7 @@
 use Rattle.std.proofs.Common.{◌≡◌, ◌∙◌, Some, List, ℕ, length, map, slice_get, ap, arith}
 use Rattle.pol_rules.specs.StoredRules.{StoredRule, rule_sections, range_trans_rule}
 use Rattle.pol_rules.proofs.RuleSums.{found_by}
-use Rattle.pol_rules.proofs.rules.record_at.Goals as goal
+use Rattle.pol_rules.proofs.rules.section_record.Goals as goal
 
 pub returns-in_default : goal.returns-in_default
 returns-in_default c =
