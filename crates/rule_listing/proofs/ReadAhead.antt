@@ -1,5 +1,7 @@
 -- The next of the rules that were found is that of the first of the numbers that are left.
-use Rattle.std.proofs.Common.{◌≡◌, ℕ, zero, suc, List, [], ◌∷◌, Some, length, take, drop, get_or, slice_get, option_map, sym, ap, subst, ◌∙◌}
+use Rattle.std.proofs.Common.{◌≡◌, ℕ, zero, suc, ◌+◌, ◌<◌, List, [], ◌∷◌, ◌++◌, Some, length, take, drop, get_or, slice_get, option_map, sym, ap, subst, ◌∙◌}
+use Rattle.std.proofs.lemmas.List.{map_push, take_more}
+use Rattle.std.proofs.lemmas.List.Elements.{All-push}
 use Rattle.std.proofs.lemmas.Option.{slice_get-map, slice_get_within, get_or_from_slice_get}
 use Rattle.pol_file.specs.declared.Parts.{Parts}
 use Rattle.pol_rules.specs.DeclaredRules.{IsDeclaredRule}
@@ -9,7 +11,7 @@ use Rattle.pol_rules.specs.declared.rule.RuleKind.{RuleKind}
 use Rattle.pol_rules.specs.declared.rule_record.RuleRecord.{RuleRecord}
 use Rattle.rule_listing.specs.declared.found_rule.FoundRule.{FoundRule}
 use Rattle.rule_listing.specs.declared.listed_rule.ListedRule.{ListedRule}
-use Rattle.rule_listing.specs.ReadRules.{AreAhead, IsFound, IsOfFirst, IsRuleOf, IsStored}
+use Rattle.rule_listing.specs.ReadRules.{AreAhead, AreFound, IsFound, IsOfFirst, IsRuleOf, IsStored}
 
 -- one of the first of some numbers is the first of those from it on
 first_of_rest : (count : ℕ) (numbers : List ℕ) (next number : ℕ) → slice_get (take count numbers) next ≡ Some number → drop next numbers ≡ number ∷ drop (suc next) numbers
@@ -37,3 +39,13 @@ next_found policy numbers rules kinds next rule listed ahead there number kind f
     } in
     let is : IsRuleOf policy rule.number listed = record { number = number; stored = stored } in
     subst (λ (ns : List ℕ). IsOfFirst policy ns listed) (sym (first_of_rest (length rules) numbers next rule.number numbered)) is
+
+-- one more rule was found
+pub found_more : (policy : Parts) (numbers : List ℕ) (i : ℕ) (rules : List FoundRule) (rule : FoundRule) → i < length numbers → AreFound policy (take i numbers) rules → IsFound policy rule → rule.number ≡ get_or numbers i 0
+    → AreFound policy (take (i + 1) numbers) (rules ++ rule ∷ [])
+found_more policy numbers i rules rule lt found is number =
+    let number_of = λ (it : FoundRule). it.number in
+    record {
+      each = All-push (IsFound policy) rules rule found.each is;
+      are = map_push number_of rules rule ∙ ap (λ (ns : List ℕ). ns ++ rule.number ∷ []) found.are ∙ ap (λ (n : ℕ). take i numbers ++ n ∷ []) number ∙ sym (take_more numbers i 0 lt);
+    }
