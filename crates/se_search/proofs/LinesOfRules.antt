@@ -2,7 +2,7 @@
 use Rattle.std.proofs.Common.{◌≡◌, ◌∙◌, ℕ, Bool, true, false, List, [], ◌∷◌, ◌++◌, map, ap}
 use Rattle.pol_file.specs.declared.Parts.{Parts}
 use Rattle.rule_listing.specs.declared.listed_rule.ListedRule.{ListedRule}
-use Rattle.rule_listing.specs.ReadRules.{IsOfFirst, PassesNumber}
+use Rattle.rule_listing.specs.ReadRules.{IsOfFirst, IsStored, PassesNumber}
 use Rattle.se_items.specs.Items.{Passes, PushesItem}
 use Rattle.se_search.specs.SearchAnswer.{rule_line}
 
@@ -20,3 +20,8 @@ line-pushed policy rule (number ∷ numbers) new had has true first passes is =
     let same : rule.number ≡ passes.0 = cc (e, first.number) in
     (rule_line policy passes.0, ap (map (rule_line policy)) e, is ∙ ap (λ (n : ℕ). had ++ rule_line policy n) same)
 line-pushed policy rule (number ∷ numbers) new had has false first passes is = absurd (cc passes.0)
+
+-- the first of those that are left is stored
+pub first_stored : (policy : Parts) (numbers : List ℕ) (rule : ListedRule) → IsOfFirst policy numbers rule → IsStored policy rule
+first_stored policy [] rule first = absurd first
+first_stored policy (number ∷ numbers) rule first = first.stored

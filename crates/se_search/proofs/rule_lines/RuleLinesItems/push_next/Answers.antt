@@ -1,8 +1,14 @@
 use Rattle.std.proofs.Common.{◌∙◌, ℕ, List, subst}
 use Rattle.pol_file.specs.declared.Parts.{Parts}
 use Rattle.rule_listing.specs.ReadRules.{IsOfFirst, PassesNumber}
-use Rattle.se_search.proofs.LinesOfRules.{line-pushed}
+use Rattle.se_search.proofs.LinesOfRules.{first_stored, line-pushed}
 use Rattle.se_search.proofs.rule_lines.RuleLinesItems.push_next.Goals as goal
+
+pub push_line-requires : goal.push_line-requires
+push_line-requires c =
+    let old = c.args.self.now in
+    let numbers = c.read.new.self.numbers in
+    first_stored old.texts numbers c.in-Some.rule (subst (λ (policy : Parts). IsOfFirst policy numbers c.in-Some.rule) (c.read.ensures.policy ∙ old.of_policy) c.in-Some.ensures)
 
 pub returns : goal.returns
 returns c =
