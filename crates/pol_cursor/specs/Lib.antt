@@ -8,3 +8,5 @@ pub mod Mentions
 pub mod Runs
 pub mod Contexts
 pub mod Writing
+pub mod EvenPlaces
+pub mod PlaceLists

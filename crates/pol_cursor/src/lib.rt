@@ -9,6 +9,7 @@ mod names;
 mod owned_list;
 mod part;
 mod parts;
+mod places;
 mod read_error;
 mod record_laws;
 mod record_list;

@@ -1,10 +1,13 @@
 // Lists of records in the buffer, generic in the record.
-ghost use Rattle.std.specs.Prelude.{◌≡◌, ◌<◌, [], ℕ, List, Some, IfOk, OnOk, slice_get, length};
+ghost use Rattle.std.specs.Prelude.{◌≡◌, ◌<◌, ◌+◌, ◌*◌, ◌^◌, [], ℕ, List, Some, IfOk, OnOk, map, slice_get, length};
+ghost use Rattle.std.specs.List.{AllByRecursion};
 ghost use Rattle.pol_cursor.specs.Outcome.{Outcome, Answers, Yields};
 ghost use Rattle.pol_cursor.specs.Parts.{counted, records_at};
 ghost use Rattle.pol_cursor.specs.Contexts.{context_after, records_after};
+ghost use Rattle.pol_cursor.specs.EvenPlaces.{even_places};
 ghost use Rattle.pol_cursor.specs.References.{placed};
 
+use crate::places::{EvenPlaces, Places};
 use crate::{Cursor, ReadError};
 use pol_fields::{Fault, Field};
 use std::alloc::Global;
@@ -71,20 +74,21 @@ pub trait RecordView<'a>: Record {
 #[derive(Drop)]
 pub struct Records<'a, K: Record + Drop> {
     bytes: &'a [u8],
-    places: Vec<u32>,
+    places: Places,
     kind: PhantomData<K>,
 }
 
 impl<'a, K: Record + Drop> Model for Records<'a, K> {
     ghost use Rattle.std.specs.Prelude.{List, map, length, ◌<◌, ◌^◌};
     ghost use Rattle.std.specs.List.{AllByRecursion};
+    ghost use Rattle.pol_cursor.specs.PlaceLists.{places_in};
     ghost use Rattle.pol_cursor.specs.References.{Placed};
 
     ghost Value = { List (Placed K.Owned) };
 
-    ghost view = { λ l. map (λ place. record { place = place; value = K.standing l.bytes.now place }) l.places.items };
+    ghost view = { λ l. map (λ place. record { place = place; value = K.standing l.bytes.now place }) (places_in l.places) };
 
-    ghost invariant = { λ l. AllByRecursion (K.has l.bytes.now) l.places.items × (length l.places.items < 2 ^ 32) };
+    ghost invariant = { λ l. AllByRecursion (K.has l.bytes.now) (places_in l.places) × (length (places_in l.places) < 2 ^ 32) };
 }
 
 impl<'a, K: Record + Drop> Records<'a, K> {
@@ -94,30 +98,54 @@ impl<'a, K: Record + Drop> Records<'a, K> {
     {
         Records {
             bytes,
-            places: Vec::new(alloc),
+            places: Places::Listed(Vec::new(alloc)),
+            kind: PhantomData,
+        }
+    }
+
+    /// So many records from a place on, all as long, one behind the other.
+    #[tactic(auto, using(crate::proofs::EvenPlaces::even_length))]
+    pub fn even(bytes: &'a [u8], place: u32, length: u32, count: u32) -> Records<'a, K>
+        requires stand { AllByRecursion (K.has bytes.now) (even_places length place count) }
+        requires small { place + count * length < 2 ^ 32 }
+        ensures { result ≡ map (λ place. record { place = place; value = K.standing bytes.now place }) (even_places length place count) }
+    {
+        Records {
+            bytes,
+            places: Places::Even(EvenPlaces::new(place, length, count)),
             kind: PhantomData,
         }
     }
 
     /// How many records there are.
+    #[inline(always)]
     pub fn len(&self) -> u32
         ensures { result ≡ length self.now }
     {
-        self.places.len() as u32
+        match &self.places {
+            Places::Listed(places) => places.len() as u32,
+            Places::Even(places) => places.len(),
+        }
     }
 
     /// The buffer, and the place in it of the record of that number, from 0 on.
+    #[inline(always)]
     pub fn place(&self, i: u32) -> (&'a [u8], u32)
         requires { i < length self.now }
         ensures stands { K.has result.0.now result.1 }
         ensures same { slice_get self.now i ≡ Some (record { place = result.1; value = K.standing result.0.now result.1 }) }
     {
-        (self.bytes, self.places[i as usize])
+        let place = match &self.places {
+            Places::Listed(places) => places[i as usize],
+            Places::Even(places) => places.at(i),
+        };
+        (self.bytes, place)
     }
 }
 
 impl<'a, V: RecordView<'a> + Drop> Records<'a, V> {
     /// The record of that number, from 0 on.
+    #[inline(always)]
     pub fn view(&self, i: u32) -> V::View
         requires { i < length self.now }
         ensures { slice_get self.now i ≡ Some (V.shown result) }
@@ -144,7 +172,7 @@ pub fn read_records<'a, K: ReadAlone + Drop>(
     }
     Ok(Records {
         bytes,
-        places,
+        places: Places::Listed(places),
         kind: PhantomData,
     })
 }
@@ -182,7 +210,7 @@ pub fn read_records_after<'a, K: ReadAfter<'a> + Drop>(
     }
     let records = Records {
         bytes,
-        places,
+        places: Places::Listed(places),
         kind: PhantomData,
     };
     Ok((records, context))
