@@ -4,4 +4,3 @@ pub mod XPerms
 pub mod AvTables
 pub mod InnerKeys
 pub mod EvenRules
-pub mod AvLists

@@ -6,18 +6,20 @@ ghost use Rattle.pol_avtab.specs.AvTables.{placed_rules_at, table_at};
 ghost use Rattle.pol_avtab.specs.InnerKeys.{rules_behind, words_of, AreMarked, is_shared, IsRead};
 
 use crate::av_keys::AvKeys;
-use crate::av_kind::AvContext;
-use crate::av_list::{AvList, AvTable};
+use crate::av_kind::{Av, AvContext};
 use crate::causes::is_extended;
-use crate::even_rules::EvenRules;
+use crate::even_rules::read_even_rules;
 use crate::key_order::LastKey;
 use crate::word_marks::WordMarks;
-use pol_cursor::{Cursor, ReadError, read_records_after};
+use pol_cursor::{Cursor, ReadError, Records, read_records_after};
 use pol_fields::fields::AVTAB_NEL;
 use std::alloc::{AllocError, Global};
 
 // How many rules are looked at together: their marks lie far apart, and the processor fetches those of one loop side by side.
 const AT_ONCE: u32 = 128;
+
+/// The table of access vectors. Contracts see the list of them, each with its place.
+pub type AvTable<'a> = Records<'a, Av>;
 
 /// Reads the table of access vectors. Nothing is reserved by the number that the policy claims.
 ///
@@ -52,10 +54,9 @@ fn read_even<'a>(
 ) -> Result<Option<AvTable<'a>>, AllocError>
     ensures { (version : ℕ) → IfOk result (λ found. IsRead (placed_rules_at version n) found c.old c.new) }
 {
-    let Some(rules) = EvenRules::read(c, n) else {
+    let Some(table) = read_even_rules(c, n) else {
         return Ok(None);
     };
-    let table = AvTable::of(AvList::Even(rules));
     if are_distinct(alloc, &table)? {
         return Ok(Some(table));
     }
@@ -102,7 +103,7 @@ fn read_rules<'a>(
         collects,
     };
     let (rules, _) = read_records_after(alloc, c, n, context)?;
-    Ok(AvTable::of(AvList::Placed(rules)))
+    Ok(rules)
 }
 
 // Whether no two rules have the same key, but for extended ones. Tables that libsepol wrote tell it by their order. In others equal

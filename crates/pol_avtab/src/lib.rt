@@ -4,7 +4,6 @@
 mod av_key;
 mod av_keys;
 mod av_kind;
-mod av_list;
 mod av_rec;
 mod av_table;
 mod av_view;
@@ -21,9 +20,8 @@ mod xperms;
 pub use av_key::AvKey;
 pub use av_keys::AvKeys;
 pub use av_kind::{Av, AvContext};
-pub use av_list::AvTable;
 pub use av_rec::{AvPart, AvRec, AvRecList};
-pub use av_table::read_table;
+pub use av_table::{AvTable, read_table};
 pub use av_view::{AvView, read_av};
 pub use av_write::write_table;
 pub use pol_cursor::write_record as write_av;

@@ -42,7 +42,7 @@ fn check_symbols(symbols: &Symbols<'_>) -> Result<(), Fault>
 fn check_rules<N: Names>(rules: &RuleLists<'_>, names: &N) -> Result<(), Fault>
     ensures { AreDeclared result (N.named names.now) (rule_references rules.now) }
 {
-    rules.table.check(names)?;
+    check_records(&rules.table, names)?;
     check_nodes(&rules.conditionals, names)?;
     check_records(&rules.role_trans, names)?;
     check_records(&rules.role_allows, names)?;

@@ -8,7 +8,7 @@ loop-i-init c = λ j lt. absurd (omega (arith, lt))
 
 pub loop-i-preserved : goal.loop-i-preserved
 loop-i-preserved c =
-    below_more (λ j. is_kind 0 (specified_in c.args.bytes.now (c.args.place + 12 * j)) ≡ true) c.loop-i.i c.loop-i.invariant
+    below_more (λ j. is_kind 0 (specified_in c.args.bytes.now (c.args.place + j * 12)) ≡ true) c.loop-i.i c.loop-i.invariant
     (ap (is_kind 0) (sym c.u16_in.ensures) ∙ sym c.is_plain_kind.ensures ∙ c.if-not-is_plain_kind.false)
 
 pub returns : goal.returns
