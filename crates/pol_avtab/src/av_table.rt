@@ -9,7 +9,7 @@ use crate::av_keys::AvKeys;
 use crate::av_kind::{Av, AvContext};
 use crate::causes::is_extended;
 use crate::even_rules::read_even_rules;
-use crate::key_order::LastKey;
+use crate::key_order::{ClassHashes, LastKey};
 use crate::word_marks::WordMarks;
 use pol_cursor::{Cursor, ReadError, Records, read_records_after};
 use pol_fields::fields::AVTAB_NEL;
@@ -124,9 +124,10 @@ fn are_distinct(alloc: Global, table: &AvTable<'_>) -> Result<bool, AllocError>
 fn have_rising_keys(table: &AvTable<'_>) -> bool
     ensures { result ≡ true → IsDistinct ◌==◌ (words_of table.now) }
 {
+    let hashes = ClassHashes::new();
     let mut last = LastKey { order: 0, kinds: 0 };
     for i in 0..table.len() {
-        if !last.follow(word_at(table, i)) {
+        if !last.follow(&hashes, word_at(table, i)) {
             return false;
         }
     }
