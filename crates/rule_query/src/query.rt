@@ -91,7 +91,6 @@ impl Query {
     }
 
     // Adds the rule of a number to those that were found, if it meets the criteria.
-    #[inline(always)]
     fn add_met(
         &self,
         policy: &Policy<'_>,
@@ -103,25 +102,9 @@ impl Query {
         ensures policy { OnOk result (found.new.policy ≡ policy.now) }
         ensures numbers { (criteria : Criteria) → IsQueryOf policy.now criteria self.now → OnOk result (found.new.numbers ≡ found.old.numbers ++ (if meets policy.now criteria n then n ∷ [] else [])) }
     {
-        if self.may_meet(policy, n) {
-            return self.add_passing(policy, n, found);
+        if !self.may_meet(policy, n) {
+            return Ok(());
         }
-        Ok(())
-    }
-
-    // The same, whatever the kind of the rule is. It stands by itself, so that the loop over all rules is small.
-    #[inline(never)]
-    fn add_passing(
-        &self,
-        policy: &Policy<'_>,
-        n: u32,
-        found: &mut RuleKeys<'_>,
-    ) -> Result<(), AllocError>
-        requires number { n < length (stored_rules policy.now) }
-        requires policy { found.old.policy ≡ policy.now }
-        ensures policy { OnOk result (found.new.policy ≡ policy.now) }
-        ensures numbers { (criteria : Criteria) → IsQueryOf policy.now criteria self.now → OnOk result (found.new.numbers ≡ found.old.numbers ++ (if meets policy.now criteria n then n ∷ [] else [])) }
-    {
         let rule = NumberedRule::of(policy, n);
         if self.passes(policy.symbols(), &rule) {
             found.add_ends(n, rule.ends())?;
