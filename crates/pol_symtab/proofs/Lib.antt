@@ -1,4 +1,5 @@
 pub mod TakenNames
+pub mod TakenBits
 pub mod SymbolFieldLaws
 pub mod FreshRecords
 pub mod FreshTables

@@ -1,5 +1,6 @@
 pub mod Claims
 pub mod SymbolFields
+pub mod TakenMembers
 pub mod Freshness
 pub mod SymbolTables
 pub mod TableIndex

@@ -11,6 +11,7 @@ mod symbol_laws;
 mod symbol_table;
 mod table_head;
 mod taken;
+mod taken_values;
 mod value_index;
 
 pub use causes::{length_cause, name_cause, new_value_cause, primary_value_cause, value_cause};

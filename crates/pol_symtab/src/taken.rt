@@ -1,6 +1,7 @@
 ghost use Rattle.std.specs.Prelude.{◌≡◌, OnOk, OnErr};
 ghost use Rattle.pol_symtab.specs.Claims.{has_name, has_value, with_claim, no_claims};
 
+use crate::taken_values::TakenValues;
 use indexmap::IndexSet;
 use std::alloc::{AllocError, Global};
 use std::marker::Model;
@@ -9,7 +10,7 @@ use std::marker::Model;
 #[derive(Drop)]
 pub struct Taken<'a> {
     names: IndexSet<&'a [u8]>,
-    values: IndexSet<u32>,
+    values: TakenValues,
 }
 
 impl<'a> Model for Taken<'a> {
@@ -18,7 +19,7 @@ impl<'a> Model for Taken<'a> {
 
     ghost Value = { Claims };
 
-    ghost view = { λ t. record { names = map (λ name. name.now) t.names.keys; values = t.values.keys } };
+    ghost view = { λ t. record { names = map (λ name. name.now) t.names.keys; values = t.values } };
 }
 
 impl<'a> Taken<'a> {
@@ -28,7 +29,7 @@ impl<'a> Taken<'a> {
     {
         Taken {
             names: IndexSet::new(alloc),
-            values: IndexSet::new(alloc),
+            values: TakenValues::new(alloc),
         }
     }
 
@@ -42,9 +43,9 @@ impl<'a> Taken<'a> {
                 self.names.insert(name)?;
             }
             Some(value) => {
-                self.values.reserve(1)?;
+                self.names.reserve(1)?;
+                self.values.add(value)?;
                 self.names.insert(name)?;
-                self.values.insert(value)?;
             }
         }
         Ok(())
@@ -61,7 +62,7 @@ impl<'a> Taken<'a> {
     pub fn has_value(&self, value: u32) -> bool
         ensures { result ≡ has_value self.now value }
     {
-        self.values.contains(&value)
+        self.values.has(value)
     }
 }
 

@@ -6,6 +6,6 @@ pub returns-in_ok-insert-in-None-clause-ok : goal.returns-in_ok-insert-in-None-c
 returns-in_ok-insert-in-None-clause-ok c =
     rw (← c.self.view_is, c.in-None.is, c.in_ok-insert-in-None.ensures.keys, inserted_name c.args.name c.self.inside.names.keys) refl
 
-pub returns-in_ok-insert-in-Some-2-clause-ok : goal.returns-in_ok-insert-in-Some-2-clause-ok
-returns-in_ok-insert-in-Some-2-clause-ok c =
-    rw (← c.self.view_is, c.in-Some.is, c.in_ok-insert-in-Some-2.ensures.keys, c.in_ok-insert-in-Some.ensures.keys, c.in_ok-reserve-in-Some.ensures.keys, inserted_name c.args.name c.self.inside.names.keys) refl
+pub returns-in_ok-insert-in-Some-clause-ok : goal.returns-in_ok-insert-in-Some-clause-ok
+returns-in_ok-insert-in-Some-clause-ok c =
+    rw (← c.self.view_is, c.in-Some.is, c.in_ok-insert-in-Some.ensures.keys, c.in_ok-reserve-in-Some.ensures.keys, c.in_ok-add-in-Some.ensures.ok, inserted_name c.args.name c.self.inside.names.keys) refl

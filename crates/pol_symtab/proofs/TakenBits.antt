@@ -1,0 +1,57 @@
+-- The values that a table has taken, as bits.
+use Rattle.std.proofs.Common.{◌≡◌, ℕ, ◌/◌, ◌%◌, ◌*◌, ◌^◌, ◌<◌, Bool, true, false, inl, inr, List, [], ◌∷◌, ◌++◌, length, get_or, set, refl, sym, ap, ◌∙◌, arith}
+use Rattle.std.specs.Prelude.{◌==◌, ◌||◌, bit_or}
+use Rattle.std.specs.Int.{bit_at, w64}
+use Rattle.std.proofs.lemmas.Bool.{cases_eq, cases_lt, or_right, eq-eqb, ne_eqb}
+use Rattle.std.proofs.lemmas.Nat.Bits.{bit_at-zero, bit_at_set_same, bit_at_set_other}
+use Rattle.std.proofs.lemmas.List.{get_or-set_same, get_or-set_other, get_or_append_left, get_or-append_right, get_or_past}
+use Rattle.pol_symtab.specs.TakenMembers.{has_bit_of, AreMarked}
+
+or_nothing : (a : Bool) → (a || false) ≡ a
+or_nothing true = refl
+or_nothing false = refl
+
+abbrev no_bits : List ℕ
+no_bits = 0 ∷ []
+
+zero_word : (i : ℕ) → get_or no_bits i 0 ≡ 0
+zero_word i = elim (cases_lt i 1) [
+  | inl lt ↦ let first : i ≡ 0 = omega (arith, lt) in ap (λ (k : ℕ). get_or no_bits k 0) first
+  | inr le ↦ get_or_past no_bits i 0 le
+]
+
+-- a word of no bits more
+pub bits_grown : (bits : List ℕ) (place : ℕ) → has_bit_of (bits ++ 0 ∷ []) place ≡ has_bit_of bits place
+unfolding has_bit_of
+bits_grown bits place =
+    let same : get_or (bits ++ 0 ∷ []) (place / 64) 0 ≡ get_or bits (place / 64) 0 = elim (cases_lt (place / 64) (length bits)) [
+      | inl lt ↦ get_or_append_left bits no_bits 0 (place / 64) lt
+      | inr le ↦ get_or-append_right bits no_bits (length bits) (place / 64) 0 refl le ∙ zero_word _ ∙ sym (get_or_past bits (place / 64) 0 le)
+    ] in
+    ap (λ (w : ℕ). bit_at w (place % 64) == 1) same
+
+pub bit_set : (bits : List ℕ) (place other : ℕ) → place / 64 < length bits
+    → has_bit_of (set bits (place / 64) (bit_or (get_or bits (place / 64) 0) (1 * 2 ^ (place % 64) % 2 ^ 64))) other ≡ (has_bit_of bits other || (place == other))
+unfolding has_bit_of
+bit_set bits place other lt =
+    let k = place / 64 in
+    let j = place % 64 in
+    let old = get_or bits k 0 in
+    let new = bit_or old (1 * 2 ^ j % 2 ^ 64) in
+    elim (cases_eq other place) [
+      | inl e ↦ rw e (eq-eqb _ 1 (ap (λ (w : ℕ). bit_at w j) (get_or-set_same bits k new 0 lt) ∙ bit_at_set_same w64 old j (omega arith)) ∙ sym (or_right (bit_at old j == 1) (place == place) (eq-eqb place place refl)))
+      | inr differs ↦
+          elim (cases_eq (other / 64) k) [
+            | inl e ↦
+                ap (λ (i : ℕ). bit_at (get_or (set bits k new) i 0) (other % 64) == 1) e
+                ∙ ap (λ (w : ℕ). bit_at w (other % 64) == 1) (get_or-set_same bits k new 0 lt)
+                ∙ ap (λ (b : ℕ). b == 1) (bit_at_set_other w64 old j (omega arith) (other % 64) (λ d. differs (omega arith)))
+                ∙ ap (λ (i : ℕ). bit_at (get_or bits i 0) (other % 64) == 1) (sym e)
+            | inr far ↦ ap (λ (w : ℕ). bit_at w (other % 64) == 1) (get_or-set_other bits k (other / 64) new 0 far)
+          ]
+          ∙ sym (ap (λ (b : Bool). (bit_at (get_or bits (other / 64) 0) (other % 64) == 1) || b) (ne_eqb place other (λ e. differs (sym e))) ∙ or_nothing _)
+    ]
+
+pub none_marked : AreMarked [] []
+unfolding has_bit_of
+none_marked value = ap (λ (b : ℕ). b == 1) (bit_at-zero (value % 64))

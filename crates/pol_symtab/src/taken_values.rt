@@ -1,0 +1,89 @@
+ghost use Rattle.std.specs.Prelude.{◌≡◌, ◌/◌, ◌<◌, ◌≤◌, ◌==◌, ◌||◌, ℕ, [], OnOk, OnErr, length, nat_eq};
+ghost use Rattle.std.specs.List.{list_any};
+ghost use Rattle.std.specs.Vec.{vec_len};
+ghost use Rattle.pol_symtab.specs.Claims.{with_member};
+ghost use Rattle.pol_symtab.specs.TakenMembers.{has_bit_of};
+
+use std::alloc::{AllocError, Global};
+use std::marker::Model;
+
+/// Primary values, each once, in the order in which they were taken. Contracts see the list.
+#[derive(Drop)]
+pub(crate) struct TakenValues {
+    values: Vec<u32>,
+    // The bit of each of them is set, and no other. Values are at most nprim, so that these are few.
+    bits: Vec<u64>,
+}
+
+impl Model for TakenValues {
+    ghost use Rattle.std.specs.Prelude.{ℕ, List};
+    ghost use Rattle.pol_symtab.specs.TakenMembers.{AreMarked};
+
+    ghost Value = { List ℕ };
+
+    ghost view = { λ t. t.values.items };
+
+    ghost invariant = { λ t. AreMarked t.bits.items t.values.items };
+}
+
+impl TakenValues {
+    /// None yet.
+    pub fn new(alloc: Global) -> TakenValues
+        ensures { result ≡ [] }
+    {
+        TakenValues {
+            values: Vec::new(alloc),
+            bits: Vec::new(alloc),
+        }
+    }
+
+    /// Whether the value is one of them.
+    pub fn has(&self, value: u32) -> bool
+        ensures { result ≡ list_any (nat_eq value) self.now }
+    {
+        has_bit(&self.bits, value as usize)
+    }
+
+    /// Adds the value unless it is one of them. Out of memory, it was not added.
+    pub fn add(&mut self, value: u32) -> Result<(), AllocError>
+        ensures ok { OnOk result (self.new ≡ with_member nat_eq self.old value) }
+        ensures err { OnErr result (self.new ≡ self.old) }
+    {
+        if self.has(value) {
+            return Ok(());
+        }
+        grow(&mut self.bits, value as usize / 64 + 1)?;
+        self.values.push(value)?;
+        set_bit(&mut self.bits, value as usize);
+        Ok(())
+    }
+}
+
+// Adds words of no bits until there are so many.
+fn grow(bits: &mut Vec<u64>, words: usize) -> Result<(), AllocError>
+    ensures same { (place : ℕ) → has_bit_of bits.new.items place ≡ has_bit_of bits.old.items place }
+    ensures long { OnOk result (words ≤ vec_len bits.new) }
+{
+    while bits.len() < words {
+        bits.push(0)?;
+    }
+    Ok(())
+}
+
+// Whether the bit of a place is set, where there is one.
+fn has_bit(bits: &[u64], place: usize) -> bool
+    ensures { result ≡ has_bit_of bits.now place }
+{
+    match bits.get(place / 64) {
+        Some(word) => *word >> (place % 64) & 1 == 1,
+        None => false,
+    }
+}
+
+// Sets the bit of a place.
+fn set_bit(bits: &mut [u64], place: usize)
+    requires { place / 64 < length bits.old }
+    ensures { (other : ℕ) → has_bit_of bits.new other ≡ (has_bit_of bits.old other || (place == other)) }
+{
+    bits[place / 64] |= 1 << (place % 64);
+}
