@@ -14,3 +14,4 @@ pub mod SortedNames
 pub mod ByteOrder
 pub mod NameSearch
 pub mod Prefixes
+pub mod TakenOrder

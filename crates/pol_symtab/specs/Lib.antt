@@ -1,7 +1,7 @@
 pub mod Claims
 pub mod SymbolFields
-pub mod TakenMembers
 pub mod Freshness
 pub mod SymbolTables
+pub mod TakenMembers
 pub mod TableIndex
 pub mod NamePrefixes

@@ -11,6 +11,7 @@ mod symbol_laws;
 mod symbol_table;
 mod table_head;
 mod taken;
+mod taken_names;
 mod taken_values;
 mod value_index;
 

@@ -1,25 +1,24 @@
 ghost use Rattle.std.specs.Prelude.{◌≡◌, OnOk, OnErr};
 ghost use Rattle.pol_symtab.specs.Claims.{has_name, has_value, with_claim, no_claims};
 
+use crate::taken_names::TakenNames;
 use crate::taken_values::TakenValues;
-use indexmap::IndexSet;
 use std::alloc::{AllocError, Global};
 use std::marker::Model;
 
 /// The names and primary values of the records before one in its table.
 #[derive(Drop)]
 pub struct Taken<'a> {
-    names: IndexSet<&'a [u8]>,
+    names: TakenNames<'a>,
     values: TakenValues,
 }
 
 impl<'a> Model for Taken<'a> {
-    ghost use Rattle.std.specs.Prelude.{map};
     ghost use Rattle.pol_symtab.specs.Claims.{Claims};
 
     ghost Value = { Claims };
 
-    ghost view = { λ t. record { names = map (λ name. name.now) t.names.keys; values = t.values } };
+    ghost view = { λ t. record { names = t.names; values = t.values.list } };
 }
 
 impl<'a> Taken<'a> {
@@ -27,8 +26,16 @@ impl<'a> Taken<'a> {
     pub fn new(alloc: Global) -> Taken<'a>
         ensures { result ≡ no_claims }
     {
+        Taken::for_table(alloc, 1)
+    }
+
+    /// Nothing is taken, in a table of so many records. Names that stand in the order of such a table of libsepol's are found
+    /// the fastest.
+    pub fn for_table(alloc: Global, nel: u32) -> Taken<'a>
+        ensures { result ≡ no_claims }
+    {
         Taken {
-            names: IndexSet::new(alloc),
+            names: TakenNames::new(alloc, nel),
             values: TakenValues::new(alloc),
         }
     }
@@ -40,12 +47,12 @@ impl<'a> Taken<'a> {
     {
         match value {
             None => {
-                self.names.insert(name)?;
+                self.names.add(name)?;
             }
             Some(value) => {
-                self.names.reserve(1)?;
-                self.values.add(value)?;
-                self.names.insert(name)?;
+                self.values.reserve(value)?;
+                self.names.add(name)?;
+                self.values.insert(value)?;
             }
         }
         Ok(())
@@ -55,7 +62,7 @@ impl<'a> Taken<'a> {
     pub fn has_name(&self, name: &[u8]) -> bool
         ensures { result ≡ has_name self.now name.now }
     {
-        self.names.contains(name)
+        self.names.has(name)
     }
 
     /// Whether a primary record has the value.

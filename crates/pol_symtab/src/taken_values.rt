@@ -1,13 +1,13 @@
-ghost use Rattle.std.specs.Prelude.{◌≡◌, ◌/◌, ◌<◌, ◌≤◌, ◌==◌, ◌||◌, ℕ, [], OnOk, OnErr, length, nat_eq};
+ghost use Rattle.std.specs.Prelude.{◌≡◌, ◌/◌, ◌<◌, ◌≤◌, ◌==◌, ◌||◌, ℕ, [], OnOk, IsOk, length, nat_eq};
 ghost use Rattle.std.specs.List.{list_any};
 ghost use Rattle.std.specs.Vec.{vec_len};
 ghost use Rattle.pol_symtab.specs.Claims.{with_member};
-ghost use Rattle.pol_symtab.specs.TakenMembers.{has_bit_of};
+ghost use Rattle.pol_symtab.specs.TakenMembers.{has_bit_of, HasRoom};
 
 use std::alloc::{AllocError, Global};
 use std::marker::Model;
 
-/// Primary values, each once, in the order in which they were taken. Contracts see the list.
+/// Primary values, each once, in the order in which they were taken. Contracts see the list, and for how many more there is room.
 #[derive(Drop)]
 pub(crate) struct TakenValues {
     values: Vec<u32>,
@@ -16,12 +16,13 @@ pub(crate) struct TakenValues {
 }
 
 impl Model for TakenValues {
-    ghost use Rattle.std.specs.Prelude.{ℕ, List};
-    ghost use Rattle.pol_symtab.specs.TakenMembers.{AreMarked};
+    ghost use Rattle.std.specs.Prelude.{◌-◌};
+    ghost use Rattle.std.specs.Vec.{vec_len, vec_capacity};
+    ghost use Rattle.pol_symtab.specs.TakenMembers.{AreMarked, Values};
 
-    ghost Value = { List ℕ };
+    ghost Value = { Values };
 
-    ghost view = { λ t. t.values.items };
+    ghost view = { λ t. record { list = t.values.items; spare = vec_capacity t.values - vec_len t.values; words = vec_len t.bits } };
 
     ghost invariant = { λ t. AreMarked t.bits.items t.values.items };
 }
@@ -29,7 +30,7 @@ impl Model for TakenValues {
 impl TakenValues {
     /// None yet.
     pub fn new(alloc: Global) -> TakenValues
-        ensures { result ≡ [] }
+        ensures { result.list ≡ [] }
     {
         TakenValues {
             values: Vec::new(alloc),
@@ -39,20 +40,29 @@ impl TakenValues {
 
     /// Whether the value is one of them.
     pub fn has(&self, value: u32) -> bool
-        ensures { result ≡ list_any (nat_eq value) self.now }
+        ensures { result ≡ list_any (nat_eq value) self.now.list }
     {
         has_bit(&self.bits, value as usize)
     }
 
-    /// Adds the value unless it is one of them. Out of memory, it was not added.
-    pub fn add(&mut self, value: u32) -> Result<(), AllocError>
-        ensures ok { OnOk result (self.new ≡ with_member nat_eq self.old value) }
-        ensures err { OnErr result (self.new ≡ self.old) }
+    /// Makes room for the value.
+    pub fn reserve(&mut self, value: u32) -> Result<(), AllocError>
+        ensures same { self.new.list ≡ self.old.list }
+        ensures room { OnOk result (HasRoom self.new value) }
+    {
+        grow(&mut self.bits, value as usize / 64 + 1)?;
+        self.values.reserve(1)
+    }
+
+    /// Adds the value unless it is one of them. It does not fail.
+    pub fn insert(&mut self, value: u32) -> Result<(), AllocError>
+        requires { HasRoom self.old value }
+        ensures ok { IsOk result }
+        ensures added { self.new.list ≡ with_member nat_eq self.old.list value }
     {
         if self.has(value) {
             return Ok(());
         }
-        grow(&mut self.bits, value as usize / 64 + 1)?;
         self.values.push(value)?;
         set_bit(&mut self.bits, value as usize);
         Ok(())
