@@ -12,10 +12,7 @@ use Rattle.pol_symtab.specs.SymbolTables.{is_below}
 use Rattle.pol_symtab.specs.TakenMembers.{slot_of, is_behind, NoneBehind, AreInSet, AreFound}
 use Rattle.pol_symtab.proofs.ByteOrder.{below_trans, not_below_itself, same_name}
 use Rattle.pol_symtab.proofs.TakenNames.{names_of, inserted_name}
-
-or_nothing : (a : Bool) → (a || false) ≡ a
-or_nothing true = refl
-or_nothing false = refl
+use Rattle.pol_symtab.proofs.TakenBits.{or_nothing}
 
 -- ---- one more member
 

@@ -1,4 +1,4 @@
-ghost use Rattle.std.specs.Prelude.{◌≡◌, ℕ, List, [], OnOk, OnErr, fold, map};
+ghost use Rattle.std.specs.Prelude.{◌≡◌, [], OnOk, OnErr, map};
 ghost use Rattle.std.specs.List.{list_any};
 ghost use Rattle.std.specs.Str.{bytes_eq};
 ghost use Rattle.pol_symtab.specs.Claims.{with_member};
@@ -141,11 +141,9 @@ fn add_to_both<'a>(
     ensures ok { OnOk result (map (λ other. other.now) names.new.items ≡ with_member bytes_eq (map (λ other. other.now) names.old.items) name.now) }
     ensures err { OnErr result (names.new.items ≡ names.old.items) }
 {
-    if set.contains(name) {
-        return Ok(());
-    }
     names.reserve(1)?;
-    set.insert(name)?;
-    names.push(name)?;
+    if set.insert(name)? {
+        names.push(name)?;
+    }
     Ok(())
 }
