@@ -156,7 +156,7 @@ fn read_classes<'a, const VERSION: u32>(
     let head = read_table_head(c)?;
     let table = TableContext {
         nprim: head.nprim,
-        taken: Taken::new(alloc),
+        taken: Taken::new(alloc, head.nel),
     };
     let context = ClassContext { commons, table };
     let (table, context) = read_symbol_table(alloc, c, head, context)?;

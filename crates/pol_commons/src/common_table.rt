@@ -20,7 +20,7 @@ pub fn read_commons<'a>(alloc: Global, c: &mut Cursor<'a>) -> Result<CommonList<
     let head = read_table_head(c)?;
     let context = TableContext {
         nprim: head.nprim,
-        taken: Taken::new(alloc),
+        taken: Taken::new(alloc, head.nel),
     };
     let (commons, _context) = read_symbol_table(alloc, c, head, context)?;
     Ok(commons)

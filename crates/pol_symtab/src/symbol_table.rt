@@ -213,7 +213,7 @@ where
     let head = read_table_head(c)?;
     let context = TableContext {
         nprim: head.nprim,
-        taken: Taken::for_table(alloc, head.nel),
+        taken: Taken::new(alloc, head.nel),
     };
     let (table, _) = read_symbol_table(alloc, c, head, context)?;
     Ok(table)

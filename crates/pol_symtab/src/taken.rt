@@ -22,16 +22,9 @@ impl<'a> Model for Taken<'a> {
 }
 
 impl<'a> Taken<'a> {
-    /// Nothing is taken.
-    pub fn new(alloc: Global) -> Taken<'a>
-        ensures { result ≡ no_claims }
-    {
-        Taken::for_table(alloc, 1)
-    }
-
     /// Nothing is taken, in a table of so many records. Names that stand in the order of such a table of libsepol's are found
     /// the fastest.
-    pub fn for_table(alloc: Global, nel: u32) -> Taken<'a>
+    pub fn new(alloc: Global, nel: u32) -> Taken<'a>
         ensures { result ≡ no_claims }
     {
         Taken {
