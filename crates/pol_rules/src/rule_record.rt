@@ -15,17 +15,21 @@ use pol_trans::{
 pub enum RuleRecord<'a> {
     /// An access vector, and the condition that it stands under.
     Vector(AvView<'a>, Option<Condition>),
+    /// A role transition.
     RoleTrans(RoleTransView<'a>),
+    /// A role allow.
     RoleAllow(RoleAllowView<'a>),
     /// A file-name transition that stands by itself.
     NameTrans(NameTransView<'a>),
     /// A group of file-name transitions, a datum of it, and one of its sources.
     NameSource(NameGroupView<'a>, NameDatumView<'a>, u32),
+    /// A range transition.
     RangeTrans(RangeTransView<'a>),
 }
 
 impl<'a> RuleRecord<'a> {
     /// The rule.
+    #[inline(always)]
     pub fn rule(&self) -> Rule<'a>
         ensures { stored result ≡ rule_of self.now }
     {
@@ -66,6 +70,7 @@ impl<'a> RuleRecord<'a> {
     }
 
     /// Its ends, with its kind and its class.
+    #[inline(always)]
     pub fn ends(&self) -> RuleEnds
         ensures { result ≡ ends_of (rule_of self.now) }
     {
@@ -106,6 +111,7 @@ impl<'a> RuleRecord<'a> {
 }
 
 // The rule that has these ends.
+#[inline(always)]
 fn rule_with<'a>(
     ends: RuleEnds,
     part: RulePart<'a>,
@@ -131,6 +137,7 @@ fn rule_with<'a>(
 // ---- access vectors
 
 /// The rule that an access vector is.
+#[inline(always)]
 pub fn vector_rule<'a>(view: &AvView<'a>, condition: Option<Condition>) -> Rule<'a>
     ensures { stored result ≡ av_rule condition view.now }
 {
@@ -180,6 +187,7 @@ fn rule_kind(kind: u16) -> RuleKind
 
 // Its default type, the permissions that it shows, or its ioctl numbers.
 #[tactic(auto, using(crate::proofs::RuleSums::part_of_numbers, crate::proofs::RuleSums::part_of_data, crate::proofs::RuleSums::some_part))]
+#[inline(always)]
 fn vector_part<'a>(view: &AvView<'a>, kind: u16) -> RulePart<'a>
     requires { kind ≡ kind_of view.now.value.specified }
     ensures { result ≡ rule_part view.now.value.specified view.now.value.part }
@@ -194,6 +202,7 @@ fn vector_part<'a>(view: &AvView<'a>, kind: u16) -> RulePart<'a>
 }
 
 // Its default type, or the permissions that it shows.
+#[inline(always)]
 fn plain_part<'a>(specified: u16, kind: u16, mask: u32) -> RulePart<'a>
     requires { kind ≡ kind_of specified }
     ensures { result ≡ plain_part specified mask }
