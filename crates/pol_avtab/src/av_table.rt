@@ -54,7 +54,7 @@ fn read_even<'a>(
 ) -> Result<Option<AvTable<'a>>, AllocError>
     ensures { (version : ℕ) → IfOk result (λ found. IsRead (placed_rules_at version n) found c.old c.new) }
 {
-    let Some(table) = read_even_rules(c, n) else {
+    let Some(table) = read_even_rules(alloc, c, n) else {
         return Ok(None);
     };
     if are_distinct(alloc, &table)? {

@@ -7,10 +7,11 @@ ghost use Rattle.pol_avtab.specs.InnerKeys.{rules_behind, IsRead};
 use crate::av_table::AvTable;
 use crate::av_view::is_plain_kind;
 use pol_cursor::{Cursor, Records, u16_in};
+use std::alloc::Global;
 
 /// The next n rules, where all are of kinds that each version has, each as if it were the first. Takes no memory.
 #[tactic(auto, using(crate::proofs::EvenRules::even_stand, crate::proofs::EvenRules::even_read))]
-pub(crate) fn read_even_rules<'a>(c: &mut Cursor<'a>, n: u32) -> Option<AvTable<'a>>
+pub(crate) fn read_even_rules<'a>(alloc: Global, c: &mut Cursor<'a>, n: u32) -> Option<AvTable<'a>>
     ensures { (version : ℕ) → IsRead (rules_behind version false n) result c.old c.new }
 {
     let bytes = c.bytes();
@@ -20,7 +21,7 @@ pub(crate) fn read_even_rules<'a>(c: &mut Cursor<'a>, n: u32) -> Option<AvTable<
         return None;
     }
     *c = Cursor::at(bytes, end as u32);
-    Some(Records::even(bytes, place, 12, n))
+    Some(Records::even(alloc, bytes, place, 12, n))
 }
 
 // Whether so many rules that are there are of kinds that each version has.

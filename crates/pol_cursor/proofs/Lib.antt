@@ -10,4 +10,4 @@ pub mod Writings
 pub mod DanglingLists
 pub mod PlacedRuns
 pub mod Copies
-pub mod EvenPlaces
+pub mod EvenRuns

@@ -3,13 +3,13 @@
 
 mod copied;
 mod cursor;
+mod even_places;
 mod file_name;
 mod mention;
 mod names;
 mod owned_list;
 mod part;
 mod parts;
-mod places;
 mod read_error;
 mod record_laws;
 mod record_list;

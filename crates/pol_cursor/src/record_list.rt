@@ -1,13 +1,13 @@
 // Lists of records in the buffer, generic in the record.
-ghost use Rattle.std.specs.Prelude.{◌≡◌, ◌<◌, ◌+◌, ◌*◌, ◌^◌, [], ℕ, List, Some, IfOk, OnOk, map, slice_get, length};
+ghost use Rattle.std.specs.Prelude.{◌≡◌, ◌<◌, ◌+◌, ◌*◌, ◌^◌, ◌++◌, [], ℕ, List, Some, IfOk, OnOk, map, slice_get, length};
 ghost use Rattle.std.specs.List.{AllByRecursion};
 ghost use Rattle.pol_cursor.specs.Outcome.{Outcome, Answers, Yields};
 ghost use Rattle.pol_cursor.specs.Parts.{counted, records_at};
 ghost use Rattle.pol_cursor.specs.Contexts.{context_after, records_after};
-ghost use Rattle.pol_cursor.specs.EvenPlaces.{even_places};
+ghost use Rattle.pol_cursor.specs.EvenRuns.{even_places};
 ghost use Rattle.pol_cursor.specs.References.{placed};
 
-use crate::places::{EvenPlaces, Places};
+use crate::even_places::EvenPlaces;
 use crate::{Cursor, ReadError};
 use pol_fields::{Fault, Field};
 use std::alloc::Global;
@@ -74,21 +74,23 @@ pub trait RecordView<'a>: Record {
 #[derive(Drop)]
 pub struct Records<'a, K: Record + Drop> {
     bytes: &'a [u8],
-    places: Places,
+    // The places of records that are all as long, or, in other lists, none.
+    even: EvenPlaces,
+    // The places of the records behind those.
+    places: Vec<u32>,
     kind: PhantomData<K>,
 }
 
 impl<'a, K: Record + Drop> Model for Records<'a, K> {
-    ghost use Rattle.std.specs.Prelude.{List, map, length, ◌<◌, ◌^◌};
+    ghost use Rattle.std.specs.Prelude.{List, map, length, ◌<◌, ◌^◌, ◌++◌};
     ghost use Rattle.std.specs.List.{AllByRecursion};
-    ghost use Rattle.pol_cursor.specs.PlaceLists.{places_in};
     ghost use Rattle.pol_cursor.specs.References.{Placed};
 
     ghost Value = { List (Placed K.Owned) };
 
-    ghost view = { λ l. map (λ place. record { place = place; value = K.standing l.bytes.now place }) (places_in l.places) };
+    ghost view = { λ l. map (λ place. record { place = place; value = K.standing l.bytes.now place }) (l.even ++ l.places.items) };
 
-    ghost invariant = { λ l. AllByRecursion (K.has l.bytes.now) (places_in l.places) × (length (places_in l.places) < 2 ^ 32) };
+    ghost invariant = { λ l. AllByRecursion (K.has l.bytes.now) (l.even ++ l.places.items) × (length (l.even ++ l.places.items) < 2 ^ 32) };
 }
 
 impl<'a, K: Record + Drop> Records<'a, K> {
@@ -98,21 +100,29 @@ impl<'a, K: Record + Drop> Records<'a, K> {
     {
         Records {
             bytes,
-            places: Places::Listed(Vec::new(alloc)),
+            even: EvenPlaces::none(),
+            places: Vec::new(alloc),
             kind: PhantomData,
         }
     }
 
     /// So many records from a place on, all as long, one behind the other.
-    #[tactic(auto, using(crate::proofs::EvenPlaces::even_length))]
-    pub fn even(bytes: &'a [u8], place: u32, length: u32, count: u32) -> Records<'a, K>
+    #[tactic(auto, using(crate::proofs::EvenRuns::even_length, crate::proofs::EvenRuns::nothing_behind))]
+    pub fn even(
+        alloc: Global,
+        bytes: &'a [u8],
+        place: u32,
+        length: u32,
+        count: u32,
+    ) -> Records<'a, K>
         requires stand { AllByRecursion (K.has bytes.now) (even_places length place count) }
         requires small { place + count * length < 2 ^ 32 }
         ensures { result ≡ map (λ place. record { place = place; value = K.standing bytes.now place }) (even_places length place count) }
     {
         Records {
             bytes,
-            places: Places::Even(EvenPlaces::new(place, length, count)),
+            even: EvenPlaces::new(place, length, count),
+            places: Vec::new(alloc),
             kind: PhantomData,
         }
     }
@@ -122,25 +132,34 @@ impl<'a, K: Record + Drop> Records<'a, K> {
     pub fn len(&self) -> u32
         ensures { result ≡ length self.now }
     {
-        match &self.places {
-            Places::Listed(places) => places.len() as u32,
-            Places::Even(places) => places.len(),
-        }
+        self.even.len() + self.places.len() as u32
     }
 
     /// The buffer, and the place in it of the record of that number, from 0 on.
     #[inline(always)]
+    #[tactic(auto, using(crate::proofs::EvenRuns::all_at, crate::proofs::EvenRuns::mapped_at))]
     pub fn place(&self, i: u32) -> (&'a [u8], u32)
         requires { i < length self.now }
         ensures stands { K.has result.0.now result.1 }
         ensures same { slice_get self.now i ≡ Some (record { place = result.1; value = K.standing result.0.now result.1 }) }
     {
-        let place = match &self.places {
-            Places::Listed(places) => places[i as usize],
-            Places::Even(places) => places.at(i),
-        };
+        let place = nth_place(&self.even, &self.places, i);
         (self.bytes, place)
     }
+}
+
+// The place of that number, from 0 on, of places that lie as far apart and others behind them.
+#[inline(always)]
+#[tactic(auto, using(crate::proofs::EvenRuns::get_first, crate::proofs::EvenRuns::get_later))]
+fn nth_place(even: &EvenPlaces, places: &[u32], i: u32) -> u32
+    requires { i < length (even.now ++ places.now) }
+    ensures { slice_get (even.now ++ places.now) i ≡ Some result }
+{
+    let count = even.len();
+    if i < count {
+        return even.at(i);
+    }
+    places[(i - count) as usize]
 }
 
 impl<'a, V: RecordView<'a> + Drop> Records<'a, V> {
@@ -172,7 +191,8 @@ pub fn read_records<'a, K: ReadAlone + Drop>(
     }
     Ok(Records {
         bytes,
-        places: Places::Listed(places),
+        even: EvenPlaces::none(),
+        places,
         kind: PhantomData,
     })
 }
@@ -210,7 +230,8 @@ pub fn read_records_after<'a, K: ReadAfter<'a> + Drop>(
     }
     let records = Records {
         bytes,
-        places: Places::Listed(places),
+        even: EvenPlaces::none(),
+        places,
         kind: PhantomData,
     };
     Ok((records, context))

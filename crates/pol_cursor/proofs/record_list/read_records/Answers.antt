@@ -23,5 +23,5 @@ loop-preserved g c =
 
 pub returns : goal.returns
 unfolding records_at
-returns g c = GoingAt-end {S = Unit {0}} (placed_in g.K.Record.standing) g.K.Record.has (λ left context. placed g.K.ReadAlone.reads) (λ context x. context) c.args.n tt c.args.c.now c.bytes-bytes.result.now
-    c.loop.counter tt c.loop.c c.loop.places.items c.loop-test.false c.loop.invariant.0
+returns g c = rw c.none.ensures (GoingAt-end {S = Unit {0}} (placed_in g.K.Record.standing) g.K.Record.has (λ left context. placed g.K.ReadAlone.reads) (λ context x. context) c.args.n tt c.args.c.now c.bytes-bytes.result.now
+    c.loop.counter tt c.loop.c c.loop.places.items c.loop-test.false c.loop.invariant.0)

@@ -23,4 +23,4 @@ loop-preserved g c =
 pub returns : goal.returns
 returns g c =
     let read = GoingAfter-end g.K.Record.standing g.K.Record.has g.K.ReadAfter.reads g.K.ReadAfter.after c.args.n c.args.context c.args.c.now c.bytes-bytes.result.now c.loop.counter c.loop.context c.loop.c c.loop.places.items c.loop-test.false c.loop.invariant.0 in
-    record { exact = read; after = c.loop.invariant.0.made }
+    record { exact = rw c.none.ensures read; after = rw c.none.ensures c.loop.invariant.0.made }

@@ -1,18 +1,9 @@
-//! The places of the records of a list.
+//! The places of records that are all as long, one behind the other.
 
-ghost use Rattle.std.specs.Prelude.{◌≡◌, ◌<◌, ◌+◌, ◌*◌, ◌^◌, Some, length, slice_get};
-ghost use Rattle.pol_cursor.specs.EvenPlaces.{even_places};
+ghost use Rattle.std.specs.Prelude.{◌≡◌, ◌<◌, ◌+◌, ◌*◌, ◌^◌, [], Some, length, slice_get};
+ghost use Rattle.pol_cursor.specs.EvenRuns.{even_places};
 
 use std::marker::Model;
-
-/// How the records of a list are found.
-#[derive(Drop)]
-pub(crate) enum Places {
-    /// By their places.
-    Listed(Vec<u32>),
-    /// By their numbers alone, where all are as long.
-    Even(EvenPlaces),
-}
 
 /// Places that lie as far apart, each from the one before it. Contracts see the list of them.
 #[derive(Drop)]
@@ -24,7 +15,7 @@ pub(crate) struct EvenPlaces {
 
 impl Model for EvenPlaces {
     ghost use Rattle.std.specs.Prelude.{ℕ, List, ◌<◌, ◌+◌, ◌*◌, ◌^◌};
-    ghost use Rattle.pol_cursor.specs.EvenPlaces.{even_places};
+    ghost use Rattle.pol_cursor.specs.EvenRuns.{even_places};
 
     ghost Value = { List ℕ };
 
@@ -34,6 +25,14 @@ impl Model for EvenPlaces {
 }
 
 impl EvenPlaces {
+    /// None.
+    #[tactic(auto, unfolding(crate::specs::EvenRuns::even_places))]
+    pub(crate) fn none() -> EvenPlaces
+        ensures { result ≡ [] }
+    {
+        EvenPlaces::new(0, 0, 0)
+    }
+
     /// So many from a first one on.
     pub(crate) fn new(first: u32, step: u32, count: u32) -> EvenPlaces
         requires { first + count * step < 2 ^ 32 }
@@ -44,7 +43,7 @@ impl EvenPlaces {
 
     /// How many there are.
     #[inline(always)]
-    #[tactic(auto, using(crate::proofs::EvenPlaces::even_length))]
+    #[tactic(auto, using(crate::proofs::EvenRuns::even_length))]
     pub(crate) fn len(&self) -> u32
         ensures { result ≡ length self.now }
     {
@@ -53,7 +52,7 @@ impl EvenPlaces {
 
     /// The place of that number, from 0 on.
     #[inline(always)]
-    #[tactic(auto, using(crate::proofs::EvenPlaces::even_length, crate::proofs::EvenPlaces::even_at, crate::proofs::EvenPlaces::even_small))]
+    #[tactic(auto, using(crate::proofs::EvenRuns::even_length, crate::proofs::EvenRuns::even_at, crate::proofs::EvenRuns::even_small))]
     pub(crate) fn at(&self, i: u32) -> u32
         requires { i < length self.now }
         ensures { slice_get self.now i ≡ Some result }
