@@ -10,3 +10,4 @@ pub mod NumberedRules
 pub mod Resolvings
 pub mod Asking
 pub mod FoundRules
+pub mod MetRules

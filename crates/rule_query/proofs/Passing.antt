@@ -1,24 +1,20 @@
 -- A query of tests, one for each criterion.
-use Rattle.std.proofs.Common.{◌≡◌, ℕ, zero, suc, ◌+◌, ◌-◌, ◌<◌, ◌≤◌, Bool, true, false, cond, Ok, Some, None, List, [], ◌∷◌, ◌++◌, length, refl, sym, ap, ◌∙◌, add-zero, append-nil, arith}
-use Rattle.std.specs.Prelude.{◌&&◌, option_map, slice_get}
+use Rattle.std.proofs.Common.{◌≡◌, ℕ, zero, suc, ◌+◌, ◌-◌, ◌<◌, ◌≤◌, Bool, true, false, cond, Some, None, List, [], ◌∷◌, ◌++◌, refl, sym, ap, ◌∙◌, add-zero, append-nil, arith}
+use Rattle.std.specs.Prelude.{slice_get}
 use Rattle.std.specs.List.{find, filter, list_all, range_with_len}
 use Rattle.std.proofs.lemmas.List.Elements.{filter-append}
 use Rattle.std.proofs.lemmas.List.Folds.{list_all-append}
 use Rattle.pol_file.specs.declared.Parts.{Parts}
-use Rattle.pol_file.specs.Acceptance.{accept}
-use Rattle.pol_rules.specs.declared.rule.RuleKind.{RuleKind}
 use Rattle.pol_rules.specs.DeclaredRules.{IsDeclaredRule}
 use Rattle.pol_rules.specs.StoredRules.{StoredRule, stored_rules}
 use Rattle.rule_criteria.specs.declared.Criteria.{Criteria}
 use Rattle.rule_query.specs.declared.tests.Test.{Test}
 use Rattle.rule_query.specs.declared.query.Query.{Query}
 use Rattle.rule_query.specs.Given.{Given, in_word_order, source_given, target_given}
-use Rattle.rule_query.specs.Meeting.{is_kind_asked, meeting, meets, meets_found, meets_given, meets_rule}
-use Rattle.rule_query.specs.NumberedRules.{rule_at}
+use Rattle.rule_query.specs.Meeting.{meets, meets_found, meets_given, meets_rule}
 use Rattle.rule_query.specs.Tests.{first_of, passes, rule_test, sources_of, targets_of}
 use Rattle.rule_query.specs.Resolved.{AreSameTests, AreTypesOf, IsQueryOf, Gains}
 use Rattle.rule_query.proofs.AskedEnds.{asked_more, source_in_order, target_in_order}
-use Rattle.rule_query.proofs.NumberedRules.{is_declared, is_there, kind_is}
 
 -- tests pass the declared rules that meet these criteria, and have the types that they ask for
 pub record PassAlike (policy : Parts) (done : List Given) (tests : List Test) : Type 0 where
@@ -65,15 +61,6 @@ pub meets_at : (policy : Parts) (criteria : Criteria) (query : Query) (rule : St
 unfolding meets
 meets_at policy criteria query rule n r is declared at e = e ∙ is.tells rule declared ∙ sym (ap (meets_found policy criteria) at)
 
--- a rule of a kind that is not asked does not meet them
-pub unasked_at : (bytes : List ℕ) (policy : Parts) (criteria : Criteria) (query : Query) (n : ℕ) (kind : RuleKind) → accept bytes ≡ Ok policy → n < length (stored_rules policy) → option_map (λ (rule : StoredRule). rule.kind) (slice_get (stored_rules policy) n) ≡ Some kind
-    → is_kind_asked query.kinds kind ≡ false → IsQueryOf policy criteria query → meets policy criteria n ≡ false
-unasked_at bytes policy criteria query n kind accepted lt has unasked is =
-    let rule : StoredRule = rule_at policy n in
-    let none : is_kind_asked query.kinds rule.kind ≡ false = ap (is_kind_asked query.kinds) (sym (kind_is policy n kind lt has)) ∙ unasked in
-    let fails : passes policy.symbols query rule ≡ false = ap (λ (b : Bool). b && list_all (rule_test policy.symbols rule) query.tests.items) none in
-    sym (meets_at policy criteria query rule n false is (is_declared bytes policy n accepted lt) (is_there policy n lt) (sym fails))
-
 -- the first number that passes, from one on
 pub first_here : (p : ℕ → Bool) (n count : ℕ) → n < count → p n ≡ true → find p (range_with_len n (count - n)) ≡ Some n
 first_here p n count lt e = let s : count - n ≡ suc (count - n - 1) = omega arith in rw (s, e) refl
@@ -104,7 +91,3 @@ added_where had has n b m passes is added = rw (sym is ∙ passes) added
 
 pub left_where : (had : List ℕ) (n : ℕ) (b m : Bool) → b ≡ false → b ≡ m → had ≡ had ++ cond m (n ∷ []) []
 left_where had n b m fails is = rw (sym is ∙ fails) (sym (append-nil had))
-
--- those of all rules
-pub kept_all : (policy : Parts) (criteria : Criteria) (n : ℕ) (numbers : List ℕ) → n ≡ length (stored_rules policy) → numbers ≡ filter (meets policy criteria) (range_with_len 0 n) → numbers ≡ meeting policy criteria
-kept_all policy criteria n numbers all kept = kept ∙ ap (λ (m : ℕ). filter (meets policy criteria) (range_with_len 0 m)) all

@@ -5,6 +5,7 @@
 #![tactic(auto)]
 
 mod ends;
+mod gathering;
 mod given;
 mod kinds;
 mod listed;

@@ -1,5 +1,5 @@
 // Rules by their numbers, read as far as they are asked.
-ghost use Rattle.std.specs.Prelude.{◌≡◌, ◌<◌, Some, length, slice_get};
+ghost use Rattle.std.specs.Prelude.{◌≡◌, ◌<◌, Some, length, option_map, slice_get};
 ghost use Rattle.pol_rules.specs.StoredRules.{ends_of, stored_rules};
 ghost use Rattle.pol_rules.specs.DeclaredRules.{IsDeclaredRule};
 
@@ -34,12 +34,22 @@ impl<'p, 'a> NumberedRule<'p, 'a> {
         ensures is { slice_get (stored_rules policy.now) number ≡ Some result }
         ensures declared { IsDeclaredRule policy.now result }
     {
+        NumberedRule::with_ends(policy, number, policy.rule_ends(number))
+    }
+
+    /// The same, where its ends are known.
+    #[inline(always)]
+    pub fn with_ends(policy: &'p Policy<'a>, number: u32, ends: RuleEnds) -> NumberedRule<'p, 'a>
+        requires { option_map ends_of (slice_get (stored_rules policy.now) number) ≡ Some ends }
+        ensures is { slice_get (stored_rules policy.now) number ≡ Some result }
+        ensures declared { IsDeclaredRule policy.now result }
+    {
         // the policy was accepted, and so what its rules name is declared
         let _ = policy.bytes();
         NumberedRule {
             policy,
             number,
-            ends: policy.rule_ends(number),
+            ends,
         }
     }
 

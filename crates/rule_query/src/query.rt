@@ -1,4 +1,4 @@
-ghost use Rattle.std.specs.Prelude.{◌≡◌, ◌<◌, ◌-◌, ◌∷◌, [], ◌++◌, false, IfOk, OnOk, if◌then◌else◌, length, option_map};
+ghost use Rattle.std.specs.Prelude.{◌≡◌, ◌<◌, ◌-◌, IfOk, length, option_map};
 ghost use Rattle.std.specs.List.{find, list_all, range_with_len};
 ghost use Rattle.pol_rules.specs.StoredRules.{stored_rules};
 ghost use Rattle.rule_order.specs.ListedOrder.{in_rule_order};
@@ -36,7 +36,7 @@ impl Query {
 
     // Whether a rule is of a kind that is asked, and passes all tests.
     #[inline(always)]
-    fn passes(&self, symbols: &Symbols<'_>, rule: &NumberedRule<'_, '_>) -> bool
+    pub(crate) fn passes(&self, symbols: &Symbols<'_>, rule: &NumberedRule<'_, '_>) -> bool
         ensures { result ≡ passes symbols.now self.now rule.now }
     {
         is_kind_asked(&self.kinds, rule.ends().kind) && all_pass(&self.tests, symbols, rule)
@@ -84,47 +84,8 @@ impl Query {
         ensures { (criteria : Criteria) → IsQueryOf policy.now criteria self.now → IfOk result (λ numbers. numbers.items ≡ in_rule_order policy.now (meeting policy.now criteria)) }
     {
         let mut found = RuleKeys::new(alloc, policy);
-        for n in 0..policy.rule_count() {
-            self.add_met(policy, n, &mut found)?;
-        }
+        self.add_all(policy, &mut found)?;
         found.sorted(alloc)
-    }
-
-    // Adds the rule of a number to those that were found, if it meets the criteria.
-    fn add_met(
-        &self,
-        policy: &Policy<'_>,
-        n: u32,
-        found: &mut RuleKeys<'_>,
-    ) -> Result<(), AllocError>
-        requires number { n < length (stored_rules policy.now) }
-        requires policy { found.old.policy ≡ policy.now }
-        ensures policy { OnOk result (found.new.policy ≡ policy.now) }
-        ensures numbers { (criteria : Criteria) → IsQueryOf policy.now criteria self.now → OnOk result (found.new.numbers ≡ found.old.numbers ++ (if meets policy.now criteria n then n ∷ [] else [])) }
-    {
-        if !self.may_meet(policy, n) {
-            return Ok(());
-        }
-        let rule = NumberedRule::of(policy, n);
-        if self.passes(policy.symbols(), &rule) {
-            found.add_ends(n, rule.ends())?;
-        }
-        Ok(())
-    }
-
-    // Whether the rule of a number may meet the criteria by its kind. Only the kind of an access vector is read by itself: the others
-    // are found by halves, and so are looked at once.
-    #[inline(always)]
-    fn may_meet(&self, policy: &Policy<'_>, n: u32) -> bool
-        requires { n < length (stored_rules policy.now) }
-        ensures { (criteria : Criteria) → IsQueryOf policy.now criteria self.now → result ≡ false → meets policy.now criteria n ≡ false }
-    {
-        // the policy was accepted, and so what its rules name is declared
-        let _ = policy.bytes();
-        if n >= policy.table().len() {
-            return true;
-        }
-        is_kind_asked(&self.kinds, policy.rule_kind(n))
     }
 }
 

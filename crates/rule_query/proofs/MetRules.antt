@@ -1,0 +1,79 @@
+-- Rules that are gathered in file order: one rule more, and where those of the next conditional node stand.
+use Rattle.std.proofs.Common.{◌≡◌, ℕ, suc, ◌+◌, ◌-◌, ◌<◌, Bool, true, false, Ok, Some, List, [], ◌∷◌, ◌++◌, length, slice_get, refl, sym, ap, subst, ◌∙◌, append-nil, arith}
+use Rattle.std.specs.Prelude.{◌&&◌}
+use Rattle.std.specs.List.{flat_map, list_all, range_with_len}
+use Rattle.std.proofs.lemmas.List.{length-append}
+use Rattle.std.proofs.lemmas.Option.{slice_get_within}
+use Rattle.pol_cursor.specs.References.{Placed}
+use Rattle.pol_conditionals.specs.declared.CondNodeRec.{CondNodeRec}
+use Rattle.pol_file.specs.declared.Parts.{Parts}
+use Rattle.pol_file.specs.Acceptance.{accept}
+use Rattle.pol_rules.specs.DeclaredRules.{IsDeclaredRule}
+use Rattle.pol_rules.specs.StoredRules.{StoredRule, rules_of_node, stored_rules}
+use Rattle.pol_rules.proofs.RuleSums.{get_right}
+use Rattle.pol_rules.proofs.RulesDeclared.{rule_is_declared}
+use Rattle.rule_order.specs.ListedOrder.{GatheredRules}
+use Rattle.rule_query.specs.declared.query.Query.{Query}
+use Rattle.rule_query.specs.Gathering.{HasMet, StandFrom}
+use Rattle.rule_query.specs.Meeting.{is_kind_asked, meets}
+use Rattle.rule_query.specs.Tests.{passes, rule_test}
+use Rattle.rule_query.proofs.Passing.{kept_next, meets_at}
+
+-- ---- one rule more
+
+module _ (policy : Parts) (query : Query) (rule : StoredRule) (n : ℕ) (there : slice_get (stored_rules policy) n ≡ Some rule) where
+  -- a rule that passes
+  pub met_passing : (old new : GatheredRules) → IsDeclaredRule policy rule → passes policy.symbols query rule ≡ true → new ≡ record { policy = old.policy; numbers = old.numbers ++ n ∷ [] } → HasMet policy query n old → HasMet policy query (n + 1) new
+  met_passing old new declared passing added met = record {
+    policy_is = ap (λ (found : GatheredRules). found.policy) added ∙ met.policy_is;
+    within = omega (arith, slice_get_within (stored_rules policy) n rule there);
+    few = met.few;
+    numbers = λ criteria is.
+        kept_next (meets policy criteria) n old.numbers new.numbers true (met.numbers criteria is) (ap (λ (found : GatheredRules). found.numbers) added)
+        (meets_at policy criteria query rule n true is declared there (sym passing));
+  }
+
+  -- one that does not
+  pub met_failing : (found : GatheredRules) → IsDeclaredRule policy rule → passes policy.symbols query rule ≡ false → HasMet policy query n found → HasMet policy query (n + 1) found
+  met_failing found declared failing met = record {
+    policy_is = met.policy_is;
+    within = omega (arith, slice_get_within (stored_rules policy) n rule there);
+    few = met.few;
+    numbers = λ criteria is.
+        kept_next (meets policy criteria) n found.numbers found.numbers false (met.numbers criteria is) (sym (append-nil found.numbers))
+        (meets_at policy criteria query rule n false is declared there (sym failing));
+  }
+
+  -- one of a kind that is not asked
+  pub met_unasked : (bytes : List ℕ) (found : GatheredRules) → accept bytes ≡ Ok policy → is_kind_asked query.kinds rule.kind ≡ false → HasMet policy query n found → HasMet policy query (n + 1) found
+  met_unasked bytes found accepted none met =
+      let failing : passes policy.symbols query rule ≡ false = ap (λ (b : Bool). b && list_all (rule_test policy.symbols rule) query.tests.items) none in
+      met_failing found (rule_is_declared bytes policy n rule accepted there) failing met
+
+-- ---- rules that stand one behind the other
+
+stand_same : (policy : Parts) (first : ℕ) (xs ys : List StoredRule) → xs ≡ ys → StandFrom policy first xs → StandFrom policy first ys
+stand_same policy first xs ys e stand = subst (λ (rules : List StoredRule). StandFrom policy first rules) e stand
+
+pub stand_right : (policy : Parts) (first next : ℕ) (xs ys : List StoredRule) → next ≡ first + length xs → StandFrom policy first (xs ++ ys) → StandFrom policy next ys
+stand_right policy first next xs ys e stand = record {
+  at = λ i lt.
+      let place : next + i ≡ first + (length xs + i) = omega arith in
+      ap (slice_get (stored_rules policy)) place ∙ stand.at (length xs + i) (omega (arith, length-append xs ys)) ∙ get_right xs ys (length xs + i) i refl;
+}
+
+-- ---- those under conditions
+
+-- those of the nodes from a number on
+abbrev pub rules_from_node : List (Placed CondNodeRec) → ℕ → List StoredRule
+rules_from_node nodes i = flat_map (rules_of_node nodes) (range_with_len i (length nodes - i))
+
+one_node : (nodes : List (Placed CondNodeRec)) (i : ℕ) → i < length nodes → rules_from_node nodes i ≡ rules_of_node nodes i ++ rules_from_node nodes (i + 1)
+one_node nodes i lt = let e : length nodes - i ≡ suc (length nodes - (i + 1)) = omega arith in ap (λ (n : ℕ). flat_map (rules_of_node nodes) (range_with_len i n)) e
+
+pub stand_next : (policy : Parts) (next after i : ℕ) → i < length policy.rules.conditionals → after ≡ next + length (rules_of_node policy.rules.conditionals i) → StandFrom policy next (rules_from_node policy.rules.conditionals i)
+    → StandFrom policy after (rules_from_node policy.rules.conditionals (i + 1))
+stand_next policy next after i lt e stand =
+    let nodes = policy.rules.conditionals in
+    stand_right policy next after (rules_of_node nodes i) (rules_from_node nodes (i + 1)) e
+    (stand_same policy next (rules_from_node nodes i) (rules_of_node nodes i ++ rules_from_node nodes (i + 1)) (one_node nodes i lt) stand)

@@ -1,0 +1,5 @@
+use Rattle.rule_query.specs.Gathering.{HasMet}
+use Rattle.rule_query.proofs.query.Query.add_of_table.Given as goal
+
+abbrev pub invariant-loop-number : goal.invariant-loop-number
+invariant-loop-number l = HasMet l.policy l.self l.number l.found
