@@ -7,3 +7,4 @@ pub mod FittingParts
 pub mod SoundTree
 pub mod LookedTree
 pub mod WrittenTree
+pub mod JudgedBytes
