@@ -129,6 +129,7 @@ impl Query {
     }
 
     // Adds the rule of a number, which has these ends, if it meets the criteria.
+    #[inline(always)]
     fn add_met(
         &self,
         policy: &Policy<'_>,
