@@ -5,7 +5,7 @@ use Rattle.std.specs.List.{AllByRecursion}
 use Rattle.std.proofs.lemmas.Bool.{eqb-true, eqb-false}
 use Rattle.pol_fields.specs.declared.fields.TheConstants.{AVTAB_NEL}
 use Rattle.pol_cursor.specs.Outcome.{Got, Position}
-use Rattle.pol_cursor.specs.EvenRuns.{even_places}
+use Rattle.pol_cursor.specs.EvenPlaces.{even_places}
 use Rattle.pol_cursor.specs.Parts.{number, list_of}
 use Rattle.pol_cursor.specs.References.{Placed, placed}
 use Rattle.pol_cursor.specs.Contexts.{records_after}

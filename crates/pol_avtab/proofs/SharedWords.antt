@@ -9,8 +9,9 @@ use Rattle.std.proofs.lemmas.Nat.Bits.{bit_at-zero, bit_at_set_same, bit_at_set_
 use Rattle.std.proofs.lemmas.List.{get_or-set_same, get_or-set_other, get_or-replicate, get_or_past, length-replicate}
 use Rattle.std.proofs.lemmas.List.Elements.{Contains-append_right, Contains-append_cases}
 use Rattle.pol_bitmap.proofs.Elements.{contains_nothing, contains_one, contains_first, keeps}
-use Rattle.pol_bitmap.proofs.Merging.{or_nothing}
-use Rattle.pol_avtab.specs.InnerKeys.{Marks, has_bit_of, HasBuckets, bucket_of, is_met, is_shared, AreTested, AreMarked}
+use Rattle.pol_cursor.proofs.BitPlaces.{or_nothing}
+use Rattle.pol_cursor.specs.BitPlaces.{has_bit_of}
+use Rattle.pol_avtab.specs.InnerKeys.{Marks, HasBuckets, bucket_of, is_met, is_shared, AreTested, AreMarked}
 
 -- ---- one word more
 
@@ -74,28 +75,6 @@ distinct_of_tested test (w ∷ ws) tested distinct = (
 )
 
 -- ---- bits
-
-pub bit_set : (bits : List ℕ) (place other : ℕ) → place / 64 < length bits
-    → has_bit_of (set bits (place / 64) (bit_or (get_or bits (place / 64) 0) (1 * 2 ^ (place % 64) % 2 ^ 64))) other ≡ (has_bit_of bits other || (place == other))
-unfolding has_bit_of
-bit_set bits place other lt =
-    let k = place / 64 in
-    let j = place % 64 in
-    let old = get_or bits k 0 in
-    let new = bit_or old (1 * 2 ^ j % 2 ^ 64) in
-    elim (cases_eq other place) [
-      | inl e ↦ rw e (eq-eqb _ 1 (ap (λ (w : ℕ). bit_at w j) (get_or-set_same bits k new 0 lt) ∙ bit_at_set_same w64 old j (omega arith)) ∙ sym (or_right (bit_at old j == 1) (place == place) (eq-eqb place place refl)))
-      | inr differs ↦
-          elim (cases_eq (other / 64) k) [
-            | inl e ↦
-                ap (λ (i : ℕ). bit_at (get_or (set bits k new) i 0) (other % 64) == 1) e
-                ∙ ap (λ (w : ℕ). bit_at w (other % 64) == 1) (get_or-set_same bits k new 0 lt)
-                ∙ ap (λ (b : ℕ). b == 1) (bit_at_set_other w64 old j (omega arith) (other % 64) (λ d. differs (omega arith)))
-                ∙ ap (λ (i : ℕ). bit_at (get_or bits i 0) (other % 64) == 1) (sym e)
-            | inr far ↦ ap (λ (w : ℕ). bit_at w (other % 64) == 1) (get_or-set_other bits k (other / 64) new 0 far)
-          ]
-          ∙ sym (ap (λ (b : Bool). (bit_at (get_or bits (other / 64) 0) (other % 64) == 1) || b) (ne_eqb place other (λ e. differs (sym e))) ∙ or_nothing _)
-    ]
 
 none_set : (count place : ℕ) → has_bit_of (replicate count 0) place ≡ false
 unfolding has_bit_of

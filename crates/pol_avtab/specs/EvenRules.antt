@@ -1,6 +1,6 @@
 -- Rules that take twelve bytes each, one behind the other. Nothing here is promised to a caller.
 use Rattle.std.specs.Prelude.{◌≡◌, ◌<◌, ◌≤◌, ℕ, ◌+◌, ◌*◌, true, List, map, length}
-use Rattle.pol_cursor.specs.EvenRuns.{even_places}
+use Rattle.pol_cursor.specs.EvenPlaces.{even_places}
 use Rattle.pol_cursor.specs.References.{Placed}
 use Rattle.pol_avtab.specs.declared.av_rec.AvRec.{AvRec}
 use Rattle.pol_avtab.specs.AvRecord.{is_kind, specified_in, av_in}

@@ -1,8 +1,9 @@
 -- How the code finds a rule that has the key of an earlier one. Nothing here is promised to a caller.
 use Rattle.std.specs.Prelude.{◌≡◌, ◌⊎◌, ◌<◌, ℕ, ◌+◌, ◌-◌, ◌*◌, ◌/◌, ◌%◌, ◌^◌, ◌≤◌, ◌==◌, Bool, true, not, Option, Some, None, List, [], ◌∷◌, map, length, slice_index, if◌then◌else◌}
 use Rattle.std.specs.List.{filter, Contains, IsDistinct}
-use Rattle.std.specs.Int.{bit_at, rotate_left, w32}
+use Rattle.std.specs.Int.{rotate_left, w32}
 use Rattle.std.specs.Int.Bits.{bit_and, bit_xor}
+use Rattle.pol_cursor.specs.BitPlaces.{has_bit_of}
 use Rattle.pol_cursor.specs.Outcome.{Reader, Position, Got}
 use Rattle.pol_cursor.specs.Contexts.{records_after}
 use Rattle.pol_cursor.specs.References.{Placed}
@@ -86,10 +87,6 @@ pub record AreRising (last : LastKey) (words : List ℕ) : Type 0 where
   pub passed : (word : ℕ) → Contains words word → IsPassed last word
 
 -- ---- marks of words, by two bits for each bucket
-
--- the bit of a place, of which each number has 64
-unfoldable pub has_bit_of : List ℕ → ℕ → Bool
-has_bit_of bits place = bit_at (slice_index bits (place / 64)) (place % 64) == 1
 
 pub record Marks : Type 0 where
   pub shift : ℕ

@@ -1,7 +1,8 @@
-ghost use Rattle.std.specs.Prelude.{◌≡◌, ◌+◌, ◌*◌, ◌<◌, ◌||◌, ◌==◌, ◌++◌, ℕ, List, true, false, IfOk, OnOk, length};
+ghost use Rattle.std.specs.Prelude.{◌≡◌, ◌+◌, ◌*◌, ◌<◌, ◌++◌, ℕ, List, true, false, IfOk, OnOk, length};
 ghost use Rattle.std.specs.List.{filter};
-ghost use Rattle.pol_avtab.specs.InnerKeys.{has_bit_of, bucket_of, is_met, is_shared, AreMarked};
+ghost use Rattle.pol_avtab.specs.InnerKeys.{bucket_of, is_met, is_shared, AreMarked};
 
+use pol_cursor::{has_bit, set_bit};
 use std::alloc::{AllocError, Global};
 use std::marker::Model;
 
@@ -90,20 +91,4 @@ impl WordMarks {
     {
         2 * (word.wrapping_mul(0x9E37_79B9_7F4A_7C15) >> self.shift) as usize
     }
-}
-
-// Whether the bit of a place is set.
-fn has_bit(bits: &[u64], place: usize) -> bool
-    requires { place < 64 * length bits.now }
-    ensures { result ≡ has_bit_of bits.now place }
-{
-    bits[place / 64] >> (place % 64) & 1 == 1
-}
-
-// Sets the bit of a place.
-fn set_bit(bits: &mut [u64], place: usize)
-    requires { place < 64 * length bits.old }
-    ensures { (other : ℕ) → has_bit_of bits.new other ≡ (has_bit_of bits.old other || (place == other)) }
-{
-    bits[place / 64] |= 1 << (place % 64);
 }

@@ -7,6 +7,7 @@ use Rattle.std.proofs.lemmas.List.{append-nil, nil_from_length}
 use Rattle.std.proofs.lemmas.List.Folds.{list_any-append}
 use Rattle.std.proofs.lemmas.Bool.{cases_Bool, cases_lt, and_parts, and_from, or_left, or_right, and_left, lt-leb, false≢true, ltb-true, leb-true, lt-ltb, le-leb, eqb-true}
 use Rattle.std.proofs.lemmas.Nat.Bits.{bit_at_or, bit_at_and, bit_at_not, bit_at-lt, bit_at-zero, bit_at-trailing_zeros}
+use Rattle.pol_cursor.proofs.BitPlaces.{or_nothing}
 use Rattle.pol_bitmap.specs.declared.node.Node.{Node}
 use Rattle.pol_bitmap.specs.Bitmap.{NodeFits}
 use Rattle.pol_bitmap.specs.Nodes.{IsRisingFrom, node_has, has_bit}
@@ -60,10 +61,6 @@ made-later least end start (n ∷ ns) h le = (h.0, h.1, h.2, made-later (n.start
 pub later : (least base : ℕ) (ns : List Node) → IsRisingFrom base ns → least ≤ base → IsRisingFrom least ns
 later least base [] h le = tt
 later least base (n ∷ ns) h le = (omega arith, h.1, h.2, h.3)
-
-pub or_nothing : (a : Bool) → (a || false) ≡ a
-or_nothing true = refl
-or_nothing false = refl
 
 or_regroup : (o p q : Bool) → ((o || (p || false)) || q) ≡ (o || (p || q))
 or_regroup true p q = refl

@@ -5,11 +5,12 @@ use Rattle.std.specs.Int.{bit_at}
 use Rattle.std.specs.List.{All, AllByRecursion}
 use Rattle.std.proofs.lemmas.Bool.{cases_order, cases_lt, false≢true, le-leb, lt-ltb, or_left, and_from, and_parts, ltb-true}
 use Rattle.std.proofs.lemmas.Nat.Bits.{same_from_bits_below, bit_at-lt}
+use Rattle.pol_cursor.proofs.BitPlaces.{or_nothing}
 use Rattle.pol_bitmap.specs.declared.node.Node.{Node}
 use Rattle.pol_bitmap.specs.Nodes.{bits_of, node_has, has_bit}
 use Rattle.pol_bitmap.specs.Sets.{IsSet, IsSetFrom, HasSameBits}
 use Rattle.pol_bitmap.proofs.BitLists.{has_bit-from_bits, bits-from_has_bit, bits_fit}
-use Rattle.pol_bitmap.proofs.Merging.{rising_above, some_bit, node_above, or_nothing, by_digits}
+use Rattle.pol_bitmap.proofs.Merging.{rising_above, some_bit, node_above, by_digits}
 
 -- two sets have the same bits
 abbrev Same : List Node → List Node → Type 0

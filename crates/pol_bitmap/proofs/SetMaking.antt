@@ -13,12 +13,13 @@ use Rattle.std.proofs.lemmas.List.{get_or-take}
 use Rattle.std.proofs.lemmas.List.Kept.{AllPairs-from_increasing}
 use Rattle.std.proofs.lemmas.List.Folds.{list_any-append}
 use Rattle.std.proofs.lemmas.Option.{slice_get-get_or}
+use Rattle.pol_cursor.proofs.BitPlaces.{or_nothing}
 use Rattle.pol_bitmap.specs.declared.node.Node.{Node}
 use Rattle.pol_bitmap.specs.Nodes.{IsRisingFrom, bits_of, node_has, has_bit}
 use Rattle.pol_bitmap.specs.Sets.{IsSet, IsSetFrom}
 use Rattle.pol_bitmap.proofs.NodeBits.{rising_start}
 use Rattle.pol_bitmap.proofs.BitLists.{has_bit-from_bits, bits-from_has_bit, bits_rise, rises-append, rises_same}
-use Rattle.pol_bitmap.proofs.Merging.{IsRisingTo, fits-more, made-end, or_nothing, no_bit, some_bit}
+use Rattle.pol_bitmap.proofs.Merging.{IsRisingTo, fits-more, made-end, no_bit, some_bit}
 
 -- ---- one node
 

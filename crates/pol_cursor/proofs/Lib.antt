@@ -10,4 +10,5 @@ pub mod Writings
 pub mod DanglingLists
 pub mod PlacedRuns
 pub mod Copies
-pub mod EvenRuns
+pub mod EvenPlaces
+pub mod BitPlaces

@@ -8,4 +8,5 @@ pub mod Mentions
 pub mod Runs
 pub mod Contexts
 pub mod Writing
-pub mod EvenRuns
+pub mod EvenPlaces
+pub mod BitPlaces

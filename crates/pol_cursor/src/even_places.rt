@@ -1,7 +1,7 @@
 //! The places of records that are all as long, one behind the other.
 
 ghost use Rattle.std.specs.Prelude.{◌≡◌, ◌<◌, ◌+◌, ◌*◌, ◌^◌, [], Some, length, slice_get};
-ghost use Rattle.pol_cursor.specs.EvenRuns.{even_places};
+ghost use Rattle.pol_cursor.specs.EvenPlaces.{even_places};
 
 use std::marker::Model;
 
@@ -15,7 +15,7 @@ pub(crate) struct EvenPlaces {
 
 impl Model for EvenPlaces {
     ghost use Rattle.std.specs.Prelude.{ℕ, List, ◌<◌, ◌+◌, ◌*◌, ◌^◌};
-    ghost use Rattle.pol_cursor.specs.EvenRuns.{even_places};
+    ghost use Rattle.pol_cursor.specs.EvenPlaces.{even_places};
 
     ghost Value = { List ℕ };
 
@@ -26,7 +26,7 @@ impl Model for EvenPlaces {
 
 impl EvenPlaces {
     /// None.
-    #[tactic(auto, unfolding(crate::specs::EvenRuns::even_places))]
+    #[tactic(auto, unfolding(crate::specs::EvenPlaces::even_places))]
     pub(crate) fn none() -> EvenPlaces
         ensures { result ≡ [] }
     {
@@ -43,7 +43,7 @@ impl EvenPlaces {
 
     /// How many there are.
     #[inline(always)]
-    #[tactic(auto, using(crate::proofs::EvenRuns::even_length))]
+    #[tactic(auto, using(crate::proofs::EvenPlaces::even_length))]
     pub(crate) fn len(&self) -> u32
         ensures { result ≡ length self.now }
     {
@@ -52,7 +52,7 @@ impl EvenPlaces {
 
     /// The place of that number, from 0 on.
     #[inline(always)]
-    #[tactic(auto, using(crate::proofs::EvenRuns::even_length, crate::proofs::EvenRuns::even_at, crate::proofs::EvenRuns::even_small))]
+    #[tactic(auto, using(crate::proofs::EvenPlaces::even_length, crate::proofs::EvenPlaces::even_at, crate::proofs::EvenPlaces::even_small))]
     pub(crate) fn at(&self, i: u32) -> u32
         requires { i < length self.now }
         ensures { slice_get self.now i ≡ Some result }

@@ -1,6 +1,7 @@
 //! The cursor over the bytes of a policy, its faults, and the language in which records of the format are defined.
 #![tactic(auto)]
 
+mod bit_places;
 mod copied;
 mod cursor;
 mod even_places;
@@ -16,6 +17,7 @@ mod record_list;
 mod record_run;
 mod referring;
 
+pub use bit_places::{has_bit, set_bit};
 pub use copied::Copied;
 pub use cursor::Cursor;
 pub use file_name::{read_name, read_name_bytes, read_name_length, write_name};

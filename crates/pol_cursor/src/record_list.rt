@@ -4,7 +4,7 @@ ghost use Rattle.std.specs.List.{AllByRecursion};
 ghost use Rattle.pol_cursor.specs.Outcome.{Outcome, Answers, Yields};
 ghost use Rattle.pol_cursor.specs.Parts.{counted, records_at};
 ghost use Rattle.pol_cursor.specs.Contexts.{context_after, records_after};
-ghost use Rattle.pol_cursor.specs.EvenRuns.{even_places};
+ghost use Rattle.pol_cursor.specs.EvenPlaces.{even_places};
 ghost use Rattle.pol_cursor.specs.References.{placed};
 
 use crate::even_places::EvenPlaces;
@@ -106,8 +106,8 @@ impl<'a, K: Record + Drop> Records<'a, K> {
         }
     }
 
-    /// So many records from a place on, all as long, one behind the other.
-    #[tactic(auto, using(crate::proofs::EvenRuns::even_length, crate::proofs::EvenRuns::nothing_behind))]
+    /// So many records from a place on, one behind the other, each of as many bytes as `length` says.
+    #[tactic(auto, using(crate::proofs::EvenPlaces::even_length, crate::proofs::EvenPlaces::nothing_behind))]
     pub fn even(
         alloc: Global,
         bytes: &'a [u8],
@@ -137,7 +137,7 @@ impl<'a, K: Record + Drop> Records<'a, K> {
 
     /// The buffer, and the place in it of the record of that number, from 0 on.
     #[inline(always)]
-    #[tactic(auto, using(crate::proofs::EvenRuns::all_at, crate::proofs::EvenRuns::mapped_at))]
+    #[tactic(auto, using(crate::proofs::EvenPlaces::all_at, crate::proofs::EvenPlaces::mapped_at))]
     pub fn place(&self, i: u32) -> (&'a [u8], u32)
         requires { i < length self.now }
         ensures stands { K.has result.0.now result.1 }
@@ -150,7 +150,7 @@ impl<'a, K: Record + Drop> Records<'a, K> {
 
 // The place of that number, from 0 on, of places that lie as far apart and others behind them.
 #[inline(always)]
-#[tactic(auto, using(crate::proofs::EvenRuns::get_first, crate::proofs::EvenRuns::get_later))]
+#[tactic(auto, using(crate::proofs::EvenPlaces::get_first, crate::proofs::EvenPlaces::get_later))]
 fn nth_place(even: &EvenPlaces, places: &[u32], i: u32) -> u32
     requires { i < length (even.now ++ places.now) }
     ensures { slice_get (even.now ++ places.now) i ≡ Some result }

@@ -10,13 +10,14 @@ use Rattle.std.proofs.lemmas.List.{get_or-set_same, get_or-set_other, length-set
 use Rattle.std.proofs.lemmas.List.Elements.{All-contains, All-filter, All-weaker, filter-append}
 use Rattle.std.proofs.lemmas.List.Folds.{list_any_at, list_any_more, list_any_none}
 use Rattle.std.proofs.lemmas.Map.Views.{Contains-from_any}
+use Rattle.pol_cursor.proofs.BitPlaces.{or_nothing}
 use Rattle.pol_bitmap.specs.declared.node.Node.{Node}
 use Rattle.pol_bitmap.specs.Nodes.{bits_of, node_has, node_bits, has_bit}
 use Rattle.pol_bitmap.proofs.BitLists.{has_bit-from_bits, bits-from_has_bit}
 use Rattle.pol_bitmap.proofs.Elements.{contains_range, keeps, range_holds}
 use Rattle.pol_bitmap.specs.Sets.{IsSet, IsSetFrom}
 use Rattle.pol_bitmap.proofs.LowestBits.{no_bits}
-use Rattle.pol_bitmap.proofs.Merging.{IsRisingTo, fits-more, made-end, or_nothing}
+use Rattle.pol_bitmap.proofs.Merging.{IsRisingTo, fits-more, made-end}
 use Rattle.pol_bitmap.proofs.SetMaking.{before_below, starts_below}
 use Rattle.pol_expand.specs.Expansion.{HaveRows, row_of}
 use Rattle.pol_expand.specs.Inverting.{attribute_bits, has_attribute, is_one_of, word_has_type, GainType, AreWords, HaveRoom, GainNodes, AreListsBelow, AreLists}

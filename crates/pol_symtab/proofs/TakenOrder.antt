@@ -12,7 +12,7 @@ use Rattle.pol_symtab.specs.SymbolTables.{is_below}
 use Rattle.pol_symtab.specs.TakenMembers.{slot_of, is_behind, NoneBehind, AreInSet, AreFound}
 use Rattle.pol_symtab.proofs.ByteOrder.{below_trans, not_below_itself, same_name}
 use Rattle.pol_symtab.proofs.TakenNames.{names_of, inserted_name}
-use Rattle.pol_symtab.proofs.TakenBits.{or_nothing}
+use Rattle.pol_cursor.proofs.BitPlaces.{or_nothing}
 
 -- ---- one more member
 

@@ -1,14 +1,11 @@
 -- How the code finds a name or a value that is taken. Nothing here is promised to a caller.
-use Rattle.std.specs.Prelude.{◌≡◌, ℕ, ◌/◌, ◌%◌, ◌<◌, ◌≤◌, ◌==◌, ◌&&◌, ◌||◌, Bool, true, false, List, nat_eq, nat_lt, slice_index, fold, bit_and}
+use Rattle.std.specs.Prelude.{◌≡◌, ℕ, ◌*◌, ◌<◌, ◌≤◌, ◌&&◌, ◌||◌, Bool, true, false, List, nat_eq, nat_lt, fold, bit_and}
 use Rattle.std.specs.List.{list_any}
 use Rattle.std.specs.Str.{bytes_eq}
-use Rattle.std.specs.Int.{bit_at, rotate_left, w32}
+use Rattle.std.specs.Int.{rotate_left, w32}
 use Rattle.std.specs.Int.Bits.{bit_xor}
+use Rattle.pol_cursor.specs.BitPlaces.{has_bit_of}
 use Rattle.pol_symtab.specs.SymbolTables.{is_below}
-
--- the bit of a place, of which each number has 64; behind the last number, none is set
-unfoldable pub has_bit_of : List ℕ → ℕ → Bool
-has_bit_of bits place = bit_at (slice_index bits (place / 64)) (place % 64) == 1
 
 -- The bits that are set are those of the values.
 abbrev pub AreMarked : List ℕ → List ℕ → Type 0
@@ -50,4 +47,4 @@ pub record Values : Type 0 where
   pub words : ℕ
 
 abbrev pub HasRoom : Values → ℕ → Type 0
-HasRoom values value = (1 ≤ values.spare) × (value / 64 < values.words)
+HasRoom values value = (1 ≤ values.spare) × (value < 64 * values.words)

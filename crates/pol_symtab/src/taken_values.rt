@@ -1,9 +1,11 @@
-ghost use Rattle.std.specs.Prelude.{◌≡◌, ◌/◌, ◌<◌, ◌≤◌, ◌==◌, ◌||◌, ℕ, [], OnOk, IsOk, length, nat_eq};
+ghost use Rattle.std.specs.Prelude.{◌≡◌, ◌≤◌, ℕ, [], OnOk, IsOk, nat_eq};
 ghost use Rattle.std.specs.List.{list_any};
 ghost use Rattle.std.specs.Vec.{vec_len};
 ghost use Rattle.pol_symtab.specs.Claims.{with_member};
-ghost use Rattle.pol_symtab.specs.TakenMembers.{has_bit_of, HasRoom};
+ghost use Rattle.pol_cursor.specs.BitPlaces.{has_bit_of};
+ghost use Rattle.pol_symtab.specs.TakenMembers.{HasRoom};
 
+use pol_cursor::{has_bit, set_bit};
 use std::alloc::{AllocError, Global};
 use std::marker::Model;
 
@@ -78,22 +80,4 @@ fn grow(bits: &mut Vec<u64>, words: usize) -> Result<(), AllocError>
         bits.push(0)?;
     }
     Ok(())
-}
-
-// Whether the bit of a place is set, where there is one.
-fn has_bit(bits: &[u64], place: usize) -> bool
-    ensures { result ≡ has_bit_of bits.now place }
-{
-    match bits.get(place / 64) {
-        Some(word) => *word >> (place % 64) & 1 == 1,
-        None => false,
-    }
-}
-
-// Sets the bit of a place.
-fn set_bit(bits: &mut [u64], place: usize)
-    requires { place / 64 < length bits.old }
-    ensures { (other : ℕ) → has_bit_of bits.new other ≡ (has_bit_of bits.old other || (place == other)) }
-{
-    bits[place / 64] |= 1 << (place % 64);
 }

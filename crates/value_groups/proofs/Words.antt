@@ -9,13 +9,14 @@ use Rattle.std.proofs.lemmas.List.{get_or-set_same, get_or-set_other, get_or-rep
 use Rattle.std.proofs.lemmas.List.Folds.{list_any-append}
 use Rattle.std.proofs.lemmas.List.Elements.{All-contains, All-from_get_or, Contains-append_right, Contains-append_cases}
 use Rattle.std.proofs.lemmas.Option.{slice_get-get_or}
+use Rattle.pol_cursor.proofs.BitPlaces.{or_nothing}
 use Rattle.pol_bitmap.specs.declared.Node.{Node}
 use Rattle.pol_bitmap.specs.Bitmap.{NodeFits}
 use Rattle.pol_bitmap.specs.Nodes.{bits_of, node_has, has_bit, IsRisingFrom}
 use Rattle.pol_bitmap.specs.Sets.{IsSet}
 use Rattle.pol_bitmap.proofs.BitLists.{RisesFrom, rises_lower, rises_same, bits_rise, has_bit-from_bits, bits-from_has_bit}
 use Rattle.pol_bitmap.proofs.Elements.{kept, keeps, contains_nothing, contains_one, contains_first, contains_range}
-use Rattle.pol_bitmap.proofs.Merging.{IsRisingTo, made-more, made-end, fits-more, map_or, node_above, or_nothing, no_bit}
+use Rattle.pol_bitmap.proofs.Merging.{IsRisingTo, made-more, made-end, fits-more, map_or, node_above, no_bit}
 use Rattle.pol_bitmap.proofs.NodeBits.{rising_start}
 use Rattle.pol_bitmap.proofs.SetMaking.{map_of, gains_node, starts_below}
 use Rattle.value_groups.proofs.Ranges.{filter_none}
