@@ -184,13 +184,23 @@ eight_bytes bytes place =
     )
 
 -- Without the mark they are the key.
-pub plain_word : (bytes : List ℕ) (place : ℕ) → num bytes place 8 < 2 ^ 63 → num bytes place 8 ≡ word_of (key_of (av_in bytes place))
-plain_word bytes place lt =
+unmarked_word : (bytes : List ℕ) (place : ℕ) → specified_in bytes place < 0x8000 → num bytes place 8 ≡ word_of (key_of (av_in bytes place))
+unmarked_word bytes place small =
     let all = eight_bytes bytes place in
-    let small : specified_in bytes place < 0x8000 = omega (arith, lt, all) in
     let low : specified_in bytes place % 0x8000 ≡ specified_in bytes place = omega (arith, small) in
     let same : kind_of (specified_in bytes place) ≡ specified_in bytes place = and_numeral (specified_in bytes place) 0x7FFE refl ∙ low in
     all ∙ ap (λ (kind : ℕ). num bytes place 2 + 0x10000 * (num bytes (place + 2) 2 + 0x10000 * (num bytes (place + 4) 2 + 0x10000 * kind))) (sym same)
+
+pub plain_word : (bytes : List ℕ) (place : ℕ) → num bytes place 8 < 2 ^ 63 → num bytes place 8 ≡ word_of (key_of (av_in bytes place))
+plain_word bytes place lt = unmarked_word bytes place (omega (arith, lt, eight_bytes bytes place))
+
+-- no kind that each version has has the mark
+pub kind_word : (bytes : List ℕ) (place : ℕ) → is_kind 0 (specified_in bytes place) ≡ true → num bytes place 8 ≡ word_of (key_of (av_in bytes place))
+kind_word bytes place kind =
+    unmarked_word bytes place (of_plain (λ (n : ℕ). n < 0x8000) (omega arith) (omega arith) (omega arith) (omega arith) (omega arith) (omega arith) (specified_in bytes place) kind)
+
+pub kind_unextended : (specified : ℕ) → is_kind 0 specified ≡ true → is_extended (kind_of specified) ≡ false
+kind_unextended specified kind = (plain 0 specified kind).1
 
 -- a rule is extended with the mark or without it
 pub extended_unmarked : (specified : ℕ) → is_extended (kind_of specified) ≡ is_extended specified

@@ -1,21 +1,22 @@
 -- Rules that take twelve bytes each, one behind the other.
-use Rattle.std.proofs.Common.{◌≡◌, ℕ, zero, suc, ◌+◌, ◌*◌, ◌<◌, Bool, Option, Some, true, false, List, [], length, refl, sym, ap, subst, ◌∙◌, arith}
+use Rattle.std.proofs.Common.{◌≡◌, ℕ, zero, suc, ◌+◌, ◌*◌, Bool, Option, Some, true, false, List, [], ◌∷◌, ◌++◌, map, refl, sym, ap, subst, ◌∙◌, arith}
 use Rattle.std.specs.Prelude.{◌==◌}
-use Rattle.std.specs.List.{AllByRecursion}
-use Rattle.std.proofs.lemmas.Bool.{eqb-true, eqb-false}
+use Rattle.std.specs.Bool.{then_some}
+use Rattle.std.specs.List.{AllByRecursion, IsDistinct}
+use Rattle.std.proofs.lemmas.List.{map-append}
 use Rattle.pol_fields.specs.declared.fields.TheConstants.{AVTAB_NEL}
 use Rattle.pol_cursor.specs.Outcome.{Got, Position}
 use Rattle.pol_cursor.specs.EvenPlaces.{even_places}
-use Rattle.pol_cursor.specs.Parts.{number, list_of}
+use Rattle.pol_cursor.specs.Parts.{num, number, list_of}
 use Rattle.pol_cursor.specs.References.{Placed, placed}
 use Rattle.pol_cursor.specs.Contexts.{records_after}
 use Rattle.pol_avtab.specs.declared.av_rec.AvRec.{AvRec}
 use Rattle.pol_avtab.specs.AvRecord.{is_kind, specified_in, av_at, av_in, HasAv}
 use Rattle.pol_avtab.specs.AvTables.{placed_rules_at, table_at}
 use Rattle.pol_avtab.specs.EvenRules.{even_rules, HasEven}
-use Rattle.pol_avtab.specs.InnerKeys.{rules_behind, IsRead}
-use Rattle.pol_avtab.proofs.AvReading.{plain_read, plain_end}
-use Rattle.pol_avtab.proofs.KeyWords.{kept}
+use Rattle.pol_avtab.specs.InnerKeys.{rules_behind, words_of, IsRead}
+use Rattle.pol_avtab.proofs.AvReading.{plain_read, plain_end, kind_word, kind_unextended}
+use Rattle.pol_avtab.proofs.KeyWords.{kept, words_pushed, distinct_read}
 
 -- without the first
 others : (bytes : List ℕ) (place n : ℕ) → HasEven bytes place (suc n) → HasEven bytes (place + 12) n
@@ -51,13 +52,32 @@ pub even_read : (version n : ℕ) (bytes : List ℕ) (place : ℕ) → HasEven b
 unfolding rules_behind records_after
 even_read version n bytes place has = each_read version n bytes place has
 
--- what is so of each number below one is so of one more
-pub below_more : (P : ℕ → Type 0) (n : ℕ) → ((j : ℕ) → j < n → P j) → P n → (j : ℕ) → j < n + 1 → P j
-below_more P n below at j lt = go (j == n) refl
-  where
-    go : (same : Bool) → (j == n) ≡ same → P j
-    go true e = subst P (sym (eqb-true j n e)) at
-    go false e = below j (omega (arith, lt, eqb-false j n e))
+-- ---- one rule more
+
+place_more : (step place n : ℕ) → even_places step place (suc n) ≡ even_places step place n ++ (place + n * step) ∷ []
+unfolding even_places
+place_more step place zero = let e : place ≡ place + 0 * step = omega arith in ap (λ (p : ℕ). p ∷ []) e
+place_more step place (suc n) =
+    let e : place + step + n * step ≡ place + suc n * step = omega arith in
+    ap (λ (places : List ℕ). place ∷ places) (place_more step (place + step) n ∙ ap (λ (p : ℕ). even_places step (place + step) n ++ p ∷ []) e)
+
+rules_more : (bytes : List ℕ) (place n : ℕ) → even_rules bytes place (n + 1) ≡ even_rules bytes place n ++ (record { place = place + n * 12; value = av_in bytes (place + n * 12) }) ∷ []
+rules_more bytes place n =
+    let e : n + 1 ≡ suc n = omega arith in
+    ap (even_rules bytes place) e ∙ ap (map (λ (rule : ℕ). record { place = rule; value = av_in bytes rule })) (place_more 12 place n) ∙ map-append _ (even_places 12 place n) _
+
+pub words_more : (bytes : List ℕ) (place n : ℕ) → is_kind 0 (specified_in bytes (place + n * 12)) ≡ true
+    → words_of (even_rules bytes place (n + 1)) ≡ words_of (even_rules bytes place n) ++ num bytes (place + n * 12) 8 ∷ []
+words_more bytes place n kind =
+    let rule : Placed AvRec = record { place = place + n * 12; value = av_in bytes (place + n * 12) } in
+    ap words_of (rules_more bytes place n) ∙ words_pushed false (even_rules bytes place n) rule (kind_unextended (specified_in bytes (place + n * 12)) kind)
+    ∙ ap (λ (word : ℕ). words_of (even_rules bytes place n) ++ word ∷ []) (sym (kind_word bytes (place + n * 12) kind))
+
+-- rules that are read by themselves, where no two have the same key
+pub read_if : (version n : ℕ) (old new : Position) (rules : List (Placed AvRec)) (distinct : Bool) → IsRead (rules_behind version false n) (Some rules) old new
+    → (distinct ≡ true → IsDistinct ◌==◌ (words_of rules)) → IsRead (placed_rules_at version n) (then_some distinct rules) old new
+read_if version n old new rules true read is = (distinct_read version n old.bytes old.place rules new.place (is refl) read.0, read.1)
+read_if version n old new rules false read is = tt
 
 -- a table whose rules were found behind their number
 pub table_read : (version n : ℕ) (bytes : List ℕ) (place next : ℕ) (found : Option (List (Placed AvRec))) (table : List (Placed AvRec)) (old new : Position)

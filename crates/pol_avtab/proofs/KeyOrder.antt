@@ -1,5 +1,5 @@
 -- Keys that stand in the order of tables that libsepol wrote.
-use Rattle.std.proofs.Common.{◌≡◌, ℕ, ◌<◌, false, inl, inr, min, max, List, [], ◌∷◌, ◌++◌, refl, sym, ap, subst, ◌∙◌, arith}
+use Rattle.std.proofs.Common.{◌≡◌, ℕ, ◌^◌, ◌<◌, false, inl, inr, min, max, List, [], ◌∷◌, ◌++◌, refl, sym, ap, subst, ◌∙◌, arith}
 use Rattle.std.specs.Prelude.{◌==◌, bit_and, bit_or}
 use Rattle.std.specs.Int.{bit_at}
 use Rattle.std.specs.List.{AllByRecursion, Contains, IsDistinct}
@@ -9,7 +9,7 @@ use Rattle.std.proofs.lemmas.Bool.{ne_eqb}
 use Rattle.std.proofs.lemmas.List.Elements.{Contains-append_right, Contains-append_cases}
 use Rattle.pol_bitmap.proofs.Elements.{contains_nothing, contains_one, contains_first}
 use Rattle.pol_avtab.specs.declared.key_order.LastKey.{LastKey}
-use Rattle.pol_avtab.specs.InnerKeys.{order_of, kind_bit, IsPassed, Follows, AreRising}
+use Rattle.pol_avtab.specs.InnerKeys.{slot_of, place_in_slot, order_in, order_of, last_order, kind_bit, IsPassed, Follows, AreRising}
 
 min_more : (a b c : ℕ) → min a c ≡ c → min (max a b) c ≡ c
 min_more a b c e = omega (e, arith)
@@ -21,8 +21,16 @@ mask_stays kinds more mask held =
     let was : min (bit_at kinds i) (bit_at mask i) ≡ bit_at mask i = sym (bit_at_and kinds mask i) ∙ ap (λ (n : ℕ). bit_at n i) held in
     bit_at_and (bit_or kinds more) mask i ∙ ap (λ (n : ℕ). min n (bit_at mask i)) (bit_at_or kinds more i) ∙ min_more (bit_at kinds i) (bit_at more i) (bit_at mask i) was
 
+-- a place in a slot is below that of the next slot
+place_small : (word : ℕ) → place_in_slot word < 2 ^ 44
+unfolding place_in_slot
+place_small word = omega arith
+
+pub slot_behind : (slot other word last : ℕ) → other < slot → order_in other last < order_in slot word
+slot_behind slot other word last lt = omega (arith, lt, place_small last)
+
 -- a place behind that of the last one
-pub follows_behind : (last : LastKey) (word : ℕ) → last.order < order_of word → Follows last word (record { order = order_of word; kinds = kind_bit word })
+pub follows_behind : (last : LastKey) (word : ℕ) → last_order last < order_of word → Follows last word (record { slot = slot_of word; word = word; kinds = kind_bit word })
 follows_behind last word behind = record {
   new = λ passed. elim passed [
     | inl before ↦ omega (arith, before, behind)
@@ -36,8 +44,8 @@ follows_behind last word behind = record {
 }
 
 -- the same place, and a kind that is none of those there
-pub follows_beside : (last : LastKey) (word : ℕ) → order_of word ≡ last.order → (bit_and last.kinds (kind_bit word) ≡ kind_bit word → ⊥)
-    → Follows last word (record { order = last.order; kinds = bit_or last.kinds (kind_bit word) })
+pub follows_beside : (last : LastKey) (word : ℕ) → order_of word ≡ last_order last → (bit_and last.kinds (kind_bit word) ≡ kind_bit word → ⊥)
+    → Follows last word (record { slot = last.slot; word = last.word; kinds = bit_or last.kinds (kind_bit word) })
 follows_beside last word same new = record {
   new = λ passed. elim passed [
     | inl before ↦ omega (arith, before, same)

@@ -1,5 +1,5 @@
 -- How the code finds a rule that has the key of an earlier one. Nothing here is promised to a caller.
-use Rattle.std.specs.Prelude.{◌≡◌, ◌⊎◌, ◌<◌, ℕ, ◌+◌, ◌-◌, ◌*◌, ◌/◌, ◌%◌, ◌^◌, ◌≤◌, ◌==◌, Bool, true, not, Option, Some, None, List, [], ◌∷◌, map, length, slice_index, if◌then◌else◌}
+use Rattle.std.specs.Prelude.{◌≡◌, ◌⊎◌, ◌<◌, ℕ, ◌+◌, ◌-◌, ◌*◌, ◌/◌, ◌%◌, ◌^◌, ◌≤◌, ◌==◌, Bool, true, not, Option, Some, None, List, [], ◌∷◌, map, length, if◌then◌else◌}
 use Rattle.std.specs.List.{filter, Contains, IsDistinct}
 use Rattle.std.specs.Int.{rotate_left, w32}
 use Rattle.std.specs.Int.Bits.{bit_and, bit_xor}
@@ -58,14 +58,27 @@ finished hash =
     let twice = bit_xor once (once / 2 ^ 13) * 0xC2B2AE35 % 2 ^ 32 in
     bit_xor twice (twice / 2 ^ 16)
 
--- the place of a key in that order: its slot, which is one of 2 ^ 20, its source, its target and the low bits of its class
-unfoldable pub order_of : ℕ → ℕ
-order_of word =
+-- the slot of a key, which is one of 2 ^ 20
+unfoldable pub slot_of : ℕ → ℕ
+slot_of word =
     let source = word % 2 ^ 16 in
     let target = word / 2 ^ 16 % 2 ^ 16 in
     let class = word / 2 ^ 32 % 2 ^ 16 in
-    let slot = finished (hashed (hashed (hashed 0 class) target) source) % 2 ^ 20 in
-    0x1000 * (0x10000 * (0x10000 * slot + source) + target) + class % 0x1000
+    finished (hashed (hashed (hashed 0 class) target) source) % 2 ^ 20
+
+-- the place of a key in its slot: its source, its target and the low bits of its class
+unfoldable pub place_in_slot : ℕ → ℕ
+place_in_slot word = 0x1000 * (0x10000 * (word % 2 ^ 16) + word / 2 ^ 16 % 2 ^ 16) + word / 2 ^ 32 % 0x1000
+
+-- the place of a key of a slot in that order
+abbrev pub order_in : ℕ → ℕ → ℕ
+order_in slot word = 2 ^ 44 * slot + place_in_slot word
+
+abbrev pub order_of : ℕ → ℕ
+order_of word = order_in (slot_of word) word
+
+abbrev pub last_order : LastKey → ℕ
+last_order last = order_in last.slot last.word
 
 -- the kind of a word's rule, which is a bit
 abbrev pub kind_bit : ℕ → ℕ
@@ -73,7 +86,7 @@ kind_bit word = word / 2 ^ 48
 
 -- A word stands before the last one, or has its place, and a kind that is in the last one's.
 abbrev pub IsPassed : LastKey → ℕ → Type 0
-IsPassed last word = (order_of word < last.order) ⊎ ((order_of word ≡ last.order) × (bit_and last.kinds (kind_bit word) ≡ kind_bit word))
+IsPassed last word = (order_of word < last_order last) ⊎ ((order_of word ≡ last_order last) × (bit_and last.kinds (kind_bit word) ≡ kind_bit word))
 
 -- A word is none that was passed, and is passed from then on, as those are that were.
 pub record Follows (last : LastKey) (word : ℕ) (next : LastKey) : Type 0 where

@@ -54,13 +54,15 @@ fn read_even<'a>(
 ) -> Result<Option<AvTable<'a>>, AllocError>
     ensures { (version : ℕ) → IfOk result (λ found. IsRead (placed_rules_at version n) found c.old c.new) }
 {
-    let Some(table) = read_even_rules(alloc, c, n) else {
+    let Some((table, rising)) = read_even_rules(alloc, c, n) else {
         return Ok(None);
     };
-    if are_distinct(alloc, &table)? {
-        return Ok(Some(table));
-    }
-    Ok(None)
+    let distinct = if rising {
+        true
+    } else {
+        have_distinct_words(alloc, &table)?
+    };
+    Ok(distinct.then_some(table))
 }
 
 // The next n rules, where none is bad by itself and no two have the same key, but for extended ones. Else the first fault is one
@@ -79,10 +81,7 @@ fn read_distinct<'a>(
         Err(ReadError::Memory) => return Err(AllocError),
         Err(ReadError::Fault(_)) => return Ok(None),
     };
-    if are_distinct(alloc, &table)? {
-        return Ok(Some(table));
-    }
-    Ok(None)
+    Ok(are_distinct(alloc, &table)?.then_some(table))
 }
 
 // The next n rules, each read behind those before it, or, where keys are not collected, as if it were the first.
@@ -106,14 +105,21 @@ fn read_rules<'a>(
     Ok(rules)
 }
 
-// Whether no two rules have the same key, but for extended ones. Tables that libsepol wrote tell it by their order. In others equal
-// words share a bucket, so only those of the shared ones are sorted, which are few unless the policy is made for it.
+// Whether no two rules have the same key, but for extended ones. Tables that libsepol wrote tell it by their order.
 fn are_distinct(alloc: Global, table: &AvTable<'_>) -> Result<bool, AllocError>
     ensures { IfOk result (λ distinct. distinct ≡ true → IsDistinct ◌==◌ (words_of table.now)) }
 {
     if have_rising_keys(table) {
         return Ok(true);
     }
+    have_distinct_words(alloc, table)
+}
+
+// The same by their words. Equal words share a bucket, so only those of the shared ones are sorted, which are few unless the policy is
+// made for it.
+fn have_distinct_words(alloc: Global, table: &AvTable<'_>) -> Result<bool, AllocError>
+    ensures { IfOk result (λ distinct. distinct ≡ true → IsDistinct ◌==◌ (words_of table.now)) }
+{
     let marks = mark_words(alloc, table)?;
     let mut words = shared_words(alloc, table, &marks)?;
     words.sort_unstable();
@@ -125,9 +131,13 @@ fn have_rising_keys(table: &AvTable<'_>) -> bool
     ensures { result ≡ true → IsDistinct ◌==◌ (words_of table.now) }
 {
     let hashes = ClassHashes::new();
-    let mut last = LastKey { order: 0, kinds: 0 };
+    let mut last = LastKey::first();
     for i in 0..table.len() {
-        if !last.follow(&hashes, word_at(table, i)) {
+        let follows = match word_at(table, i) {
+            Some(word) => last.follow(&hashes, word),
+            None => true,
+        };
+        if !follows {
             return false;
         }
     }

@@ -1,39 +1,55 @@
 //! Rules that take twelve bytes each, one behind the other, and so are found by their numbers alone.
 
-ghost use Rattle.std.specs.Prelude.{◌≡◌, ◌<◌, ◌≤◌, ◌+◌, ◌*◌, ℕ, true, false, length};
-ghost use Rattle.pol_avtab.specs.AvRecord.{is_kind, specified_in};
-ghost use Rattle.pol_avtab.specs.InnerKeys.{rules_behind, IsRead};
+ghost use Rattle.std.specs.Prelude.{◌≡◌, ◌<◌, ◌≤◌, ◌+◌, ◌*◌, ◌==◌, ℕ, Bool, Some, true, false, length, option_map};
+ghost use Rattle.std.specs.List.{IsDistinct};
+ghost use Rattle.pol_avtab.specs.EvenRules.{even_rules, HasEven};
+ghost use Rattle.pol_avtab.specs.InnerKeys.{rules_behind, words_of, IsRead};
 
 use crate::av_table::AvTable;
 use crate::av_view::is_plain_kind;
-use pol_cursor::{Cursor, Records, u16_in};
+use crate::key_order::{ClassHashes, LastKey};
+use pol_cursor::{Cursor, Records, u16_in, u64_in};
 use std::alloc::Global;
 
-/// The next n rules, where all are of kinds that each version has, each as if it were the first. Takes no memory.
+/// The next n rules, where all are of kinds that each version has, each as if it were the first, and whether they stand in the order
+/// of tables that libsepol wrote, so that no two have the same key. Takes no memory.
 #[tactic(auto, using(crate::proofs::EvenRules::even_stand, crate::proofs::EvenRules::even_read))]
-pub(crate) fn read_even_rules<'a>(alloc: Global, c: &mut Cursor<'a>, n: u32) -> Option<AvTable<'a>>
-    ensures { (version : ℕ) → IsRead (rules_behind version false n) result c.old c.new }
+pub(crate) fn read_even_rules<'a>(
+    alloc: Global,
+    c: &mut Cursor<'a>,
+    n: u32,
+) -> Option<(AvTable<'a>, bool)>
+    ensures read { (version : ℕ) → IsRead (rules_behind version false n) (option_map (λ found. found.0) result) c.old c.new }
+    ensures rising { (table : _) → result ≡ Some (table, true) → IsDistinct ◌==◌ (words_of table) }
 {
     let bytes = c.bytes();
     let place = c.place();
     let end = u64::from(place) + u64::from(n) * 12;
-    if end > bytes.len() as u64 || !are_plain(bytes, place, n) {
+    if end > bytes.len() as u64 {
         return None;
     }
+    let rising = look_over(bytes, place, n)?;
     *c = Cursor::at(bytes, end as u32);
-    Some(Records::even(alloc, bytes, place, 12, n))
+    Some((Records::even(alloc, bytes, place, 12, n), rising))
 }
 
-// Whether so many rules that are there are of kinds that each version has.
-fn are_plain(bytes: &[u8], place: u32, n: u32) -> bool
+// Looks once at so many rules that are there: whether all are of kinds that each version has, and, if so, whether their keys stand in
+// the order of tables that libsepol wrote.
+fn look_over(bytes: &[u8], place: u32, n: u32) -> Option<bool>
     requires long { place + n * 12 ≤ length bytes.now }
     requires small { length bytes.now ≤ 67108864 }
-    ensures { result ≡ true → (i : ℕ) → i < n → is_kind 0 (specified_in bytes.now (place + i * 12)) ≡ true }
+    ensures plain { (rising : Bool) → result ≡ Some rising → HasEven bytes.now place n }
+    ensures rising { result ≡ Some true → IsDistinct ◌==◌ (words_of (even_rules bytes.now place n)) }
 {
+    let hashes = ClassHashes::new();
+    let mut last = LastKey::first();
+    let mut rising = true;
     for i in 0..n {
-        if !is_plain_kind(u16_in(bytes, (place + i * 12) as usize + 6)) {
-            return false;
+        let rule = (place + i * 12) as usize;
+        if !is_plain_kind(u16_in(bytes, rule + 6)) {
+            return None;
         }
+        rising = rising && last.follow(&hashes, u64_in(bytes, rule));
     }
-    true
+    Some(rising)
 }

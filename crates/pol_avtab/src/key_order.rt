@@ -1,6 +1,5 @@
-ghost use Rattle.std.specs.Prelude.{◌≡◌, ◌<◌, ◌++◌, ℕ, List, true, slice_index};
-ghost use Rattle.std.specs.Option.{option_to_list};
-ghost use Rattle.pol_avtab.specs.InnerKeys.{hashed, finished, order_of, Follows, AreRising};
+ghost use Rattle.std.specs.Prelude.{◌≡◌, ◌<◌, ◌++◌, ◌∷◌, [], ℕ, List, true, slice_index};
+ghost use Rattle.pol_avtab.specs.InnerKeys.{hashed, finished, slot_of, place_in_slot, AreRising, Follows};
 
 // libsepol's MAX_AVTAB_HASH_BUCKETS.
 const SLOTS: u32 = 0x10_0000;
@@ -38,40 +37,56 @@ impl ClassHashes {
     }
 }
 
-/// The last key of a table that libsepol wrote (`avtab_write`), by its place in the order of such tables: that of the slots of its
-/// hash, and in each that of sources, targets and classes. With it the kinds of the rules that have its ends and class, as bits.
+/// The last key, as a word, of a table that libsepol wrote (`avtab_write`): slot by slot of its hash, and in each by sources, targets
+/// and classes. With it its slot, and the kinds of the rules that have its ends and class, as bits.
 #[derive(Drop)]
 pub struct LastKey {
-    pub order: u64,
+    pub slot: u32,
+    pub word: u64,
     pub kinds: u64,
 }
 
 impl LastKey {
-    /// Whether the key of one more rule, which has none where it is extended, stands behind the last one and is none of those
-    /// before. It is the last one from then on.
-    #[inline(always)]
-    pub fn follow(&mut self, hashes: &ClassHashes, word: Option<u64>) -> bool
-        ensures { result ≡ true → (words : List ℕ) → AreRising self.old words → AreRising self.new (words ++ option_to_list word) }
+    /// One that no key stands before.
+    pub fn first() -> LastKey
+        ensures { AreRising result [] }
     {
-        match word {
-            None => true,
-            Some(word) => self.follow_word(hashes, word),
+        LastKey {
+            slot: 0,
+            word: 0,
+            kinds: 0,
         }
     }
 
-    // The same of a key.
+    /// Whether the key of one more rule stands behind the last one and is none of those before. It is the last one from then on.
     #[inline(always)]
-    fn follow_word(&mut self, hashes: &ClassHashes, word: u64) -> bool
+    pub fn follow(&mut self, hashes: &ClassHashes, word: u64) -> bool
         ensures { result ≡ true → Follows self.old word self.new }
     {
-        let order = order_of(hashes, word);
+        let slot = slot_of(hashes, word);
+        if slot > self.slot {
+            self.slot = slot;
+            self.word = word;
+            self.kinds = word >> 48;
+            return true;
+        }
+        slot == self.slot && self.follow_in_slot(word)
+    }
+
+    // The same of a key that has the slot of the last one.
+    fn follow_in_slot(&mut self, word: u64) -> bool
+        requires { slot_of word ≡ self.old.slot }
+        ensures { result ≡ true → Follows self.old word self.new }
+    {
+        let place = place_in_slot(word);
+        let last = place_in_slot(self.word);
         let kind = word >> 48;
-        if order > self.order {
-            self.order = order;
+        if place > last {
+            self.word = word;
             self.kinds = kind;
             return true;
         }
-        if order < self.order || self.kinds & kind == kind {
+        if place < last || self.kinds & kind == kind {
             return false;
         }
         self.kinds |= kind;
@@ -79,19 +94,28 @@ impl LastKey {
     }
 }
 
-// The place of a key in the order: its slot, its source, its target and the low bits of its class.
+// The slot of a key in libsepol's table, one of the most that it has.
 #[inline(always)]
-#[tactic(auto, unfolding(crate::specs::InnerKeys::order_of))]
-fn order_of(hashes: &ClassHashes, word: u64) -> u64
-    ensures { result ≡ order_of word }
+#[tactic(auto, unfolding(crate::specs::InnerKeys::slot_of))]
+fn slot_of(hashes: &ClassHashes, word: u64) -> u32
+    ensures { result ≡ slot_of word }
 {
     let source = (word % 0x1_0000) as u32;
     let target = (word / 0x1_0000 % 0x1_0000) as u32;
     let class = (word / 0x1_0000_0000 % 0x1_0000) as u32;
     let hash = hashed(hashed(hashes.of(class), target), source);
-    let slot = finished(hash) % SLOTS;
-    let start = 0x1_0000 * slot as u64 + source as u64;
-    0x1000 * (0x1_0000 * start + target as u64) + (class % 0x1000) as u64
+    finished(hash) % SLOTS
+}
+
+// The place of a key in its slot: its source, its target and the low bits of its class.
+#[tactic(auto, unfolding(crate::specs::InnerKeys::place_in_slot))]
+fn place_in_slot(word: u64) -> u64
+    ensures { result ≡ place_in_slot word }
+{
+    let source = word % 0x1_0000;
+    let target = word / 0x1_0000 % 0x1_0000;
+    let class = word / 0x1_0000_0000 % 0x1000;
+    0x1000 * (0x1_0000 * source + target) + class
 }
 
 // libsepol's hash with one more number (the macro `mix` of `avtab_hash`).

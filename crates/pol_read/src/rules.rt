@@ -6,7 +6,7 @@ ghost use Rattle.pol_rules.specs.DeclaredRules.{IsDeclaredRule, AreDeclaredEnds}
 
 use crate::policy::Policy;
 use crate::rules_from::Rules;
-use pol_rules::{Rule, RuleEnds, RuleKind, RuleRecord, ends_at, kind_at, record_of, rule_at};
+use pol_rules::{Rule, RuleEnds, RuleRecord, ends_at, record_of, rule_at};
 
 impl<'a> Policy<'a> {
     /// How many stored rules there are, at most 400,000,000.
@@ -41,15 +41,6 @@ impl<'a> Policy<'a> {
         ensures declared { AreDeclaredEnds self.now result }
     {
         ends_at(&self.parts, &self.index, n)
-    }
-
-    /// The kind of the stored rule of that number. It is found in the same way, and nothing else of the rule is read.
-    #[inline(always)]
-    pub fn rule_kind(&self, n: u32) -> RuleKind
-        requires { n < length (stored_rules self.now) }
-        ensures { option_map (λ rule. rule.kind) (slice_get (stored_rules self.now) n) ≡ Some result }
-    {
-        kind_at(&self.parts, &self.index, n)
     }
 
     /// What the stored rule of that number is read from. It is found in the same way, and nothing of it is read.

@@ -18,4 +18,4 @@ pub use rule::{Condition, Rule, RuleEnds, RuleKind, RulePart};
 pub use rule_index::{RuleIndex, index_rules};
 pub use rule_order::{RuleKey, rule_key};
 pub use rule_record::RuleRecord;
-pub use rules::{ends_at, kind_at, record_of, rule_at};
+pub use rules::{ends_at, record_of, rule_at};

@@ -148,7 +148,7 @@ pub fn vector_rule<'a>(view: &AvView<'a>, condition: Option<Condition>) -> Rule<
 
 /// The kind of the rule that an access vector is.
 #[inline(always)]
-pub fn vector_kind(view: &AvView<'_>) -> RuleKind
+fn vector_kind(view: &AvView<'_>) -> RuleKind
     ensures { result ≡ rule_kind (kind_of view.now.value.specified) }
 {
     rule_kind(view.key().specified)

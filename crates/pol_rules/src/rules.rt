@@ -7,9 +7,9 @@ ghost use Rattle.pol_rules.specs.RuleNumbers.{node_lengths, rules_of_bits, IsNam
 
 use crate::declared_value::value_at;
 use crate::name_index::{NameIndex, node_at};
-use crate::rule::{Condition, Rule, RuleEnds, RuleKind};
+use crate::rule::{Condition, Rule, RuleEnds};
 use crate::rule_index::RuleIndex;
-use crate::rule_record::{RuleRecord, vector_ends, vector_kind, vector_rule};
+use crate::rule_record::{RuleRecord, vector_ends, vector_rule};
 use crate::sums::Sums;
 use pol_avtab::{AvTable, AvView};
 use pol_bitmap::Node;
@@ -61,20 +61,6 @@ pub fn ends_at(parts: &Parts<'_>, index: &RuleIndex, n: u32) -> RuleEnds
         vector_ends(vector_at(parts, n).key())
     } else {
         record_at(parts, index, n).ends()
-    }
-}
-
-/// The kind of that rule. It is found in the same way, and nothing else of the rule is read.
-#[inline(always)]
-pub fn kind_at(parts: &Parts<'_>, index: &RuleIndex, n: u32) -> RuleKind
-    requires index { IsIndexOf parts.now index.now }
-    requires rule { n < length (stored_rules parts.now) }
-    ensures { option_map (λ rule. rule.kind) (slice_get (stored_rules parts.now) n) ≡ Some result }
-{
-    if n < parts.rules.table.len() {
-        vector_kind(&vector_at(parts, n))
-    } else {
-        record_at(parts, index, n).kind()
     }
 }
 

@@ -1,8 +1,14 @@
-use Rattle.pol_avtab.proofs.KeyOrder.{rising_none}
+use Rattle.std.proofs.Common.{◌∙◌, sym}
+use Rattle.std.proofs.lemmas.List.{append-nil}
+use Rattle.pol_avtab.proofs.KeyOrder.{rising_more}
 use Rattle.pol_avtab.proofs.av_table.have_rising_keys.Goals as goal
+use Rattle.pol_avtab.proofs.av_table.have_rising_keys.Goals.{in-Some, in-None}
 
 pub loop-i-init : goal.loop-i-init
-loop-i-init c = rising_none _
+loop-i-init c = c.first-last.ensures
 
 pub loop-i-preserved : goal.loop-i-preserved
-loop-i-preserved c = rw c.word_at.ensures (c.follow.ensures c.if-not-follow.false _ c.loop-i.invariant)
+loop-i-preserved c = elim c.match-word_at.branch [
+  | in-Some w ↦ rw (w.last-is, c.word_at.ensures, w.in-Some.is) (rising_more _ _ _ _ c.loop-i.invariant (w.follow-follows.ensures (sym w.follows-is ∙ c.if-not-follows.false)))
+  | in-None w ↦ rw (w.last-is, c.word_at.ensures, w.in-None.is, append-nil) c.loop-i.invariant
+]

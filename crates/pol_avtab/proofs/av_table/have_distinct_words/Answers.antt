@@ -3,7 +3,7 @@ use Rattle.std.proofs.lemmas.Fn.{always_returns_same}
 use Rattle.pol_avtab.specs.InnerKeys.{words_of, is_shared}
 use Rattle.pol_avtab.proofs.KeyWords.{distinct_of_rising}
 use Rattle.pol_avtab.proofs.SharedWords.{distinct_of_tested}
-use Rattle.pol_avtab.proofs.av_table.are_distinct.Goals as goal
+use Rattle.pol_avtab.proofs.av_table.have_distinct_words.Goals as goal
 
 pub returns : goal.returns
 returns c = λ yes.
