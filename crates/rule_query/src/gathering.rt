@@ -1,9 +1,10 @@
 // The rules that meet a query, gathered section by section, where they stand.
-ghost use Rattle.std.specs.Prelude.{◌≡◌, ◌+◌, ◌<◌, [], Some, IfOk, OnOk, length, option_map, slice_get};
+ghost use Rattle.std.specs.Prelude.{◌≡◌, ◌+◌, ◌<◌, ◌≤◌, [], Some, IfOk, OnOk, length, option_map, slice_get};
 ghost use Rattle.pol_rules.specs.RuleRecords.{rule_of};
 ghost use Rattle.pol_rules.specs.StoredRules.{ends_of, rules_of_branch, rules_of_node, stored_rules};
-ghost use Rattle.rule_query.specs.Gathering.{HasMet, StandFrom};
+ghost use Rattle.rule_query.specs.Gathering.{AreMarked, HasMet, StandFrom};
 
+use crate::asked_vectors::AskedVectors;
 use crate::kinds::is_kind_asked;
 use crate::numbered_rule::NumberedRule;
 use crate::query::Query;
@@ -31,17 +32,63 @@ impl Query {
         Ok(())
     }
 
-    // Adds those of the table of access vectors.
+    // Adds those of the table of access vectors, 128 rules at a time.
     fn add_of_table(&self, policy: &Policy<'_>, found: &mut RuleKeys<'_>) -> Result<(), AllocError>
         requires { HasMet policy.now self.now 0 found.old }
         ensures { OnOk result (HasMet policy.now self.now (length policy.now.rules.table) found.new) }
     {
-        let table = policy.table();
-        for number in 0..table.len() {
-            let record = RuleRecord::Vector(table.view(number), None);
-            self.add_record(policy, number, &record, found)?;
+        let asked = AskedVectors::of(&self.kinds);
+        let count = policy.table().len();
+        let mut from = 0;
+        while from < count {
+            let to = from + (count - from).min(128);
+            self.add_block(policy, &asked, from, to, found)?;
+            from = to;
         }
         Ok(())
+    }
+
+    // Adds those from one number up to another. The numbers of those that may be asked are put together first, and only these rules are
+    // looked at one by one.
+    fn add_block(
+        &self,
+        policy: &Policy<'_>,
+        asked: &AskedVectors,
+        from: u32,
+        to: u32,
+        found: &mut RuleKeys<'_>,
+    ) -> Result<(), AllocError>
+        requires rising { from ≤ to }
+        requires within { to ≤ length policy.now.rules.table }
+        requires few { to ≤ from + 128 }
+        requires asked { AreMarked self.now.kinds asked.now.marks }
+        requires found { HasMet policy.now self.now from found.old }
+        ensures { OnOk result (HasMet policy.now self.now to found.new) }
+    {
+        // the policy was accepted, and so what its rules name is declared
+        let _ = policy.bytes();
+        let mut numbers = [0; 128];
+        let count = asked.gather(policy, from, to, &mut numbers);
+        for number in &numbers[..count] {
+            self.add_vector(policy, *number, found)?;
+        }
+        Ok(())
+    }
+
+    // Adds the rule of that number, which stands in the table, if it meets the criteria.
+    #[inline(always)]
+    fn add_vector(
+        &self,
+        policy: &Policy<'_>,
+        number: u32,
+        found: &mut RuleKeys<'_>,
+    ) -> Result<(), AllocError>
+        requires within { number < length policy.now.rules.table }
+        requires found { HasMet policy.now self.now number found.old }
+        ensures { OnOk result (HasMet policy.now self.now (number + 1) found.new) }
+    {
+        let record = RuleRecord::Vector(policy.table().view(number), None);
+        self.add_record(policy, number, &record, found)
     }
 
     // Adds those under conditions, node by node, and tells the number of the rule behind them.

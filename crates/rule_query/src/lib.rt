@@ -4,6 +4,7 @@
 //! that a rule is compared by look-ups of numbers alone ([`Query`]).
 #![tactic(auto)]
 
+mod asked_vectors;
 mod ends;
 mod gathering;
 mod given;

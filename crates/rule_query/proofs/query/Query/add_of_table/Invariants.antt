@@ -1,5 +1,9 @@
+use Rattle.std.proofs.Common.{◌-◌, ◌≤◌, length}
 use Rattle.rule_query.specs.Gathering.{HasMet}
 use Rattle.rule_query.proofs.query.Query.add_of_table.Given as goal
 
-abbrev pub invariant-loop-number : goal.invariant-loop-number
-invariant-loop-number l = HasMet l.policy l.self l.number l.found
+abbrev pub invariant-loop-from : goal.invariant-loop-from
+invariant-loop-from l = (l.from ≤ length l.policy.rules.table) × HasMet l.policy l.self l.from l.found
+
+abbrev pub decreases-loop-from : goal.decreases-loop-from
+decreases-loop-from l = length l.policy.rules.table - l.from

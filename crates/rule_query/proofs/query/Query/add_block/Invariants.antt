@@ -1,0 +1,6 @@
+use Rattle.std.proofs.Common.{drop}
+use Rattle.rule_query.proofs.GatheredNumbers.{AreLeft}
+use Rattle.rule_query.proofs.query.Query.add_block.Given as goal
+
+abbrev pub invariant-loop-number : goal.invariant-loop-number
+invariant-loop-number l = AreLeft l.policy l.self l.found (drop l.number-index l.number-items) l.to
