@@ -1,51 +1,51 @@
--- The next of the rules that were found is that of the first of the numbers that are left.
-use Rattle.std.proofs.Common.{◌≡◌, ℕ, zero, suc, ◌+◌, ◌<◌, List, [], ◌∷◌, ◌++◌, Some, length, take, drop, get_or, slice_get, option_map, sym, ap, subst, ◌∙◌}
-use Rattle.std.proofs.lemmas.List.{map_push, take_more}
-use Rattle.std.proofs.lemmas.List.Elements.{All-push}
-use Rattle.std.proofs.lemmas.Option.{slice_get-map, slice_get_within, get_or_from_slice_get}
+-- The kinds of rules that are read before their lines are made.
+use Rattle.std.proofs.Common.{◌≡◌, ℕ, zero, suc, ◌+◌, ◌<◌, ◌≤◌, List, [], ◌∷◌, ◌++◌, Option, Some, length, map, take, drop, get_or, slice_get, option_map, refl, sym, ap, subst, ◌∙◌, arith, length-take}
+use Rattle.std.proofs.lemmas.List.{length-map, map_push, take_more}
+use Rattle.std.proofs.lemmas.Option.{slice_get-map, slice_get_within}
 use Rattle.pol_file.specs.declared.Parts.{Parts}
-use Rattle.pol_rules.specs.DeclaredRules.{IsDeclaredRule}
-use Rattle.pol_rules.specs.RuleRecords.{rule_of}
-use Rattle.pol_rules.specs.StoredRules.{stored_rules}
 use Rattle.pol_rules.specs.declared.rule.RuleKind.{RuleKind}
-use Rattle.pol_rules.specs.declared.rule_record.RuleRecord.{RuleRecord}
-use Rattle.rule_listing.specs.declared.found_rule.FoundRule.{FoundRule}
 use Rattle.rule_listing.specs.declared.listed_rule.ListedRule.{ListedRule}
-use Rattle.rule_listing.specs.ReadRules.{AreAhead, AreFound, IsFound, IsOfFirst, IsRuleOf, IsStored}
+use Rattle.rule_listing.specs.ReadRules.{AreAhead, IsOfFirst, IsRuleOf, kind_at}
 
--- one of the first of some numbers is the first of those from it on
-first_of_rest : (count : ℕ) (numbers : List ℕ) (next number : ℕ) → slice_get (take count numbers) next ≡ Some number → drop next numbers ≡ number ∷ drop (suc next) numbers
-first_of_rest zero numbers next number e = absurd (cc e)
-first_of_rest (suc count) [] next number e = absurd (cc e)
-first_of_rest (suc count) (n ∷ ns) zero number e = cc e
-first_of_rest (suc count) (n ∷ ns) (suc next) number e = first_of_rest count ns next number e
+get_take : (count i : ℕ) (numbers : List ℕ) → i < count → slice_get (take count numbers) i ≡ slice_get numbers i
+get_take zero i numbers lt = absurd (omega (arith, lt))
+get_take (suc count) i [] lt = refl
+get_take (suc count) zero (n ∷ ns) lt = refl
+get_take (suc count) (suc i) (n ∷ ns) lt = get_take count i ns (omega (arith, lt))
 
--- the number, the kind and the record of a rule that was found
-pub next_found : (policy : Parts) (numbers : List ℕ) (rules : List FoundRule) (kinds : List RuleKind) (next : ℕ) (rule : FoundRule) (listed : ListedRule)
-    → AreAhead policy numbers rules kinds → slice_get rules next ≡ Some rule
-    → listed.number ≡ rule.number → listed.kind ≡ get_or kinds next listed.kind → listed.record.now ≡ rule.record
-    → IsOfFirst policy (drop next numbers) listed
-next_found policy numbers rules kinds next rule listed ahead there number kind from =
-    let number_of = λ (it : FoundRule). it.number in
-    let kind_of = λ (it : FoundRule). (rule_of it.record).kind in
-    let at : get_or rules next rule ≡ rule = get_or_from_slice_get rules next rule rule there in
-    let found : IsFound policy rule = subst (IsFound policy) at (ahead.found.each next rule (slice_get_within rules next rule there)) in
-    let numbered : slice_get (take (length rules) numbers) next ≡ Some rule.number = ap (λ (ns : List ℕ). slice_get ns next) (sym ahead.found.are) ∙ slice_get-map number_of rules next ∙ ap (option_map number_of) there in
-    let read : slice_get kinds next ≡ Some (kind_of rule) = ap (λ (ks : List RuleKind). slice_get ks next) ahead.read ∙ slice_get-map kind_of rules next ∙ ap (option_map kind_of) there in
-    let stored : IsStored policy listed = record {
-      there = ap (slice_get (stored_rules policy)) number ∙ found.there ∙ ap (λ (it : RuleRecord). Some (rule_of it)) (sym from);
-      kind = kind ∙ get_or_from_slice_get kinds next (kind_of rule) listed.kind read ∙ ap (λ (it : RuleRecord). (rule_of it).kind) (sym from);
-      declared = subst (λ (it : RuleRecord). IsDeclaredRule policy (rule_of it)) (sym from) found.declared;
-    } in
-    let is : IsRuleOf policy rule.number listed = record { number = number; stored = stored } in
-    subst (λ (ns : List ℕ). IsOfFirst policy ns listed) (sym (first_of_rest (length rules) numbers next rule.number numbered)) is
+pub at_within : (numbers : List ℕ) (i : ℕ) → i < length numbers → slice_get numbers i ≡ Some (get_or numbers i 0)
+at_within [] i lt = absurd (omega (arith, lt))
+at_within (n ∷ ns) zero lt = refl
+at_within (n ∷ ns) (suc i) lt = at_within ns i (omega (arith, lt))
 
--- one more rule was found
-pub found_more : (policy : Parts) (numbers : List ℕ) (i : ℕ) (rules : List FoundRule) (rule : FoundRule) → i < length numbers → AreFound policy (take i numbers) rules → IsFound policy rule → rule.number ≡ get_or numbers i 0
-    → AreFound policy (take (i + 1) numbers) (rules ++ rule ∷ [])
-found_more policy numbers i rules rule lt found is number =
-    let number_of = λ (it : FoundRule). it.number in
-    record {
-      each = All-push (IsFound policy) rules rule found.each is;
-      are = map_push number_of rules rule ∙ ap (λ (ns : List ℕ). ns ++ rule.number ∷ []) found.are ∙ ap (λ (n : ℕ). take i numbers ++ n ∷ []) number ∙ sym (take_more numbers i 0 lt);
-    }
+-- there are as many numbers
+pub ahead_within : (policy : Parts) (numbers : List ℕ) (kinds : List RuleKind) → AreAhead policy numbers kinds → length kinds ≤ length numbers
+ahead_within policy numbers kinds ahead =
+    let same : length kinds ≡ length (take (length kinds) numbers) = sym (length-map kinds Some) ∙ ap length ahead ∙ length-map (take (length kinds) numbers) (kind_at policy) in
+    omega (arith, same, length-take (length kinds) numbers)
+
+-- a kind that was read is that of the rule of the number at its place
+pub kind_ahead : (policy : Parts) (numbers : List ℕ) (kinds : List RuleKind) (i number : ℕ) (kind : RuleKind) → AreAhead policy numbers kinds → slice_get kinds i ≡ Some kind → slice_get numbers i ≡ Some number → kind_at policy number ≡ Some kind
+kind_ahead policy numbers kinds i number kind ahead there at =
+    let read : slice_get (map Some kinds) i ≡ Some (Some kind) = slice_get-map Some kinds i ∙ ap (option_map Some) there in
+    let stored : slice_get (map (kind_at policy) (take (length kinds) numbers)) i ≡ Some (kind_at policy number) =
+    slice_get-map (kind_at policy) (take (length kinds) numbers) i ∙ ap (option_map (kind_at policy)) (get_take (length kinds) i numbers (slice_get_within kinds i kind there) ∙ at) in
+    cc (stored, read, ahead)
+
+-- the next rule is that of the first of the numbers that are left
+pub next_ahead : (policy : Parts) (numbers : List ℕ) (kinds : List RuleKind) (i : ℕ) (rule : ListedRule) → AreAhead policy numbers kinds → slice_get kinds i ≡ Some rule.kind → slice_get numbers i ≡ Some rule.number → IsOfFirst policy (drop i numbers) rule
+next_ahead policy numbers kinds i rule ahead there at =
+    let is : IsRuleOf policy rule.number rule = record { number = refl; stored = kind_ahead policy numbers kinds i rule.number rule.kind ahead there at } in
+    subst (λ (ns : List ℕ). IsOfFirst policy ns rule) (sym (first_left numbers i rule.number at)) is
+  where
+    first_left : (ns : List ℕ) (j n : ℕ) → slice_get ns j ≡ Some n → drop j ns ≡ n ∷ drop (suc j) ns
+    first_left [] j n e = absurd (cc e)
+    first_left (x ∷ xs) zero n e = cc e
+    first_left (x ∷ xs) (suc j) n e = first_left xs j n e
+
+-- the kind of one more rule was read
+pub read_more : (policy : Parts) (numbers : List ℕ) (i : ℕ) (kinds : List RuleKind) (kind : RuleKind) → i < length numbers → map Some kinds ≡ map (kind_at policy) (take i numbers) → kind_at policy (get_or numbers i 0) ≡ Some kind
+    → map Some (kinds ++ kind ∷ []) ≡ map (kind_at policy) (take (i + 1) numbers)
+read_more policy numbers i kinds kind lt read is =
+    map_push Some kinds kind ∙ ap (λ (ks : List (Option RuleKind)). ks ++ Some kind ∷ []) read ∙ ap (λ (k : Option RuleKind). map (kind_at policy) (take i numbers) ++ k ∷ []) (sym is)
+    ∙ sym (ap (map (kind_at policy)) (take_more numbers i 0 lt) ∙ map_push (kind_at policy) (take i numbers) (get_or numbers i 0))

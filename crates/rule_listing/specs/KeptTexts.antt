@@ -27,7 +27,7 @@ abbrev pub IsKept : Parts → Option KeptText → Type 0
 IsKept policy None = ⊤
 IsKept policy (Some kept) = kept.text.items ≡ text_of policy kept.key
 
--- so in each of 4,096 slots
+-- so in each of 2,048 slots
 pub record AreKept (policy : Parts) (slots : List (Option KeptText)) : Type 0 where
-  pub count : length slots ≡ 4096
+  pub count : length slots ≡ 2048
   pub each : All (IsKept policy) slots

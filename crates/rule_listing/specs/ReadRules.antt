@@ -1,12 +1,9 @@
 -- Rules that are looked at before their texts are made.
-use Rattle.std.specs.Prelude.{◌≡◌, ◌<◌, ℕ, Bool, true, false, List, [], ◌∷◌, Some, length, map, slice_get, take}
+use Rattle.std.specs.Prelude.{◌≡◌, ◌<◌, ℕ, Bool, true, false, List, [], ◌∷◌, Option, Some, length, map, option_map, slice_get, take}
 use Rattle.std.specs.List.{All}
 use Rattle.pol_file.specs.declared.Parts.{Parts}
-use Rattle.pol_rules.specs.DeclaredRules.{IsDeclaredRule}
-use Rattle.pol_rules.specs.RuleRecords.{rule_of}
 use Rattle.pol_rules.specs.StoredRules.{stored_rules}
 use Rattle.pol_rules.specs.declared.rule.RuleKind.{RuleKind}
-use Rattle.rule_listing.specs.declared.found_rule.FoundRule.{FoundRule}
 use Rattle.rule_listing.specs.declared.listed_rule.ListedRule.{ListedRule}
 
 -- the rules of a policy that are left: their numbers, and of how many of the first of them the kinds were read
@@ -19,11 +16,13 @@ pub record RulesLeft : Type 0 where
 abbrev pub none_read : Parts → List ℕ → RulesLeft
 none_read policy numbers = record { policy = policy; numbers = numbers; read = 0 }
 
--- The stored rule of that number is the one of that record, whose kind it has, and what it names is declared.
-pub record IsStored (policy : Parts) (rule : ListedRule) : Type 0 where
-  pub there : slice_get (stored_rules policy) rule.number ≡ Some (rule_of rule.record.now)
-  pub kind : rule.kind ≡ (rule_of rule.record.now).kind
-  pub declared : IsDeclaredRule policy (rule_of rule.record.now)
+-- the kind of the stored rule of a number
+abbrev pub kind_at : Parts → ℕ → Option RuleKind
+kind_at policy number = option_map (λ rule. rule.kind) (slice_get (stored_rules policy) number)
+
+-- A stored rule of that number has the kind.
+abbrev pub IsStored : Parts → ListedRule → Type 0
+IsStored policy rule = kind_at policy rule.number ≡ Some rule.kind
 
 -- It is the stored rule of a number.
 pub record IsRuleOf (policy : Parts) (n : ℕ) (rule : ListedRule) : Type 0 where
@@ -46,21 +45,6 @@ PassesNumber old new false = (old ≡ []) × (new ≡ [])
 abbrev pub AreNumbers : Parts → List ℕ → Type 0
 AreNumbers policy numbers = All (λ number. number < length (stored_rules policy)) numbers
 
--- A rule that was found is the stored one of its number, and what it names is declared.
-pub record IsFound (policy : Parts) (rule : FoundRule) : Type 0 where
-  pub there : slice_get (stored_rules policy) rule.number ≡ Some (rule_of rule.record)
-  pub declared : IsDeclaredRule policy (rule_of rule.record)
-
--- rules that were found are those of some numbers
-pub record AreFound (policy : Parts) (numbers : List ℕ) (rules : List FoundRule) : Type 0 where
-  pub each : All (IsFound policy) rules
-  pub are : map (λ (rule : FoundRule). rule.number) rules ≡ numbers
-
--- the kinds of rules that were found
-abbrev pub kinds_of : List FoundRule → List RuleKind
-kinds_of rules = map (λ (rule : FoundRule). (rule_of rule.record).kind) rules
-
--- Rules that were found are those of the first of some numbers, and their kinds were read.
-pub record AreAhead (policy : Parts) (numbers : List ℕ) (rules : List FoundRule) (kinds : List RuleKind) : Type 0 where
-  pub found : AreFound policy (take (length rules) numbers) rules
-  pub read : kinds ≡ kinds_of rules
+-- The kinds are those of the rules of the first of some numbers.
+abbrev pub AreAhead : Parts → List ℕ → List RuleKind → Type 0
+AreAhead policy numbers kinds = map Some kinds ≡ map (kind_at policy) (take (length kinds) numbers)

@@ -14,7 +14,7 @@ use std::alloc::{AllocError, Global};
 use std::marker::Model;
 
 // How many texts are kept at most.
-const SLOTS: usize = 4096;
+const SLOTS: usize = 2048;
 
 // How long a text may be that is kept.
 const LONGEST: usize = 4096;
@@ -54,7 +54,7 @@ impl TextKey {
 
     // The slot of its text. Any would do: this one spreads those that come together.
     fn slot(self) -> usize
-        ensures { result < 4096 }
+        ensures { result < 2048 }
     {
         let (group, number) = match self {
             TextKey::Perms { class, mask, .. } => (class, mask),
@@ -178,7 +178,7 @@ impl<'p, 'a> KeptTexts<'p, 'a> {
 fn empty_slots(alloc: Global) -> Result<Vec<Option<KeptText>>, AllocError>
     ensures { (policy : Parts) → IfOk result (λ slots. AreKept policy slots.items) }
 {
-    let mut slots = Vec::new(alloc);
+    let mut slots = Vec::with_capacity(alloc, SLOTS)?;
     'slots: for _number in 0..SLOTS {
         slots.push(None)?;
     }

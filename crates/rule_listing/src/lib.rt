@@ -1,7 +1,6 @@
 //! The lines of stored rules where many are listed, one after the other: what they have in common is made once.
 #![tactic(auto)]
 
-mod found_rule;
 mod kept_head;
 mod kept_texts;
 mod listed_rule;

@@ -1,14 +1,12 @@
 //! Rules whose lines are to be made.
 
-use pol_read::{RuleKind, RuleRecord};
+use pol_read::RuleKind;
 
-/// A stored rule that is to be listed: its number, its kind, and what it is read from.
-#[derive(Drop)]
-pub struct ListedRule<'r, 'a> {
+/// A stored rule that is to be listed.
+#[derive(Clone, Copy)]
+pub struct ListedRule {
     /// Its number, from 0 on.
     pub number: u32,
     /// Its kind.
     pub kind: RuleKind,
-    /// What it is read from.
-    pub record: &'r RuleRecord<'a>,
 }

@@ -58,19 +58,15 @@ impl<'p, 'a> ListedTexts<'p, 'a> {
 
     /// Adds the text of a stored rule, without a line feed.
     #[tactic(auto, unfolding(rule_text::specs::RuleTexts::text_of_rule, rule_text::specs::RuleTexts::rule_text, rule_text::specs::RuleTexts::ends_text, rule_text::specs::RuleFrames::head_text))]
-    pub fn push_rule(
-        &mut self,
-        rule: &ListedRule<'_, 'a>,
-        buffer: &mut Vec<u8>,
-    ) -> Result<(), AllocError>
-        requires { IsStored self.old rule.now }
+    pub fn push_rule(&mut self, rule: ListedRule, buffer: &mut Vec<u8>) -> Result<(), AllocError>
+        requires { IsStored self.old rule }
         ensures policy { self.new ≡ self.old }
-        ensures text { OnOk result (buffer.new.items ≡ buffer.old.items ++ text_of_rule self.old rule.now.number) }
+        ensures text { OnOk result (buffer.new.items ≡ buffer.old.items ++ text_of_rule self.old rule.number) }
     {
         let policy = self.texts.policy();
         let symbols = policy.symbols();
         let kind = rule.kind;
-        let rule = rule.record.rule();
+        let rule = policy.rule(rule.number);
         self.head.push(symbols, kind, rule.source, buffer)?;
         self.names.push_target(symbols, kind, rule.target, buffer)?;
         push_rest(&mut self.texts, &rule, buffer)

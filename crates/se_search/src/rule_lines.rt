@@ -47,21 +47,21 @@ impl Items for RuleLines<'_, '_, '_> {
         let Some(rule) = self.rules.front() else {
             return Ok(false);
         };
-        push_line(&mut self.texts, &rule, buffer)?;
+        push_line(&mut self.texts, rule, buffer)?;
         Ok(self.rules.pass())
     }
 }
 
 // Adds the line of a rule.
 #[tactic(auto, unfolding(crate::specs::SearchAnswer::rule_line))]
-fn push_line<'a>(
-    texts: &mut ListedTexts<'_, 'a>,
-    rule: &ListedRule<'_, 'a>,
+fn push_line(
+    texts: &mut ListedTexts<'_, '_>,
+    rule: ListedRule,
     buffer: &mut Vec<u8>,
 ) -> Result<(), AllocError>
-    requires { IsStored texts.old rule.now }
+    requires { IsStored texts.old rule }
     ensures policy { texts.new ≡ texts.old }
-    ensures line { OnOk result (buffer.new.items ≡ buffer.old.items ++ rule_line texts.old rule.now.number) }
+    ensures line { OnOk result (buffer.new.items ≡ buffer.old.items ++ rule_line texts.old rule.number) }
 {
     texts.push_rule(rule, buffer)?;
     Ok(buffer.push(b'\n')?)
