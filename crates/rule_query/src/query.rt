@@ -83,7 +83,8 @@ impl Query {
     pub fn sorted(&self, alloc: Global, policy: &Policy<'_>) -> Result<Vec<u32>, AllocError>
         ensures { (criteria : Criteria) → IsQueryOf policy.now criteria self.now → IfOk result (λ numbers. numbers.items ≡ in_rule_order policy.now (meeting policy.now criteria)) }
     {
-        let mut found = RuleKeys::new(alloc, policy);
+        // room for all, since memory that nothing is written to is not used
+        let mut found = RuleKeys::with_capacity(alloc, policy, policy.rule_count() as usize)?;
         self.add_all(policy, &mut found)?;
         found.sorted(alloc)
     }

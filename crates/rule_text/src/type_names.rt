@@ -26,8 +26,9 @@ impl<'a> TypeNames<'a> {
     pub fn new(alloc: Global, symbols: &Symbols<'a>) -> Result<TypeNames<'a>, AllocError>
         ensures { IfOk result (AreNamesOf symbols.now) }
     {
-        let mut names = Vec::new(alloc);
-        for value in 0..symbols.prims(TableKind::Types).saturating_add(1) {
+        let count = symbols.prims(TableKind::Types).saturating_add(1);
+        let mut names = Vec::with_capacity(alloc, count as usize)?;
+        for value in 0..count {
             names.push(name_of(symbols, value))?;
         }
         Ok(TypeNames { names })

@@ -9,4 +9,4 @@ mod writing;
 pub use items::Items;
 pub use laws::pages_resume;
 pub use pages::{listed, write_page};
-pub use writing::{WriteEnd, spill, write_all};
+pub use writing::{WriteEnd, page_buffer, spill, write_all};

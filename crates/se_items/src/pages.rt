@@ -5,7 +5,7 @@ ghost use Rattle.se_items.specs.Paging.{limited, most_items};
 ghost use Rattle.se_items.specs.Writing.{Emits, Sends};
 
 use crate::items::Items;
-use crate::writing::{WriteEnd, spill, write_all};
+use crate::writing::{WriteEnd, page_buffer, spill, write_all};
 use se_outside::Sink;
 use std::alloc::Global;
 
@@ -20,6 +20,7 @@ pub fn listed(items: &[u32]) -> &[u32]
 }
 
 /// Writes the items that are left, but for so many at the front, and at most so many. No text of more than a page and an item is kept.
+#[tactic(auto, using(crate::proofs::Wrotes::nothing_sent))]
 pub fn write_page<I: Items, S: Sink>(
     alloc: Global,
     items: &mut I,
@@ -32,7 +33,7 @@ pub fn write_page<I: Items, S: Sink>(
         (concat (limited limit (drop from (I.left items.old)))) result }
 {
     pass_items(items, from);
-    let mut buffer = Vec::new(alloc);
+    let mut buffer = page_buffer(alloc)?;
     write_limited(items, limit, out, &mut buffer)?;
     Ok(write_all(out, &buffer)?)
 }

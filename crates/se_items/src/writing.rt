@@ -1,9 +1,9 @@
 // Whole texts through a sink that may take less than it is given.
-ghost use Rattle.std.specs.Prelude.{◌≡◌, ◌<◌, [], OnOk, length};
+ghost use Rattle.std.specs.Prelude.{◌≡◌, ◌<◌, [], IfOk, OnOk, length};
 ghost use Rattle.se_items.specs.Writing.{Wrote, Emits};
 
 use se_outside::{Failed, Sink};
-use std::alloc::AllocError;
+use std::alloc::{AllocError, Global};
 
 // How much a buffer holds before it is spilled.
 const PAGE: usize = 65_536;
@@ -50,6 +50,14 @@ pub fn write_all<S: Sink>(sink: &mut S, text: &[u8]) -> Result<(), Failed>
         }
     }
     Ok(())
+}
+
+/// A buffer that is spilled page by page. It has room for a page and for the item that fills it, unless that is long, so that it need not
+/// grow.
+pub fn page_buffer(alloc: Global) -> Result<Vec<u8>, AllocError>
+    ensures { IfOk result (λ buffer. buffer.items ≡ []) }
+{
+    Vec::with_capacity(alloc, PAGE + PAGE / 16)
 }
 
 /// Writes what the buffer holds, where that fills a page, and empties it.

@@ -5,12 +5,13 @@ ghost use Rattle.se_items.specs.Writing.{Emits, Sends};
 
 use info_lines::Lines;
 use itoa::Buffer;
-use se_items::{WriteEnd, spill, write_all};
+use se_items::{WriteEnd, page_buffer, spill, write_all};
 use se_outside::Sink;
 use std::alloc::{AllocError, Global};
 
 /// Writes a listing: an empty line, the title with the count of the lines, and each line after three spaces. A flat one is
 /// the lines alone.
+#[tactic(auto, using(se_items::proofs::Wrotes::nothing_sent))]
 pub fn write_listing<L: Lines, S: Sink>(
     alloc: Global,
     title: &[u8],
@@ -21,7 +22,7 @@ pub fn write_listing<L: Lines, S: Sink>(
     ensures { Sends (S.written out.old) (S.written out.new) (S.faults out.old) (S.faults out.new)
         (listing_text flat title.now (L.left lines.old)) result }
 {
-    let mut buffer = Vec::new(alloc);
+    let mut buffer = page_buffer(alloc)?;
     let count = lines.count();
     push_front(flat, title, count, &mut buffer)?;
     write_lines(lines, count, indent_of(flat), out, &mut buffer)?;

@@ -4,11 +4,12 @@ ghost use Rattle.se_items.specs.Writing.{Emits, Sends};
 ghost use Rattle.se_search.specs.SingleLines.{StandsIn, lines_left};
 
 use crate::single_lines::SingleLines;
-use se_items::{WriteEnd, spill, write_all};
+use se_items::{WriteEnd, page_buffer, spill, write_all};
 use se_outside::Sink;
 use std::alloc::Global;
 
 /// Writes the lines that are left. No text of more than a page and some lines is kept.
+#[tactic(auto, using(se_items::proofs::Wrotes::nothing_sent))]
 pub fn write_lines<S: Sink>(
     alloc: Global,
     lines: &mut SingleLines<'_, '_, '_>,
@@ -18,7 +19,7 @@ pub fn write_lines<S: Sink>(
     ensures { Sends (S.written out.old) (S.written out.new) (S.faults out.old) (S.faults out.new)
         (concat (lines_left lines.old)) result }
 {
-    let mut buffer = Vec::new(alloc);
+    let mut buffer = page_buffer(alloc)?;
     spill_lines(lines, out, &mut buffer)?;
     Ok(write_all(out, &buffer)?)
 }

@@ -5,16 +5,16 @@ use Rattle.se_listing.proofs.listing.write_listing.Goals as goal
 pub returns-in_err-write_lines : goal.returns-in_err-write_lines
 returns-in_err-write_lines g c =
     let p = err_from_is_err_and c.from_residual-in_err-write_lines.result c.from_residual-in_err-write_lines.ensures.1 in
-    rw (p.1, p.2, ← listing-is c.args.flat c.args.title.now (g.L.Lines.left c.args.lines.now) _ _ _ _ c.new-buffer.ensures.items c.count-count.ensures c.in_ok-push_front.ensures c.indent_of.ensures)
+    rw (p.1, p.2, ← listing-is c.args.flat c.args.title.now (g.L.Lines.left c.args.lines.now) _ _ _ _ c.in_ok-buffer.ensures c.count-count.ensures c.in_ok-push_front.ensures c.indent_of.ensures)
     (listing-cut _ _ _ _ _ _ _ _ c.in_err-write_lines.ensures)
 
 pub returns-in_err-write_all : goal.returns-in_err-write_all
 returns-in_err-write_all g c =
     let p = err_from_is_err_and c.from_residual-in_err-write_all.result c.from_residual-in_err-write_all.ensures.1 in
-    rw (p.1, p.2, ← listing-is c.args.flat c.args.title.now (g.L.Lines.left c.args.lines.now) _ _ _ _ c.new-buffer.ensures.items c.count-count.ensures c.in_ok-push_front.ensures c.indent_of.ensures)
+    rw (p.1, p.2, ← listing-is c.args.flat c.args.title.now (g.L.Lines.left c.args.lines.now) _ _ _ _ c.in_ok-buffer.ensures c.count-count.ensures c.in_ok-push_front.ensures c.indent_of.ensures)
     (listing-last-cut _ _ _ _ _ _ _ _ _ _ _ c.in_ok-write_lines.ensures (rw c.deref.ensures.value at c.in_err-write_all.ensures))
 
 pub returns : goal.returns
 returns g c =
-    rw (← listing-is c.args.flat c.args.title.now (g.L.Lines.left c.args.lines.now) _ _ _ _ c.new-buffer.ensures.items c.count-count.ensures c.in_ok-push_front.ensures c.indent_of.ensures)
+    rw (← listing-is c.args.flat c.args.title.now (g.L.Lines.left c.args.lines.now) _ _ _ _ c.in_ok-buffer.ensures c.count-count.ensures c.in_ok-push_front.ensures c.indent_of.ensures)
     (listing-whole _ _ _ _ _ _ _ _ _ _ _ _ c.in_ok-write_lines.ensures (rw c.deref.ensures.value at c.in_ok-write_all.ensures))
