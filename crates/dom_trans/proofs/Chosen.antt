@@ -4,7 +4,7 @@ use Rattle.pol_file.specs.declared.Parts.{Parts}
 use Rattle.rule_ends.specs.ChosenRules.{ChosenRules}
 use Rattle.dom_trans.specs.declared.grant.Grant.{Grant}
 use Rattle.dom_trans.specs.declared.grant.Grant.TheVariants.{Transition, Dyntransition, Setexec, Setcurrent, Execute, Entrypoint, Default}
-use Rattle.dom_trans.specs.RuleLists.{chosen, place_of, rule_lists, rules_of}
+use Rattle.dom_trans.specs.Inner.RuleLists.{chosen, place_of, rule_lists, rules_of}
 
 -- the list at the place of a grant
 at_place : (policy : Parts) (grant : Grant) (found : ChosenRules) → get_or (rule_lists policy) (place_of grant) found ≡ chosen policy (rules_of policy grant)

@@ -13,7 +13,7 @@ use Rattle.rule_ends.specs.PlainTypes.{is_type_value}
 use Rattle.rule_ends.proofs.Anys.{any_gives, any_from}
 use Rattle.dom_trans.specs.Grants.{grants, default_rules, has_default, part_has_default, file, entrypoint}
 use Rattle.dom_trans.specs.Transitions.{is_default}
-use Rattle.dom_trans.specs.Targets.{is_default_at, is_found}
+use Rattle.dom_trans.specs.Inner.Targets.{is_default_at, is_found}
 use Rattle.dom_trans.proofs.Entries.{default_of}
 
 -- ---- what an order keeps

@@ -15,7 +15,7 @@ use Rattle.pol_rules.specs.StoredRules.{StoredRule, stored_rules}
 use Rattle.rule_ends.specs.ChosenRules.{passes, any_joins, targets_from}
 use Rattle.dom_trans.specs.Grants.{granting_rules, grants, has_default, part_has_default, file, execute, entrypoint}
 use Rattle.dom_trans.specs.Transitions.{is_entry, entries}
-use Rattle.dom_trans.specs.RuleLists.{IsSourceOf, leads}
+use Rattle.dom_trans.specs.Inner.RuleLists.{IsSourceOf, leads}
 use Rattle.dom_trans.proofs.Lists.{filter_twice, filter_alike}
 
 -- the default of a stored rule

@@ -16,8 +16,8 @@ use Rattle.dom_trans.specs.declared.permission.Permission.{Permission}
 use Rattle.dom_trans.specs.declared.keeping.Wanted.{Wanted}
 use Rattle.dom_trans.specs.declared.keeping.Kept.{Kept}
 use Rattle.dom_trans.specs.Grants.{counts, rules_that, part_gives, gives, kind_sets_default, sets_default}
-use Rattle.dom_trans.specs.Keeping.{kept_of, AreKept, GainsWhere, AddsRule}
-use Rattle.dom_trans.specs.RuleLists.{HaveTypeEnds}
+use Rattle.dom_trans.specs.Inner.Keeping.{kept_of, AreKept, GainsWhere, AddsRule}
+use Rattle.dom_trans.specs.Inner.RuleLists.{HaveTypeEnds}
 
 -- one rule more
 more : (policy : Parts) (test : StoredRule → Bool) (n : ℕ) (rule : StoredRule) (old new : List ℕ) → slice_get (stored_rules policy) n ≡ Some rule → old ≡ kept_of policy n test → GainsWhere n (counts rule && test rule) old new → new ≡ kept_of policy (n + 1) test

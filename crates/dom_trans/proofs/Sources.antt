@@ -13,7 +13,7 @@ use Rattle.dom_trans.specs.Grants.{granting_rules, grants, default_rules, proces
 use Rattle.dom_trans.specs.Transitions.{is_default, is_entry, is_standard, is_dynamic}
 use Rattle.rule_ends.specs.PlainTypes.{are_two_types}
 use Rattle.rule_ends.proofs.TypesOutside.{two_within}
-use Rattle.dom_trans.specs.Targets.{AreEntering, AreSources, has_entry, may_enter}
+use Rattle.dom_trans.specs.Inner.Targets.{AreEntering, AreSources, has_entry, may_enter}
 use Rattle.dom_trans.proofs.Defaults.{default_joins}
 
 -- ---- an entry from one type

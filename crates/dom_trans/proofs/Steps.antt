@@ -17,9 +17,9 @@ use Rattle.rule_ends.specs.ChosenRules.{any_joins, sources_to}
 use Rattle.rule_ends.specs.PlainTypes.{are_two_types, is_type_outside, is_type_value, types_outside}
 use Rattle.rule_ends.proofs.TypesOutside.{in_outside}
 use Rattle.dom_trans.specs.Transitions.{is_transition}
-use Rattle.dom_trans.specs.DomainEdges.{Domains, is_step, domain_edge}
-use Rattle.dom_trans.specs.EdgesBetween.{transition_types}
-use Rattle.dom_trans.specs.Targets.{AreOpen, AreSources, AreTargets, is_open}
+use Rattle.dom_trans.specs.Inner.DomainEdges.{Domains, is_step, domain_edge}
+use Rattle.dom_trans.specs.Inner.EdgesBetween.{transition_types}
+use Rattle.dom_trans.specs.Inner.Targets.{AreOpen, AreSources, AreTargets, is_open}
 use Rattle.dom_trans.proofs.Ways.{step_by_transition, step_excluded}
 
 pub step_is_transition : (domains : Domains) (a b : ℕ) → is_step domains a b ≡ true → is_transition domains.policy a b ≡ true

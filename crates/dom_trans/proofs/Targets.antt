@@ -15,8 +15,8 @@ use Rattle.rule_ends.proofs.Anys.{any_gives, any_from, among_contains, contains_
 use Rattle.dom_trans.specs.Grants.{granting_rules, grants, default_rules, has_default, process, file, transition, dyntransition, setexec, setcurrent, execute, entrypoint}
 use Rattle.dom_trans.specs.Transitions.{is_default, is_entry, is_standard, is_dynamic}
 use Rattle.rule_ends.proofs.TypesOutside.{two_within}
-use Rattle.dom_trans.specs.RuleLists.{IsSourceOf}
-use Rattle.dom_trans.specs.Targets.{AreEntered, AreTargets, has_entry, is_default_at}
+use Rattle.dom_trans.specs.Inner.RuleLists.{IsSourceOf}
+use Rattle.dom_trans.specs.Inner.Targets.{AreEntered, AreTargets, has_entry, is_default_at}
 use Rattle.dom_trans.proofs.Defaults.{default_joins}
 use Rattle.dom_trans.proofs.Ways.{dynamic_by_grant, dynamic_refused}
 

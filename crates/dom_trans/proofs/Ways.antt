@@ -7,8 +7,8 @@ use Rattle.pol_file.specs.declared.Parts.{Parts}
 use Rattle.rule_ends.specs.PlainTypes.{are_two_types}
 use Rattle.dom_trans.specs.Grants.{grants, process, transition, dyntransition, setcurrent}
 use Rattle.dom_trans.specs.Transitions.{is_standard, is_dynamic, is_transition}
-use Rattle.dom_trans.specs.DomainEdges.{Domains, is_step}
-use Rattle.dom_trans.specs.Targets.{has_entry}
+use Rattle.dom_trans.specs.Inner.DomainEdges.{Domains, is_step}
+use Rattle.dom_trans.specs.Inner.Targets.{has_entry}
 
 and_true : (x y : Bool) → y ≡ true → (x && y) ≡ x
 and_true true y e = e

@@ -3,8 +3,8 @@ ghost use Rattle.pol_bitmap.specs.Nodes.{bits_of};
 ghost use Rattle.pol_expand.specs.PolicyMap.{IsPolicyMap};
 ghost use Rattle.walk_enum.specs.Walks.{AreEnds};
 ghost use Rattle.dom_trans.specs.ReasonLists.{reasons_between};
-ghost use Rattle.dom_trans.specs.DomainEdges.{domain_edge, is_step};
-ghost use Rattle.dom_trans.specs.Targets.{AreOpen};
+ghost use Rattle.dom_trans.specs.Inner.DomainEdges.{domain_edge, is_step};
+ghost use Rattle.dom_trans.specs.Inner.Targets.{AreOpen};
 
 use crate::dom_rules::DomRules;
 use crate::reasons::Reasons;
@@ -34,7 +34,7 @@ impl<'p> Model for DomGraph<'p> {
     ghost use Rattle.std.specs.Prelude.{◌≡◌};
     ghost use Rattle.pol_bitmap.specs.Nodes.{bits_of};
     ghost use Rattle.rule_ends.specs.PlainTypes.{types_outside};
-    ghost use Rattle.dom_trans.specs.DomainEdges.{Domains};
+    ghost use Rattle.dom_trans.specs.Inner.DomainEdges.{Domains};
 
     ghost Value = { Domains };
 
@@ -122,8 +122,8 @@ impl<'p> DomGraph<'p> {
 }
 
 impl<'p> Graph for DomGraph<'p> {
-    ghost use Rattle.dom_trans.specs.DomainEdges.{domain_count, domain_edge};
-    ghost use Rattle.dom_trans.specs.EdgesBetween.{edges_join};
+    ghost use Rattle.dom_trans.specs.Inner.DomainEdges.{domain_count, domain_edge};
+    ghost use Rattle.dom_trans.specs.Inner.EdgesBetween.{edges_join};
 
     ghost nodes = { domain_count };
 

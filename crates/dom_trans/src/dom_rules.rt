@@ -6,11 +6,11 @@ ghost use Rattle.pol_expand.specs.PolicyMap.{IsPolicyMap};
 ghost use Rattle.rule_ends.specs.ChosenRules.{rules_between, targets_from, sources_to};
 ghost use Rattle.pol_rules.specs.StoredRules.{stored_rules};
 ghost use Rattle.value_groups.specs.Marking.{is_among};
-ghost use Rattle.dom_trans.specs.Targets.{AreEntered, AreTargets, AreEntering, AreSources, is_default_at, is_found, may_enter};
+ghost use Rattle.dom_trans.specs.Inner.Targets.{AreEntered, AreTargets, AreEntering, AreSources, is_default_at, is_found, may_enter};
 ghost use Rattle.dom_trans.specs.Grants.{granting_rules, grants, default_rules, process, dyntransition, setcurrent, file, entrypoint};
 ghost use Rattle.dom_trans.specs.Transitions.{is_default, entries, is_standard, is_dynamic, defaults_between};
 ghost use Rattle.dom_trans.specs.ReasonLists.{entry_reason, reasons_between};
-ghost use Rattle.dom_trans.specs.RuleLists.{HaveTypeEnds, IsSourceOf, chosen, leads, rules_of};
+ghost use Rattle.dom_trans.specs.Inner.RuleLists.{HaveTypeEnds, IsSourceOf, chosen, leads, rules_of};
 
 use crate::grant::Grant;
 use crate::keeping::kept_rules;
@@ -37,7 +37,7 @@ pub struct DomRules<'p> {
 impl<'p> Model for DomRules<'p> {
     ghost use Rattle.pol_file.specs.declared.Parts.{Parts};
     ghost use Rattle.std.specs.Prelude.{◌≡◌};
-    ghost use Rattle.dom_trans.specs.RuleLists.{rule_lists};
+    ghost use Rattle.dom_trans.specs.Inner.RuleLists.{rule_lists};
 
     ghost Value = { Parts };
 

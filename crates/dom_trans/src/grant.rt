@@ -1,5 +1,5 @@
 ghost use Rattle.std.specs.Prelude.{◌≡◌, ◌<◌};
-ghost use Rattle.dom_trans.specs.RuleLists.{place_of};
+ghost use Rattle.dom_trans.specs.Inner.RuleLists.{place_of};
 
 /// What the rules of a list do: give a permission, or set the default domain of a process.
 #[derive(Clone, Copy)]

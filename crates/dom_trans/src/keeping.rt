@@ -3,7 +3,7 @@ ghost use Rattle.std.specs.Prelude.{◌≡◌, ◌≤◌, Bool, ◌++◌, ◌∷
 ghost use Rattle.pol_rules.specs.StoredRules.{stored, stored_rules};
 ghost use Rattle.pol_file.specs.declared.Parts.{Parts};
 ghost use Rattle.dom_trans.specs.declared.keeping.Wanted.{Wanted};
-ghost use Rattle.dom_trans.specs.Keeping.{wanted_in, AreKept, AddsRule, GainsWhere};
+ghost use Rattle.dom_trans.specs.Inner.Keeping.{wanted_in, AreKept, AddsRule, GainsWhere};
 
 use crate::permission::{Permission, counts, gives, permission_named, sets_default};
 use pol_fields::TableKind;

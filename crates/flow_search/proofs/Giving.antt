@@ -15,7 +15,7 @@ use Rattle.perm_map.specs.declared.Direction.{Direction}
 use Rattle.perm_map.specs.PermissionMap.{Weights}
 use Rattle.flow_search.specs.FlowWeights.{inwards, outwards}
 use Rattle.flow_search.specs.Flows.{gives_least, rule_numbers}
-use Rattle.flow_search.specs.FlowParts.{AreDistinct, AreFlowRules, reaches, rules_reaching}
+use Rattle.flow_search.specs.Inner.FlowParts.{AreDistinct, AreFlowRules, reaches, rules_reaching}
 use Rattle.flow_search.proofs.ReachedWeights.{given_reaches}
 
 -- ---- an order keeps the numbers

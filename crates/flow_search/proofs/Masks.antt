@@ -6,7 +6,7 @@ use Rattle.std.proofs.Math.Nat.{div-eq_of_lt, pow-le-pow_right, zero-mul}
 use Rattle.std.proofs.lemmas.Bool.{eqb-true, eqb-false}
 use Rattle.std.proofs.lemmas.Nat.{and_comm, and_le_l, and_or_apart}
 use Rattle.std.proofs.lemmas.Nat.Bits.{and_pow, bit_at_and, bit_at_or, bit_at-pow_same, bit_at-zero, bit_at-lt}
-use Rattle.flow_search.specs.WeightTables.{shares_bit}
+use Rattle.flow_search.specs.Inner.WeightTables.{shares_bit}
 
 -- a mask has no bit past its own
 pub past_mask : (mask place : ℕ) → mask < 2 ^ 32 → 32 ≤ place → eqb (bit_at mask place) 1 ≡ false

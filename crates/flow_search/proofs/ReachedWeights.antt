@@ -18,7 +18,7 @@ use Rattle.perm_map.specs.declared.Direction.{Direction}
 use Rattle.perm_map.specs.PermissionMap.{Weights}
 use Rattle.flow_search.specs.FlowWeights.{greatest, inwards, outwards, part_weight, rule_weight}
 use Rattle.flow_search.specs.Flows.{flow_weight, given_by, gives_least, rule_numbers, weight_of_rule}
-use Rattle.flow_search.specs.FlowParts.{any_flow, reaches, rules_reaching}
+use Rattle.flow_search.specs.Inner.FlowParts.{any_flow, reaches, rules_reaching}
 use Rattle.flow_search.proofs.TestOrders.{split_tests}
 
 -- ---- numbers

@@ -15,8 +15,8 @@ use Rattle.rule_ends.specs.PlainTypes.{are_two_types, is_type_value, types_outsi
 use Rattle.rule_ends.proofs.TypesOutside.{in_outside, type_within}
 use Rattle.perm_map.specs.PermissionMap.{Weights, weights_of}
 use Rattle.flow_search.specs.FlowWeights.{inwards, outwards}
-use Rattle.flow_search.specs.FlowEdges.{FlowSearch, flow_edge, is_flow}
-use Rattle.flow_search.specs.FlowParts.{AreFlowRules, AreJoined, IsOpenPart, any_edge, any_flow, is_open, is_successor, rules_reaching}
+use Rattle.flow_search.specs.Inner.FlowEdges.{FlowSearch, flow_edge, is_flow}
+use Rattle.flow_search.specs.Inner.FlowParts.{AreFlowRules, AreJoined, IsOpenPart, any_edge, any_flow, is_open, is_successor, rules_reaching}
 use Rattle.flow_search.proofs.ReachedWeights.{flow_reaches}
 use Rattle.flow_search.proofs.TestOrders.{ahead_tests, back_tests}
 

@@ -21,9 +21,9 @@ use Rattle.perm_map.specs.PermissionMap.{Entry, Weights, weights_of}
 use Rattle.flow_search.specs.declared.class_weights.PermissionWeight.{PermissionWeight}
 use Rattle.flow_search.specs.FlowWeights.{class_of, greatest, has_permission, inwards, mask_weight, outwards, permission_weight, rule_weight}
 use Rattle.flow_search.specs.Flows.{weight_found, weight_of_rule}
-use Rattle.flow_search.specs.FlowParts.{reaches}
+use Rattle.flow_search.specs.Inner.FlowParts.{reaches}
 use Rattle.flow_search.specs.declared.reach_bits.ReachBits.{ReachBits}
-use Rattle.flow_search.specs.WeightTables.{AreBitsOf, AreReachBits, AreWeights, HaveReachBits, Reached, class_weights, greatest_into, greatest_out, is_in, shares_bit, weighed}
+use Rattle.flow_search.specs.Inner.WeightTables.{AreBitsOf, AreReachBits, AreWeights, HaveReachBits, Reached, class_weights, greatest_into, greatest_out, is_in, shares_bit, weighed}
 use Rattle.flow_search.proofs.Masks.{no_bits}
 use Rattle.flow_search.proofs.ReachedWeights.{le_max, not_le_zero}
 

@@ -3,7 +3,7 @@ ghost use Rattle.std.specs.Int.{bit_at};
 ghost use Rattle.std.specs.Prelude.{◌≡◌, ◌≤◌, ◌<◌, ◌==◌, ◌++◌, IfOk, OnOk, map, max, if◌then◌else◌};
 ghost use Rattle.perm_map.specs.PermissionMap.{weights_of};
 ghost use Rattle.flow_search.specs.FlowWeights.{inwards, outwards, mapped};
-ghost use Rattle.flow_search.specs.WeightTables.{AreReachBits, class_weights, greatest_into, greatest_out, is_in, weighed};
+ghost use Rattle.flow_search.specs.Inner.WeightTables.{AreReachBits, class_weights, greatest_into, greatest_out, is_in, weighed};
 
 use crate::reach_bits::{ReachBits, with_bit};
 use perm_map::{Direction, PermMap};
@@ -46,7 +46,7 @@ pub struct RuleWeights {
 
 impl ClassWeights {
     /// The permissions of a class, its own first.
-    #[tactic(auto, unfolding(crate::specs::WeightTables::class_weights))]
+    #[tactic(auto, unfolding(crate::specs::Inner::WeightTables::class_weights))]
     pub fn of_class(
         alloc: Global,
         symbols: &Symbols<'_>,
@@ -160,7 +160,7 @@ fn greater(weight: u8, has: bool, other: u8) -> u8
 }
 
 // The greatest weights of the permissions that a mask has.
-#[tactic(auto, unfolding(crate::specs::WeightTables::greatest_out, crate::specs::WeightTables::greatest_into))]
+#[tactic(auto, unfolding(crate::specs::Inner::WeightTables::greatest_out, crate::specs::Inner::WeightTables::greatest_into))]
 fn greatest_of(permissions: &[PermissionWeight], mask: u32) -> RuleWeights
     ensures out { result.out ≡ greatest_out mask permissions.now }
     ensures into { result.into ≡ greatest_into mask permissions.now }

@@ -6,8 +6,8 @@ ghost use Rattle.perm_map.specs.PermissionMap.{weights_of};
 ghost use Rattle.rule_order.specs.ListedOrder.{AreRules, in_rule_order};
 ghost use Rattle.walk_enum.specs.Walks.{AreEnds};
 ghost use Rattle.flow_search.specs.Flows.{flow_rules, flow_weight, gives_least, rule_numbers};
-ghost use Rattle.flow_search.specs.FlowEdges.{flow_edge};
-ghost use Rattle.flow_search.specs.FlowParts.{any_edge, any_flow, is_open, AreDistinct, AreJoined, IsOpenPart};
+ghost use Rattle.flow_search.specs.Inner.FlowEdges.{flow_edge};
+ghost use Rattle.flow_search.specs.Inner.FlowParts.{any_edge, any_flow, is_open, AreDistinct, AreJoined, IsOpenPart};
 
 use crate::node_sets::{either, without};
 use crate::reaching::rules_reaching;
@@ -47,8 +47,8 @@ impl<'p> Model for FlowGraph<'p> {
     ghost use Rattle.pol_bitmap.specs.Nodes.{bits_of};
     ghost use Rattle.rule_ends.specs.PlainTypes.{types_outside};
     ghost use Rattle.perm_map.specs.PermissionMap.{weights_of};
-    ghost use Rattle.flow_search.specs.FlowEdges.{FlowSearch};
-    ghost use Rattle.flow_search.specs.FlowParts.{AreFlowRules};
+    ghost use Rattle.flow_search.specs.Inner.FlowEdges.{FlowSearch};
+    ghost use Rattle.flow_search.specs.Inner.FlowParts.{AreFlowRules};
 
     ghost Value = { FlowSearch };
 
@@ -234,8 +234,8 @@ fn make_distinct(numbers: &mut Vec<u32>)
 }
 
 impl<'p> Graph for FlowGraph<'p> {
-    ghost use Rattle.flow_search.specs.FlowEdges.{flow_count, flow_edge};
-    ghost use Rattle.flow_search.specs.EdgesBetween.{edges_join};
+    ghost use Rattle.flow_search.specs.Inner.FlowEdges.{flow_count, flow_edge};
+    ghost use Rattle.flow_search.specs.Inner.EdgesBetween.{edges_join};
 
     ghost nodes = { flow_count };
 

@@ -1,7 +1,7 @@
 // Permissions as bits, against those of a rule's mask.
 ghost use Rattle.std.specs.Prelude.{◌≡◌, ◌<◌, ◌==◌, ◌^◌, ◌&&◌, ◌||◌, ℕ};
 ghost use Rattle.std.specs.Int.{bit_at};
-ghost use Rattle.flow_search.specs.WeightTables.{shares_bit};
+ghost use Rattle.flow_search.specs.Inner.WeightTables.{shares_bit};
 
 /// The permissions of a class that flow at least a weight, from the source of a rule to its target and back, by their bits in a mask.
 #[derive(Clone, Copy)]

@@ -23,7 +23,7 @@ pub struct ReachTest<'w, 'p> {
 
 impl<'w, 'p> Model for ReachTest<'w, 'p> {
     ghost use Rattle.perm_map.specs.PermissionMap.{weights_of};
-    ghost use Rattle.flow_search.specs.WeightTables.{HaveReachBits, Reached};
+    ghost use Rattle.flow_search.specs.Inner.WeightTables.{HaveReachBits, Reached};
 
     ghost Value = { Reached };
 

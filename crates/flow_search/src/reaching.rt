@@ -3,10 +3,10 @@ ghost use Rattle.std.specs.Prelude.{◌≡◌, ◌≤◌, ◌++◌, ◌∷◌, [
 ghost use Rattle.pol_rules.specs.StoredRules.{stored, stored_rules};
 ghost use Rattle.pol_rules.specs.DeclaredRules.{IsDeclaredRule};
 ghost use Rattle.rule_ends.specs.ChosenRules.{has_type_ends};
-ghost use Rattle.rule_ends.specs.EndTables.{AreEndsOf};
+ghost use Rattle.rule_ends.specs.Inner.EndTables.{AreEndsOf};
 ghost use Rattle.perm_map.specs.PermissionMap.{weights_of};
 ghost use Rattle.flow_search.specs.FlowWeights.{inwards, outwards};
-ghost use Rattle.flow_search.specs.FlowParts.{rules_reaching};
+ghost use Rattle.flow_search.specs.Inner.FlowParts.{rules_reaching};
 
 use crate::reach_test::ReachTest;
 use crate::weigher::Weigher;
@@ -24,7 +24,7 @@ pub struct Reaching {
 }
 
 /// Goes through the rules of a policy once.
-#[tactic(auto, unfolding(crate::specs::FlowParts::rules_reaching))]
+#[tactic(auto, unfolding(crate::specs::Inner::FlowParts::rules_reaching))]
 pub fn rules_reaching(
     alloc: Global,
     weigher: &Weigher<'_>,

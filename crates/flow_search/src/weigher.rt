@@ -4,7 +4,7 @@ ghost use Rattle.pol_rules.specs.StoredRules.{stored, stored_rules};
 ghost use Rattle.perm_map.specs.PermissionMap.{weights_of};
 ghost use Rattle.flow_search.specs.FlowWeights.{class_of, inwards, mask_weight, outwards, part_weight, rule_weight};
 ghost use Rattle.flow_search.specs.Flows.{flow_weight, given_by, weight_of_rule};
-ghost use Rattle.flow_search.specs.WeightTables.{AreBitsOf, AreWeights, HaveReachBits, greatest_into, greatest_out};
+ghost use Rattle.flow_search.specs.Inner.WeightTables.{AreBitsOf, AreWeights, HaveReachBits, greatest_into, greatest_out};
 
 use crate::class_weights::{ClassWeights, RuleWeights};
 use crate::reach_bits::ReachBits;
@@ -29,7 +29,7 @@ pub struct Weigher<'p> {
 
 impl<'p> Model for Weigher<'p> {
     ghost use Rattle.perm_map.specs.PermissionMap.{weights_of};
-    ghost use Rattle.flow_search.specs.WeightTables.{AreWeights, Weighing};
+    ghost use Rattle.flow_search.specs.Inner.WeightTables.{AreWeights, Weighing};
 
     ghost Value = { Weighing };
 

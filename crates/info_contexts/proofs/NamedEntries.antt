@@ -3,7 +3,7 @@ use Rattle.std.proofs.Common.{◌≡◌, ℕ, zero, suc, ◌+◌, Bool, true, fa
 use Rattle.std.specs.List.{All, filter, range_with_len}
 use Rattle.std.proofs.lemmas.List.{length-map}
 use Rattle.std.proofs.lemmas.List.Elements.{All-filter, filter-append}
-use Rattle.info_lines.specs.Listings.{HasLine, line_of}
+use Rattle.info_lines.specs.Inner.Listings.{HasLine, line_of}
 use Rattle.info_lines.proofs.FileOrder.{all_there}
 use Rattle.info_lines.proofs.ListingLines.{line_at}
 use Rattle.info_contexts.specs.NamedEntries.{is_asked, of_name, numbers_of_name}

@@ -2,7 +2,7 @@
 ghost use Rattle.std.specs.Prelude.{◌≡◌, ◌++◌, IfOk, OnOk};
 ghost use Rattle.std.specs.Str.{bytes_eq};
 ghost use Rattle.pol_texts.specs.NumberNames.{sid_name};
-ghost use Rattle.info_lines.specs.Listings.{HasLine, line_of};
+ghost use Rattle.info_lines.specs.Inner.Listings.{HasLine, line_of};
 ghost use Rattle.info_contexts.specs.SidLines.{sid_line, sid_listing};
 
 use crate::contexts::push_context;

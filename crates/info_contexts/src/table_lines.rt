@@ -1,7 +1,7 @@
 // The lines of tables of contexts.
 ghost use Rattle.std.specs.Prelude.{◌≡◌, ◌++◌, ℕ, List, OnOk};
 ghost use Rattle.pol_symbols.specs.declared.symbols.Symbols.{Symbols};
-ghost use Rattle.info_lines.specs.Listings.{HasLine, line_of};
+ghost use Rattle.info_lines.specs.Inner.Listings.{HasLine, line_of};
 
 use info_lines::LineText;
 use pol_symbols::Symbols;

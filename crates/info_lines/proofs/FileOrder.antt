@@ -5,8 +5,8 @@ use Rattle.std.specs.declared.alloc.AllocError.{AllocError}
 use Rattle.std.proofs.lemmas.List.Elements.{All-nil, All-cons}
 use Rattle.std.proofs.lemmas.List.{length-append, length-map}
 use Rattle.std.proofs.lemmas.List.FromFn.{fill_by_all, length-map-range_with_len}
-use Rattle.info_lines.specs.Lines.{PushesLine}
-use Rattle.info_lines.specs.Listings.{HasLine, line_of}
+use Rattle.info_lines.specs.Inner.Lines.{PushesLine}
+use Rattle.info_lines.specs.Inner.Listings.{HasLine, line_of}
 
 -- ---- numbers
 

@@ -3,23 +3,23 @@ use Rattle.std.proofs.Common.{◌≡◌, ℕ, true, List, refl}
 use Rattle.pol_fields.specs.declared.TableKind.{TableKind}
 use Rattle.pol_fields.specs.declared.TableKind.TheVariants.{Commons, Classes, Roles, Types, Users, Booleans, Levels, Categories}
 use Rattle.pol_cursor.specs.Outcome.{Got}
-use Rattle.pol_symtab.specs.Freshness.{Gives}
+use Rattle.pol_symtab.specs.Inner.Freshness.{Gives}
 use Rattle.pol_symtab.specs.SymbolTables.{Table, table_start}
 use Rattle.pol_symtab.proofs.FreshRecords.{Gives-part, Gives-done}
 use Rattle.pol_commons.specs.declared.CommonRec.{CommonRec}
 use Rattle.pol_commons.specs.CommonTable.{after_common, common_under, commons_at, first_context}
-use Rattle.pol_commons.specs.CommonFreshness.{common_is_fresh}
+use Rattle.pol_commons.specs.Inner.CommonFreshness.{common_is_fresh}
 use Rattle.pol_datums.specs.Flags.{is_primary_flag}
 use Rattle.pol_datums.specs.TypeRecord.{is_primary_type}
-use Rattle.pol_datums.specs.DatumFreshness.{role_is_fresh, type_is_fresh, boolean_is_fresh, sensitivity_is_fresh, category_is_fresh}
+use Rattle.pol_datums.specs.Inner.DatumFreshness.{role_is_fresh, type_is_fresh, boolean_is_fresh, sensitivity_is_fresh, category_is_fresh}
 use Rattle.pol_classes.specs.ClassTables.{after_class, class_start, class_table_at, class_under}
-use Rattle.pol_classes.specs.ClassFreshness.{class_is_fresh}
+use Rattle.pol_classes.specs.Inner.ClassFreshness.{class_is_fresh}
 use Rattle.pol_symbols.specs.declared.symbols.Symbols.{Symbols}
 use Rattle.pol_symbols.specs.declared.symbols.RuleTables.{RuleTables}
 use Rattle.pol_symbols.specs.declared.symbols.OtherTables.{OtherTables}
 use Rattle.pol_symbols.specs.PolicySymbols.{roles_at, types_at, users_at, booleans_at, levels_at, categories_at, rule_tables_at, other_tables_at, symbols_at}
-use Rattle.pol_symbols.specs.UserFreshness.{user_is_fresh}
-use Rattle.info_lines.specs.ListedOnce.{IsListedOnce}
+use Rattle.pol_symbols.specs.Inner.UserFreshness.{user_is_fresh}
+use Rattle.info_lines.specs.Inner.ListedOnce.{IsListedOnce}
 use Rattle.info_lines.specs.NameOrder.{number_of_rank, primary_numbers}
 use Rattle.info_lines.proofs.ListedOnce.{AreDistinct, ranges_listed}
 use Rattle.info_lines.proofs.DistinctRecords.{table_distinct}

@@ -1,7 +1,4 @@
-pub mod Lines
-pub mod ListedOnce
-pub mod Listings
 pub mod NameOrder
 pub mod NameSets
-pub mod Placing
 pub mod Titles
+pub mod Inner

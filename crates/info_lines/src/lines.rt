@@ -1,7 +1,7 @@
 // Lines of listings, which are made one after the other.
 ghost use Rattle.std.specs.Prelude.{◌≡◌, ◌++◌, ℕ, List, OnOk, length, map};
 ghost use Rattle.std.specs.List.{All};
-ghost use Rattle.info_lines.specs.Lines.{PushesLine};
+ghost use Rattle.info_lines.specs.Inner.Lines.{PushesLine};
 
 use std::alloc::AllocError;
 use std::marker::Model;

@@ -17,7 +17,7 @@ use Rattle.info_classes.specs.ConstraintLines.{constraint_listing}
 use Rattle.info_classes.specs.DefaultLines.{default_listing}
 use Rattle.info_symbols.specs.AttributeStatement.{attribute_statement, attribute_statement_listing_named, statement_lines}
 use Rattle.info_query.specs.Listings.{attribute_lines, lines_of}
-use Rattle.info_query.specs.Names.{knows_name}
+use Rattle.info_query.specs.Inner.Names.{knows_name}
 
 mapped : {A B : Type 0} (f : A → B) (o : Option A) → is_some o ≡ is_some (option_map f o)
 mapped f None = refl

@@ -1,3 +1,3 @@
 pub mod Capabilities
 pub mod Listings
-pub mod Names
+pub mod Inner

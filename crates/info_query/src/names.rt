@@ -1,7 +1,7 @@
 // The names that listings know.
 ghost use Rattle.std.specs.Prelude.{◌≡◌, Bool, Some, is_some};
 ghost use Rattle.info_query.specs.Listings.{lines_of};
-ghost use Rattle.info_query.specs.Names.{is_in_set, is_in_table, knows_name};
+ghost use Rattle.info_query.specs.Inner.Names.{is_in_set, is_in_table, knows_name};
 
 use info_lines::{Listing, number_named};
 use info_symbols::{TypeSet, set_number_named};
@@ -17,7 +17,7 @@ pub fn name_is_known(policy: &Policy<'_>, listing: Listing, name: &[u8]) -> bool
 }
 
 // Whether a listing finds a name in its table, or looks no names up.
-#[tactic(auto, unfolding(crate::specs::Names::knows_name))]
+#[tactic(auto, unfolding(crate::specs::Inner::Names::knows_name))]
 fn knows_name(policy: &Policy<'_>, listing: Listing, name: &[u8]) -> bool
     ensures { result ≡ knows_name policy.now listing name.now }
 {

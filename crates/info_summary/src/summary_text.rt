@@ -1,6 +1,6 @@
 // The summary of a policy.
 ghost use Rattle.std.specs.Prelude.{◌≡◌, IfOk, map};
-ghost use Rattle.info_lines.specs.Listings.{HasLine, line_of};
+ghost use Rattle.info_lines.specs.Inner.Listings.{HasLine, line_of};
 ghost use Rattle.info_summary.specs.SummaryLines.{entry_line};
 ghost use Rattle.info_summary.specs.Counts.{permissive_count, capability_count};
 ghost use Rattle.info_summary.specs.Summary.{unknown_word, header_lines, mark_lines, summary_lines};

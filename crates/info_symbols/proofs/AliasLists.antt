@@ -9,7 +9,7 @@ use Rattle.std.proofs.lemmas.List.Elements.{filter-append}
 use Rattle.std.proofs.lemmas.Option.{slice_get_within, get_or_from_slice_get}
 use Rattle.std.proofs.Math.Seq.{take-suc}
 use Rattle.pol_cursor.specs.References.{Placed}
-use Rattle.info_symbols.specs.AliasLists.{SameLists, Gains, GainsRecord, AreListed, gain}
+use Rattle.info_symbols.specs.Inner.AliasLists.{SameLists, Gains, GainsRecord, AreListed, gain}
 use Rattle.info_symbols.specs.Aliases.{aliases_among, is_alias_of}
 
 pub same_more : (lists : List (List (List ℕ))) → SameLists lists (lists ++ [] ∷ [])

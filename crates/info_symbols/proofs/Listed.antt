@@ -18,7 +18,7 @@ use Rattle.info_symbols.specs.declared.type_sets.TypeSet.{TypeSet}
 use Rattle.info_symbols.specs.TypeListings.{type_line, type_lines, set_listing, set_numbers_listed}
 use Rattle.info_lines.specs.NameOrder.{numbers_listed}
 use Rattle.info_symbols.specs.SymbolLines.{symbol_lines}
-use Rattle.info_lines.specs.Listings.{HasLine, line_of}
+use Rattle.info_lines.specs.Inner.Listings.{HasLine, line_of}
 use Rattle.info_symbols.specs.SymbolListings.{lines_at, symbol_listing}
 
 pub as_many : (symbols : Symbols) (table : TableKind) (expand : Bool) → length (symbol_lines symbols table expand) ≡ count_in symbols table

@@ -4,9 +4,9 @@ pub mod TypeListings
 pub mod PermissionSets
 pub mod ClassLines
 pub mod Aliases
-pub mod AliasLists
 pub mod MlsLines
 pub mod TypeStatements
 pub mod RoleLines
 pub mod UserLines
 pub mod AttributeStatement
+pub mod Inner

@@ -5,7 +5,7 @@ ghost use Rattle.std.specs.List.{All, Contains};
 ghost use Rattle.pol_bitmap.specs.Nodes.{bits_of};
 ghost use Rattle.pol_fields.specs.declared.TableKind.TheVariants.{Types};
 ghost use Rattle.pol_datums.specs.declared.Flavour.TheVariants.{Attribute};
-ghost use Rattle.info_lines.specs.Listings.{line_of};
+ghost use Rattle.info_lines.specs.Inner.Listings.{line_of};
 ghost use Rattle.info_lines.specs.NameSets.{names_of_values};
 ghost use Rattle.pol_expand.specs.PolicyMap.{IsPolicyMap, expand, values_of_flavour};
 ghost use Rattle.info_symbols.specs.AttributeStatement.{IsAttribute, attribute_statement, attribute_statement_listing, attribute_statement_listing_named, statement_lines, statement_text, types_text};
@@ -34,7 +34,7 @@ pub struct AttributeLines<'p, 'a> {
 impl<'p, 'a> Model for AttributeLines<'p, 'a> {
     ghost use Rattle.std.specs.Prelude.{ℕ, ◌≤◌, List, drop, length, map};
     ghost use Rattle.std.specs.List.{All};
-    ghost use Rattle.info_lines.specs.Listings.{line_of};
+    ghost use Rattle.info_lines.specs.Inner.Listings.{line_of};
     ghost use Rattle.pol_expand.specs.PolicyMap.{IsPolicyMap};
     ghost use Rattle.info_symbols.specs.AttributeStatement.{IsAttribute, statement_lines};
 

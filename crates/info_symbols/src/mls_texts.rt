@@ -2,7 +2,7 @@
 
 ghost use Rattle.std.specs.Prelude.{◌≡◌, ◌++◌, OnOk};
 ghost use Rattle.pol_fields.specs.declared.TableKind.TheVariants.{Levels, Categories};
-ghost use Rattle.info_symbols.specs.AliasLists.{AreAliases};
+ghost use Rattle.info_symbols.specs.Inner.AliasLists.{AreAliases};
 ghost use Rattle.info_symbols.specs.MlsLines.{category_line, level_part, sensitivity_line};
 
 use crate::aliases::{Aliases, push_aliases};

@@ -1,7 +1,7 @@
 //! The listings of symbol tables.
 
 ghost use Rattle.std.specs.Prelude.{◌≡◌, ◌++◌, IfOk, OnOk, option_map};
-ghost use Rattle.info_lines.specs.Listings.{HasLine, line_of};
+ghost use Rattle.info_lines.specs.Inner.Listings.{HasLine, line_of};
 ghost use Rattle.info_symbols.specs.SymbolLines.{boolean_line, state_word, symbol_lines};
 ghost use Rattle.info_symbols.specs.SymbolListings.{symbol_listing};
 
@@ -29,7 +29,7 @@ pub struct SymbolLines<'p, 'a> {
 
 impl<'p, 'a> Model for SymbolLines<'p, 'a> {
     ghost use Rattle.std.specs.Prelude.{ℕ, List};
-    ghost use Rattle.info_symbols.specs.AliasLists.{AreAliases};
+    ghost use Rattle.info_symbols.specs.Inner.AliasLists.{AreAliases};
     ghost use Rattle.info_symbols.specs.SymbolLines.{symbol_lines};
 
     ghost Value = { List (List ℕ) };

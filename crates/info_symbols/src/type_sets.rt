@@ -2,11 +2,11 @@
 
 ghost use Rattle.std.specs.Prelude.{◌≡◌, ◌<◌, ◌++◌, IfOk, IfSome, OnOk, length, option_map};
 ghost use Rattle.std.specs.List.{All, filter};
-ghost use Rattle.info_lines.specs.Listings.{HasLine, line_of};
+ghost use Rattle.info_lines.specs.Inner.Listings.{HasLine, line_of};
 ghost use Rattle.info_lines.specs.NameOrder.{number_named};
 ghost use Rattle.pol_fields.specs.declared.TableKind.TheVariants.{Types};
 ghost use Rattle.pol_expand.specs.Flavours.{is_flavour};
-ghost use Rattle.info_symbols.specs.AliasLists.{AreAliases};
+ghost use Rattle.info_symbols.specs.Inner.AliasLists.{AreAliases};
 ghost use Rattle.info_symbols.specs.TypeListings.{is_permissive, is_in, number_in, number_if_in, permissive_line, searched_set, set_listing, set_numbers, set_numbers_listed, shows_types, type_line, type_lines};
 
 use crate::aliases::Aliases;
@@ -43,7 +43,7 @@ pub struct TypeLines<'p, 'a> {
 impl<'p, 'a> Model for TypeLines<'p, 'a> {
     ghost use Rattle.std.specs.Prelude.{ℕ, List};
     ghost use Rattle.pol_fields.specs.declared.TableKind.TheVariants.{Types};
-    ghost use Rattle.info_symbols.specs.AliasLists.{AreAliases};
+    ghost use Rattle.info_symbols.specs.Inner.AliasLists.{AreAliases};
     ghost use Rattle.info_symbols.specs.TypeListings.{shows_types, type_lines};
 
     ghost Value = { List (List ℕ) };

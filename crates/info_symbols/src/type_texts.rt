@@ -3,7 +3,7 @@
 ghost use Rattle.std.specs.Prelude.{◌≡◌, ◌++◌, true, IfOk, OnOk, map};
 ghost use Rattle.std.specs.List.{filter};
 ghost use Rattle.pol_fields.specs.declared.TableKind.TheVariants.{Types};
-ghost use Rattle.info_symbols.specs.AliasLists.{AreAliases};
+ghost use Rattle.info_symbols.specs.Inner.AliasLists.{AreAliases};
 ghost use Rattle.info_symbols.specs.TypeStatements.{attribute_names, attributes_of_type, attributes_text, is_attribute, may_be_type, type_statement};
 
 use crate::aliases::{Aliases, push_aliases};

@@ -16,7 +16,7 @@ use Rattle.pol_symbols.specs.PolicySymbols.{name_in, count_in}
 use Rattle.pol_symbols.specs.declared.Symbols.{Symbols}
 use Rattle.regex.specs.Patterns.{Re}
 use Rattle.named_values.specs.Found.{has_pattern, of_name}
-use Rattle.named_values.specs.RecordValues.{record_values}
+use Rattle.named_values.specs.Inner.RecordValues.{record_values}
 use Rattle.named_values.proofs.Tests.{same_tests, or_left, or_right, or_cases}
 
 pub get_map : {X Y : Type 0} (f : X → Y) (xs : List X) (i : ℕ) (x : X) → slice_get xs i ≡ Some x → slice_get (map f xs) i ≡ Some (f x)

@@ -1,3 +1,3 @@
 pub mod Named
 pub mod Found
-pub mod RecordValues
+pub mod Inner

@@ -7,7 +7,7 @@ ghost use Rattle.pol_symbols.specs.PolicySymbols.{name_in};
 ghost use Rattle.regex.specs.Strings.{regex_pattern, matcher_pattern};
 ghost use Rattle.se_outside.specs.Patterns.{IsBuiltFrom};
 ghost use Rattle.named_values.specs.Found.{has_pattern, of_name, is_found};
-ghost use Rattle.named_values.specs.RecordValues.{record_values};
+ghost use Rattle.named_values.specs.Inner.RecordValues.{record_values};
 
 use crate::record_values::value_at;
 use crate::value_sets::set_of;

@@ -1,7 +1,7 @@
 // The values of the records of a table.
 ghost use Rattle.std.specs.Prelude.{◌≡◌, ◌<◌, Some, slice_get};
 ghost use Rattle.pol_symbols.specs.PolicySymbols.{count_in};
-ghost use Rattle.named_values.specs.RecordValues.{record_values};
+ghost use Rattle.named_values.specs.Inner.RecordValues.{record_values};
 
 use pol_fields::TableKind;
 use pol_symbols::Symbols;

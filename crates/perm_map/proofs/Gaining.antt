@@ -14,8 +14,8 @@ use Rattle.indexmap.specs.IndexMap.{insert_entry}
 use Rattle.perm_map.specs.declared.direction.Direction.{Direction}
 use Rattle.perm_map.specs.declared.map.Key.{Key}
 use Rattle.perm_map.specs.PermissionMap.{Entry, Weights, is_for, weights_of}
-use Rattle.perm_map.specs.MapReading.{with_entries, with_entry}
-use Rattle.perm_map.specs.KeyedWeights.{entries_kept, entry_kept}
+use Rattle.perm_map.specs.Inner.MapReading.{with_entries, with_entry}
+use Rattle.perm_map.specs.Inner.KeyedWeights.{entries_kept, entry_kept}
 
 abbrev weight_of : Entry → Direction × ℕ
 weight_of entry = (entry.direction, entry.weight)

@@ -2,6 +2,4 @@ pub mod MapFaults
 pub mod MapLines
 pub mod MapFields
 pub mod PermissionMap
-pub mod MapReading
-pub mod RowViews
-pub mod KeyedWeights
+pub mod Inner

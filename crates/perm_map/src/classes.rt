@@ -1,6 +1,6 @@
 // The classes of a map with their permissions.
 ghost use Rattle.perm_map.specs.PermissionMap.{class_at, classes_at, permission_at, times};
-ghost use Rattle.perm_map.specs.MapReading.{Reads};
+ghost use Rattle.perm_map.specs.Inner.MapReading.{Reads};
 
 use crate::map::PermMap;
 use crate::map_fault::MapError;

@@ -1,7 +1,7 @@
 // The fields of a line.
 ghost use Rattle.std.specs.Prelude.{◌≡◌, ◌<◌, [], ◌∷◌, false, MatchOption, length, not, option_map, position, slice_index};
 ghost use Rattle.perm_map.specs.MapLines.{begins_comment, fields_in, parts_fields, pieces_of};
-ghost use Rattle.perm_map.specs.MapReading.{Three, three_of};
+ghost use Rattle.perm_map.specs.Inner.MapReading.{Three, three_of};
 
 /// Three fields, where a line has no others.
 #[derive(Clone, Copy)]

@@ -1,7 +1,7 @@
 ghost use Rattle.std.specs.Prelude.{◌≡◌, ◌≤◌, [], length, OnOk};
 ghost use Rattle.perm_map.specs.PermissionMap.{IsMap, entry_of, map_of, weights_of};
-ghost use Rattle.perm_map.specs.MapReading.{with_entry};
-ghost use Rattle.perm_map.specs.RowViews.{permission_line_of};
+ghost use Rattle.perm_map.specs.Inner.MapReading.{with_entry};
+ghost use Rattle.perm_map.specs.Inner.RowViews.{permission_line_of};
 
 use crate::classes::read_classes;
 use crate::direction::Direction;
@@ -31,7 +31,7 @@ pub struct PermMap<'a> {
 impl<'a> Model for PermMap<'a> {
     ghost use Rattle.std.specs.Prelude.{List};
     ghost use Rattle.perm_map.specs.PermissionMap.{Entry};
-    ghost use Rattle.perm_map.specs.KeyedWeights.{entries_kept};
+    ghost use Rattle.perm_map.specs.Inner.KeyedWeights.{entries_kept};
 
     ghost Value = { List Entry };
 

@@ -1,7 +1,7 @@
 // The lines of each kind, one after the other.
 ghost use Rattle.perm_map.specs.MapFields.{class_in, count_in, permission_in};
-ghost use Rattle.perm_map.specs.MapReading.{Takes};
-ghost use Rattle.perm_map.specs.RowViews.{class_line_of, permission_line_of, RowComes};
+ghost use Rattle.perm_map.specs.Inner.MapReading.{Takes};
+ghost use Rattle.perm_map.specs.Inner.RowViews.{class_line_of, permission_line_of, RowComes};
 
 use crate::lines::{ClassLine, PermissionLine, class_line, count_line, permission_line};
 use crate::map_fault::{MapCause, MapFault};

@@ -1,7 +1,7 @@
 // The lines of a map, one after the other.
 ghost use Rattle.std.specs.Prelude.{◌≡◌, ◌<◌, ◌≤◌, ◌+◌, [], ◌∷◌, MatchOption, MatchResult, IfSome, length, not, position, ◌==◌};
 ghost use Rattle.std.specs.Str.Lines.{strip_carriage_return};
-ghost use Rattle.perm_map.specs.RowViews.{row_of};
+ghost use Rattle.perm_map.specs.Inner.RowViews.{row_of};
 ghost use Rattle.perm_map.specs.MapLines.{fields_in, is_empty, lines_of, rows_from};
 
 use crate::fields::first_field;
@@ -27,7 +27,7 @@ pub struct Rows<'a> {
 impl<'a> Model for Rows<'a> {
     ghost use Rattle.std.specs.Prelude.{◌+◌, ◌<◌, length};
     ghost use Rattle.perm_map.specs.MapLines.{lines_of, rows_from};
-    ghost use Rattle.perm_map.specs.MapReading.{Rest};
+    ghost use Rattle.perm_map.specs.Inner.MapReading.{Rest};
 
     ghost Value = { Rest };
 
@@ -94,7 +94,7 @@ fn find_row(bytes: &[u8], taken: u32) -> Result<(Row<'_>, &[u8]), u32>
 }
 
 impl<'a> Rows<'a> {
-    ghost use Rattle.perm_map.specs.RowViews.{row_of};
+    ghost use Rattle.perm_map.specs.Inner.RowViews.{row_of};
 
     /// The lines of some bytes.
     #[tactic(auto, using(crate::proofs::LineLemmas::length_lines))]

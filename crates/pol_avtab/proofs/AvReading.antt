@@ -17,7 +17,7 @@ use Rattle.pol_avtab.specs.declared.av_key.AvKey.{AvKey}
 use Rattle.pol_avtab.specs.declared.av_rec.AvRec.{AvRec}
 use Rattle.pol_avtab.specs.AvKeys.{kind_of, key_of, has_key, word_of}
 use Rattle.pol_avtab.specs.AvRecord.{is_extended, is_kind, standing_test, specified_test, xkind_test, extended_at, data_at, part_at, av_at, specified_in, part_in, av_in, av_length, av_end}
-use Rattle.pol_avtab.specs.InnerKeys.{IsFirst}
+use Rattle.pol_avtab.specs.Inner.DuplicateKeys.{IsFirst}
 
 extended_is : (a b : ℕ) (bits : List ℕ) (a' b' : ℕ) (bits' : List ℕ) → a ≡ a' → b ≡ b' → bits ≡ bits' → Extended a b bits ≡ Extended a' b' bits'
 extended_is a b bits a' b' bits' p q r = rw (p, q, r) refl

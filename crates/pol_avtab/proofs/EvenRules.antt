@@ -6,15 +6,15 @@ use Rattle.std.specs.List.{AllByRecursion, IsDistinct}
 use Rattle.std.proofs.lemmas.List.{map-append}
 use Rattle.pol_fields.specs.declared.fields.TheConstants.{AVTAB_NEL}
 use Rattle.pol_cursor.specs.Outcome.{Got, Position}
-use Rattle.pol_cursor.specs.EvenPlaces.{even_places}
+use Rattle.pol_cursor.specs.Inner.EvenPlaces.{even_places}
 use Rattle.pol_cursor.specs.Parts.{num, number, list_of}
 use Rattle.pol_cursor.specs.References.{Placed, placed}
 use Rattle.pol_cursor.specs.Contexts.{records_after}
 use Rattle.pol_avtab.specs.declared.av_rec.AvRec.{AvRec}
 use Rattle.pol_avtab.specs.AvRecord.{is_kind, specified_in, av_at, av_in, HasAv}
 use Rattle.pol_avtab.specs.AvTables.{placed_rules_at, table_at}
-use Rattle.pol_avtab.specs.EvenRules.{even_rules, HasEven}
-use Rattle.pol_avtab.specs.InnerKeys.{rules_behind, words_of, IsRead}
+use Rattle.pol_avtab.specs.Inner.EvenRules.{even_rules, HasEven}
+use Rattle.pol_avtab.specs.Inner.DuplicateKeys.{rules_behind, words_of, IsRead}
 use Rattle.pol_avtab.proofs.AvReading.{plain_read, plain_end, kind_word, kind_unextended}
 use Rattle.pol_avtab.proofs.KeyWords.{kept, words_pushed, distinct_read}
 

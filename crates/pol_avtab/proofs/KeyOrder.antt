@@ -9,7 +9,7 @@ use Rattle.std.proofs.lemmas.Bool.{ne_eqb}
 use Rattle.std.proofs.lemmas.List.Elements.{Contains-append_right, Contains-append_cases}
 use Rattle.pol_bitmap.proofs.Elements.{contains_nothing, contains_one, contains_first}
 use Rattle.pol_avtab.specs.declared.key_order.LastKey.{LastKey}
-use Rattle.pol_avtab.specs.InnerKeys.{slot_of, place_in_slot, order_in, order_of, last_order, kind_bit, IsPassed, Follows, AreRising}
+use Rattle.pol_avtab.specs.Inner.DuplicateKeys.{slot_of, place_in_slot, order_in, order_of, last_order, kind_bit, IsPassed, Follows, AreRising}
 
 min_more : (a b c : ℕ) → min a c ≡ c → min (max a b) c ≡ c
 min_more a b c e = omega (e, arith)

@@ -24,7 +24,7 @@ use Rattle.pol_avtab.specs.declared.av_rec.AvPart.{AvPart}
 use Rattle.pol_avtab.specs.AvKeys.{kind_of, key_of, same_key, has_key, with_key, word_of}
 use Rattle.pol_avtab.specs.AvRecord.{is_extended, is_kind, specified_test, part_at, av_at}
 use Rattle.pol_avtab.specs.AvTables.{rule_at, after_rule, placed_rules_at}
-use Rattle.pol_avtab.specs.InnerKeys.{rule_behind, after_collecting, rules_behind, words_of}
+use Rattle.pol_avtab.specs.Inner.DuplicateKeys.{rule_behind, after_collecting, rules_behind, words_of}
 
 -- ---- what was read was read by parts
 

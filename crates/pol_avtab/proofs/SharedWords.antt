@@ -9,8 +9,8 @@ use Rattle.std.proofs.lemmas.Nat.Bits.{bit_at-zero}
 use Rattle.std.proofs.lemmas.List.{get_or-replicate, get_or_past, length-replicate}
 use Rattle.std.proofs.lemmas.List.Elements.{Contains-append_right, Contains-append_cases}
 use Rattle.pol_bitmap.proofs.Elements.{contains_nothing, contains_one, contains_first, keeps}
-use Rattle.pol_cursor.specs.BitPlaces.{has_bit_of}
-use Rattle.pol_avtab.specs.InnerKeys.{Marks, HasBuckets, bucket_of, is_met, is_shared, AreTested, AreMarked}
+use Rattle.pol_cursor.specs.Inner.BitPlaces.{has_bit_of}
+use Rattle.pol_avtab.specs.Inner.DuplicateKeys.{Marks, HasBuckets, bucket_of, is_met, is_shared, AreTested, AreMarked}
 
 -- ---- one word more
 

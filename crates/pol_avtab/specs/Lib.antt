@@ -2,5 +2,4 @@ pub mod AvKeys
 pub mod AvRecord
 pub mod XPerms
 pub mod AvTables
-pub mod InnerKeys
-pub mod EvenRules
+pub mod Inner

@@ -3,7 +3,7 @@
 ghost use Rattle.std.specs.Prelude.{◌≡◌, None, IfOk, OnOk};
 ghost use Rattle.pol_cursor.specs.Outcome.{Answers, Yields};
 ghost use Rattle.pol_avtab.specs.AvRecord.{av_at, av_in, av_end, HasAv, av_references};
-ghost use Rattle.pol_avtab.specs.InnerKeys.{rule_behind, after_collecting};
+ghost use Rattle.pol_avtab.specs.Inner.DuplicateKeys.{rule_behind, after_collecting};
 
 use crate::av_keys::AvKeys;
 use crate::av_rec::AvRec;
@@ -25,7 +25,7 @@ pub struct AvContext {
 }
 
 impl Model for AvContext {
-    ghost use Rattle.pol_avtab.specs.InnerKeys.{Collecting};
+    ghost use Rattle.pol_avtab.specs.Inner.DuplicateKeys.{Collecting};
 
     ghost Value = { Collecting };
 

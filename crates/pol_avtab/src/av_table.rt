@@ -3,7 +3,7 @@ ghost use Rattle.std.specs.List.{IsDistinct, filter};
 ghost use Rattle.std.specs.Option.{option_to_list};
 ghost use Rattle.pol_cursor.specs.Outcome.{Yields};
 ghost use Rattle.pol_avtab.specs.AvTables.{placed_rules_at, table_at};
-ghost use Rattle.pol_avtab.specs.InnerKeys.{rules_behind, words_of, AreMarked, is_shared, IsRead};
+ghost use Rattle.pol_avtab.specs.Inner.DuplicateKeys.{rules_behind, words_of, AreMarked, is_shared, IsRead};
 
 use crate::av_keys::AvKeys;
 use crate::av_kind::{Av, AvContext};
@@ -85,7 +85,7 @@ fn read_distinct<'a>(
 }
 
 // The next n rules, each read behind those before it, or, where keys are not collected, as if it were the first.
-#[tactic(auto, unfolding(crate::specs::InnerKeys::rules_behind))]
+#[tactic(auto, unfolding(crate::specs::Inner::DuplicateKeys::rules_behind))]
 fn read_rules<'a>(
     alloc: Global,
     c: &mut Cursor<'a>,

@@ -4,7 +4,7 @@ ghost use Rattle.pol_cursor.specs.References.{dangling_of};
 ghost use Rattle.pol_fields.specs.declared.TableKind.TheVariants.{Types, Classes};
 ghost use Rattle.pol_avtab.specs.AvKeys.{key_of, has_key, word_of};
 ghost use Rattle.pol_avtab.specs.AvRecord.{is_extended, is_kind, extended_at, part_at, av_at, av_in, specified_in, part_in, av_length, av_end, HasAv, av_references, part_references, is_default};
-ghost use Rattle.pol_avtab.specs.InnerKeys.{IsFirst};
+ghost use Rattle.pol_avtab.specs.Inner.DuplicateKeys.{IsFirst};
 ghost use Rattle.pol_avtab.specs.XPerms.{mask_of, xperms_of};
 
 use crate::av_key::AvKey;

@@ -2,8 +2,8 @@
 
 ghost use Rattle.std.specs.Prelude.{◌≡◌, ◌<◌, ◌≤◌, ◌+◌, ◌*◌, ◌==◌, ℕ, Bool, Some, true, false, length, option_map};
 ghost use Rattle.std.specs.List.{IsDistinct};
-ghost use Rattle.pol_avtab.specs.EvenRules.{even_rules, HasEven};
-ghost use Rattle.pol_avtab.specs.InnerKeys.{rules_behind, words_of, IsRead};
+ghost use Rattle.pol_avtab.specs.Inner.EvenRules.{even_rules, HasEven};
+ghost use Rattle.pol_avtab.specs.Inner.DuplicateKeys.{rules_behind, words_of, IsRead};
 
 use crate::av_table::AvTable;
 use crate::av_view::is_plain_kind;

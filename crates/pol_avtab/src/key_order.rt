@@ -1,5 +1,5 @@
 ghost use Rattle.std.specs.Prelude.{◌≡◌, ◌<◌, ◌++◌, ◌∷◌, [], ℕ, List, true, slice_index};
-ghost use Rattle.pol_avtab.specs.InnerKeys.{hashed, finished, slot_of, place_in_slot, AreRising, Follows};
+ghost use Rattle.pol_avtab.specs.Inner.DuplicateKeys.{hashed, finished, slot_of, place_in_slot, AreRising, Follows};
 
 // libsepol's MAX_AVTAB_HASH_BUCKETS.
 const SLOTS: u32 = 0x10_0000;
@@ -96,7 +96,7 @@ impl LastKey {
 
 // The slot of a key in libsepol's table, one of the most that it has.
 #[inline(always)]
-#[tactic(auto, unfolding(crate::specs::InnerKeys::slot_of))]
+#[tactic(auto, unfolding(crate::specs::Inner::DuplicateKeys::slot_of))]
 fn slot_of(hashes: &ClassHashes, word: u64) -> u32
     ensures { result ≡ slot_of word }
 {
@@ -108,7 +108,7 @@ fn slot_of(hashes: &ClassHashes, word: u64) -> u32
 }
 
 // The place of a key in its slot: its source, its target and the low bits of its class.
-#[tactic(auto, unfolding(crate::specs::InnerKeys::place_in_slot))]
+#[tactic(auto, unfolding(crate::specs::Inner::DuplicateKeys::place_in_slot))]
 fn place_in_slot(word: u64) -> u64
     ensures { result ≡ place_in_slot word }
 {
@@ -120,7 +120,7 @@ fn place_in_slot(word: u64) -> u64
 
 // libsepol's hash with one more number (the macro `mix` of `avtab_hash`).
 #[inline(always)]
-#[tactic(auto, unfolding(crate::specs::InnerKeys::hashed))]
+#[tactic(auto, unfolding(crate::specs::Inner::DuplicateKeys::hashed))]
 fn hashed(hash: u32, number: u32) -> u32
     ensures { result ≡ hashed hash number }
 {
@@ -134,7 +134,7 @@ fn hashed(hash: u32, number: u32) -> u32
 
 // libsepol's hash when all numbers are in it.
 #[inline(always)]
-#[tactic(auto, unfolding(crate::specs::InnerKeys::finished))]
+#[tactic(auto, unfolding(crate::specs::Inner::DuplicateKeys::finished))]
 fn finished(hash: u32) -> u32
     ensures { result ≡ finished hash }
 {

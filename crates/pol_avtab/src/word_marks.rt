@@ -1,6 +1,6 @@
 ghost use Rattle.std.specs.Prelude.{◌≡◌, ◌+◌, ◌*◌, ◌<◌, ◌++◌, ℕ, List, true, false, IfOk, OnOk, length};
 ghost use Rattle.std.specs.List.{filter};
-ghost use Rattle.pol_avtab.specs.InnerKeys.{bucket_of, is_met, is_shared, AreMarked};
+ghost use Rattle.pol_avtab.specs.Inner.DuplicateKeys.{bucket_of, is_met, is_shared, AreMarked};
 
 use pol_cursor::{has_bit, set_bit};
 use std::alloc::{AllocError, Global};
@@ -16,7 +16,7 @@ pub struct WordMarks {
 }
 
 impl Model for WordMarks {
-    ghost use Rattle.pol_avtab.specs.InnerKeys.{Marks, HasBuckets};
+    ghost use Rattle.pol_avtab.specs.Inner.DuplicateKeys.{Marks, HasBuckets};
 
     ghost Value = { Marks };
 

@@ -1,4 +1,4 @@
 pub mod ConstraintLists
 pub mod ClassRecord
-pub mod ClassFreshness
 pub mod ClassTables
+pub mod Inner

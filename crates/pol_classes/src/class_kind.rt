@@ -70,7 +70,7 @@ impl<const VERSION: u32> SymbolKind for Class<VERSION> {
 
 impl<'a, const VERSION: u32> Symbol<'a> for Class<VERSION> {
     ghost use Rattle.std.specs.Prelude.{refl};
-    ghost use Rattle.pol_classes.specs.ClassFreshness.{class_is_fresh};
+    ghost use Rattle.pol_classes.specs.Inner.ClassFreshness.{class_is_fresh};
 
     ghost nprim_of = { λ context. context.table.nprim };
 

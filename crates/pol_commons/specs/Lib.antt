@@ -1,5 +1,5 @@
 pub mod PermissionRecord
 pub mod Permissions
 pub mod CommonRecord
-pub mod CommonFreshness
 pub mod CommonTable
+pub mod Inner

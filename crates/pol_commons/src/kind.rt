@@ -61,7 +61,7 @@ impl SymbolKind for Common {
 
 impl<'a> Symbol<'a> for Common {
     ghost use Rattle.std.specs.Prelude.{refl};
-    ghost use Rattle.pol_commons.specs.CommonFreshness.{common_is_fresh};
+    ghost use Rattle.pol_commons.specs.Inner.CommonFreshness.{common_is_fresh};
 
     ghost nprim_of = { λ context. context.nprim };
 

@@ -12,7 +12,7 @@ use Rattle.pol_avtab.specs.AvRecord.{av_in, av_end, HasAv}
 use Rattle.pol_conditionals.specs.CondNodeRecord.{true_count_place, false_count_place, condnode_in, HasCondNode, branch_rules, rules_of_branch}
 use Rattle.pol_conditionals.proofs.RulePlaces.{true_rules_are, false_rules_are}
 use Rattle.pol_conditionals.specs.declared.place_groups.Span.{Span}
-use Rattle.pol_conditionals.specs.PlaceGroups.{numbers_in, IsWithin, groups_of, AreWithin, places_of}
+use Rattle.pol_conditionals.specs.Inner.PlaceGroups.{numbers_in, IsWithin, groups_of, AreWithin, places_of}
 
 -- a span is within
 pub group_within : (numbers : List ℕ) (spans : List Span) (i : ℕ) (span : Span) → AreWithin numbers spans → slice_get spans i ≡ Some span → span.first + span.len ≤ length numbers

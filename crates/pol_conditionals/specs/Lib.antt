@@ -1,3 +1,3 @@
 pub mod CondNodeRecord
 pub mod CondNodeList
-pub mod PlaceGroups
+pub mod Inner

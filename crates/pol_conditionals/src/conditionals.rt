@@ -2,7 +2,7 @@ ghost use Rattle.std.specs.Prelude.{◌≡◌, ◌<◌, ◌^◌, Some, IfOk, OnO
 ghost use Rattle.pol_cursor.specs.Outcome.{Yields};
 ghost use Rattle.pol_conditionals.specs.CondNodeRecord.{condnode_at, condnode_in, HasCondNode, node_condition, branch_rules, rules_of_branch, condnode_references};
 ghost use Rattle.pol_conditionals.specs.CondNodeList.{conditionals_at};
-ghost use Rattle.pol_conditionals.specs.PlaceGroups.{places_of};
+ghost use Rattle.pol_conditionals.specs.Inner.PlaceGroups.{places_of};
 
 use crate::condnode_rec::CondNodeRec;
 use crate::condnode_view::{CondNodeView, read_condnode};
@@ -85,7 +85,7 @@ impl<'a> Model for Conditionals<'a> {
     ghost use Rattle.pol_cursor.specs.References.{Placed};
     ghost use Rattle.pol_conditionals.specs.declared.condnode_rec.CondNodeRec.{CondNodeRec};
     ghost use Rattle.pol_conditionals.specs.CondNodeRecord.{branch_rules};
-    ghost use Rattle.pol_conditionals.specs.PlaceGroups.{places_of};
+    ghost use Rattle.pol_conditionals.specs.Inner.PlaceGroups.{places_of};
 
     ghost Value = { List (Placed CondNodeRec) };
 

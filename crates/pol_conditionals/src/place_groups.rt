@@ -1,5 +1,5 @@
 ghost use Rattle.std.specs.Prelude.{◌≡◌, ◌<◌, ◌^◌, ◌∷◌, ◌++◌, [], OnOk, Some, length, drop, slice_get};
-ghost use Rattle.pol_conditionals.specs.PlaceGroups.{places_of};
+ghost use Rattle.pol_conditionals.specs.Inner.PlaceGroups.{places_of};
 
 use pol_avtab::Av;
 use pol_cursor::Run;
@@ -22,7 +22,7 @@ pub struct PlaceGroups {
 
 impl Model for PlaceGroups {
     ghost use Rattle.std.specs.Prelude.{ℕ, List};
-    ghost use Rattle.pol_conditionals.specs.PlaceGroups.{groups_of, AreWithin};
+    ghost use Rattle.pol_conditionals.specs.Inner.PlaceGroups.{groups_of, AreWithin};
 
     ghost Value = { List (List ℕ) };
 

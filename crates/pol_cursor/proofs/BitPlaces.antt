@@ -5,7 +5,7 @@ use Rattle.std.specs.Int.{bit_at, w64}
 use Rattle.std.proofs.lemmas.Bool.{cases_eq, or_right, eq-eqb, ne_eqb}
 use Rattle.std.proofs.lemmas.Nat.Bits.{bit_at_set_same, bit_at_set_other}
 use Rattle.std.proofs.lemmas.List.{get_or-set_same, get_or-set_other}
-use Rattle.pol_cursor.specs.BitPlaces.{has_bit_of}
+use Rattle.pol_cursor.specs.Inner.BitPlaces.{has_bit_of}
 
 pub or_nothing : (a : Bool) → (a || false) ≡ a
 or_nothing true = refl

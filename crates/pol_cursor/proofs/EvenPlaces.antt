@@ -5,7 +5,7 @@ use Rattle.std.proofs.lemmas.List.{append-nil}
 use Rattle.std.specs.Prelude.{map, option_map}
 use Rattle.std.specs.List.{AllByRecursion}
 use Rattle.std.proofs.lemmas.Option.{slice_get-map}
-use Rattle.pol_cursor.specs.EvenPlaces.{even_places}
+use Rattle.pol_cursor.specs.Inner.EvenPlaces.{even_places}
 
 pub even_length : (step place n : ℕ) → length (even_places step place n) ≡ n
 unfolding even_places

@@ -8,5 +8,4 @@ pub mod Mentions
 pub mod Runs
 pub mod Contexts
 pub mod Writing
-pub mod EvenPlaces
-pub mod BitPlaces
+pub mod Inner

@@ -1,7 +1,7 @@
 //! Bits by their places, each number of 64 bits holding those of as many places.
 
 ghost use Rattle.std.specs.Prelude.{◌≡◌, ◌*◌, ◌<◌, ◌==◌, ◌||◌, ℕ, length};
-ghost use Rattle.pol_cursor.specs.BitPlaces.{has_bit_of};
+ghost use Rattle.pol_cursor.specs.Inner.BitPlaces.{has_bit_of};
 
 /// Whether the bit of a place is set. Behind the last number none is.
 pub fn has_bit(bits: &[u64], place: usize) -> bool

@@ -1,7 +1,7 @@
 //! The places of records that are all as long, one behind the other.
 
 ghost use Rattle.std.specs.Prelude.{◌≡◌, ◌<◌, ◌+◌, ◌*◌, ◌^◌, [], Some, length, slice_get};
-ghost use Rattle.pol_cursor.specs.EvenPlaces.{even_places};
+ghost use Rattle.pol_cursor.specs.Inner.EvenPlaces.{even_places};
 
 use std::marker::Model;
 
@@ -15,7 +15,7 @@ pub(crate) struct EvenPlaces {
 
 impl Model for EvenPlaces {
     ghost use Rattle.std.specs.Prelude.{ℕ, List, ◌<◌, ◌+◌, ◌*◌, ◌^◌};
-    ghost use Rattle.pol_cursor.specs.EvenPlaces.{even_places};
+    ghost use Rattle.pol_cursor.specs.Inner.EvenPlaces.{even_places};
 
     ghost Value = { List ℕ };
 
@@ -26,7 +26,7 @@ impl Model for EvenPlaces {
 
 impl EvenPlaces {
     /// None.
-    #[tactic(auto, unfolding(crate::specs::EvenPlaces::even_places))]
+    #[tactic(auto, unfolding(crate::specs::Inner::EvenPlaces::even_places))]
     pub(crate) fn none() -> EvenPlaces
         ensures { result ≡ [] }
     {

@@ -4,7 +4,7 @@ ghost use Rattle.std.specs.List.{AllByRecursion};
 ghost use Rattle.pol_cursor.specs.Outcome.{Outcome, Answers, Yields};
 ghost use Rattle.pol_cursor.specs.Parts.{counted, records_at};
 ghost use Rattle.pol_cursor.specs.Contexts.{context_after, records_after};
-ghost use Rattle.pol_cursor.specs.EvenPlaces.{even_places};
+ghost use Rattle.pol_cursor.specs.Inner.EvenPlaces.{even_places};
 ghost use Rattle.pol_cursor.specs.References.{placed};
 
 use crate::even_places::EvenPlaces;

@@ -6,4 +6,4 @@ pub mod TypeRecord
 pub mod BooleanRecord
 pub mod SensitivityRecord
 pub mod CategoryRecord
-pub mod DatumFreshness
+pub mod Inner

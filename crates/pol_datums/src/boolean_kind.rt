@@ -11,7 +11,7 @@ pub type Boolean = DatumKind<BooleanRec>;
 impl Datum for BooleanRec {
     ghost use Rattle.std.specs.Prelude.{true};
     ghost use Rattle.pol_datums.specs.BooleanRecord.{boolean_at, boolean_in, HasBoolean, BooleanFits};
-    ghost use Rattle.pol_datums.specs.DatumFreshness.{boolean_is_fresh};
+    ghost use Rattle.pol_datums.specs.Inner.DatumFreshness.{boolean_is_fresh};
 
     ghost standing = { boolean_in };
 

@@ -12,7 +12,7 @@ pub type Category = DatumKind<CategoryRec>;
 impl Datum for CategoryRec {
     ghost use Rattle.pol_datums.specs.Flags.{is_primary_flag};
     ghost use Rattle.pol_datums.specs.CategoryRecord.{category_at, category_in, HasCategory, CategoryFits};
-    ghost use Rattle.pol_datums.specs.DatumFreshness.{category_is_fresh};
+    ghost use Rattle.pol_datums.specs.Inner.DatumFreshness.{category_is_fresh};
 
     ghost standing = { category_in };
 

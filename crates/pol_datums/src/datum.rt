@@ -3,7 +3,7 @@ ghost use Rattle.std.specs.Prelude.{◌≡◌, ℕ, Bool, List, Some, None, IfOk
 ghost use Rattle.pol_cursor.specs.Outcome.{Reader, Answers};
 ghost use Rattle.pol_cursor.specs.References.{dangling_of};
 ghost use Rattle.pol_symtab.specs.Claims.{Claims};
-ghost use Rattle.pol_symtab.specs.Freshness.{Gives, IsFresh};
+ghost use Rattle.pol_symtab.specs.Inner.Freshness.{Gives, IsFresh};
 
 use pol_cursor::{
     Copied, Cursor, Names, ReadAfter, ReadError, Record, RecordView, Referring, Written,
@@ -158,7 +158,7 @@ impl<'a, R: Datum> RecordView<'a> for DatumKind<R> {
 }
 
 impl<'a, R: Datum> ReadAfter<'a> for DatumKind<R> {
-    ghost use Rattle.pol_symtab.specs.Freshness.{claims_after};
+    ghost use Rattle.pol_symtab.specs.Inner.Freshness.{claims_after};
 
     type Context = TableContext<'a>;
 

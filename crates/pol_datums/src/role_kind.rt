@@ -11,7 +11,7 @@ pub type Role = DatumKind<RoleRec>;
 impl Datum for RoleRec {
     ghost use Rattle.std.specs.Prelude.{true};
     ghost use Rattle.pol_datums.specs.RoleRecord.{role_at, role_in, HasRole, RoleFits};
-    ghost use Rattle.pol_datums.specs.DatumFreshness.{role_is_fresh};
+    ghost use Rattle.pol_datums.specs.Inner.DatumFreshness.{role_is_fresh};
 
     ghost standing = { role_in };
 

@@ -12,7 +12,7 @@ pub type Sensitivity = DatumKind<SensitivityRec>;
 impl Datum for SensitivityRec {
     ghost use Rattle.pol_datums.specs.Flags.{is_primary_flag};
     ghost use Rattle.pol_datums.specs.SensitivityRecord.{sensitivity_at, sensitivity_in, HasSensitivity, SensitivityFits};
-    ghost use Rattle.pol_datums.specs.DatumFreshness.{sensitivity_is_fresh};
+    ghost use Rattle.pol_datums.specs.Inner.DatumFreshness.{sensitivity_is_fresh};
 
     ghost standing = { sensitivity_in };
 

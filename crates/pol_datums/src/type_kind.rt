@@ -11,7 +11,7 @@ pub type Type = DatumKind<TypeRec>;
 
 impl Datum for TypeRec {
     ghost use Rattle.pol_datums.specs.TypeRecord.{type_at, type_in, HasType, TypeFits, is_primary_type};
-    ghost use Rattle.pol_datums.specs.DatumFreshness.{type_is_fresh};
+    ghost use Rattle.pol_datums.specs.Inner.DatumFreshness.{type_is_fresh};
 
     ghost standing = { type_in };
 

@@ -20,7 +20,7 @@ use Rattle.pol_bitmap.proofs.LowestBits.{no_bits}
 use Rattle.pol_bitmap.proofs.Merging.{IsRisingTo, fits-more, made-end}
 use Rattle.pol_bitmap.proofs.SetMaking.{before_below, starts_below}
 use Rattle.pol_expand.specs.Expansion.{HaveRows, row_of}
-use Rattle.pol_expand.specs.Inverting.{attribute_bits, has_attribute, is_one_of, word_has_type, GainType, AreWords, HaveRoom, GainNodes, AreListsBelow, AreLists}
+use Rattle.pol_expand.specs.Inner.Inverting.{attribute_bits, has_attribute, is_one_of, word_has_type, GainType, AreWords, HaveRoom, GainNodes, AreListsBelow, AreLists}
 use Rattle.pol_expand.proofs.Values.{filter_rises, same_tests}
 
 -- ---- bits

@@ -11,7 +11,7 @@ use Rattle.pol_bitmap.specs.Nodes.{bits_of, has_bit}
 use Rattle.pol_bitmap.specs.Sets.{ShareBit}
 use Rattle.pol_bitmap.proofs.BitLists.{bits-from_has_bit}
 use Rattle.pol_expand.specs.Expansion.{expansion, expand_by, expand_all, expansion_of, HaveRows}
-use Rattle.pol_expand.specs.Inverting.{has_attribute, AreLists, listed, listed_all, IsInversion}
+use Rattle.pol_expand.specs.Inner.Inverting.{has_attribute, AreLists, listed, listed_all, IsInversion}
 
 pub listed_at : (attributes : List Node) (sets : List (List Node)) (value : ℕ) → 1 ≤ value → value ≤ length sets → expansion_of (listed_all attributes sets) value ≡ listed attributes sets value
 unfolding listed_all

@@ -12,7 +12,7 @@ use Rattle.pol_bitmap.specs.declared.node.Node.{Node}
 use Rattle.pol_bitmap.specs.Nodes.{bits_of}
 use Rattle.pol_bitmap.specs.Kept.{IsNumberOf}
 use Rattle.pol_expand.specs.Expansion.{IsNumberOfBits, expansion_of}
-use Rattle.pol_expand.specs.Inverting.{AreNumbers}
+use Rattle.pol_expand.specs.Inner.Inverting.{AreNumbers}
 
 -- ---- the number of a set
 

@@ -10,7 +10,7 @@ use Rattle.pol_bitmap.specs.Sets.{ShareBit, IsCommon, IsUnion}
 use Rattle.pol_bitmap.proofs.BitLists.{bits-from_has_bit, has_bit-from_bits}
 use Rattle.pol_bitmap.proofs.Elements.{contains_nothing, contains_one, contains_first, keeps, contains_range}
 use Rattle.pol_expand.specs.Expansion.{expansion_of, IsDeclared, IsTouching}
-use Rattle.pol_expand.specs.Inverting.{listed_all, touches, IsInversion}
+use Rattle.pol_expand.specs.Inner.Inverting.{listed_all, touches, IsInversion}
 use Rattle.pol_expand.proofs.Listing.{listed_at, type_listed}
 use Rattle.pol_expand.proofs.Values.{same_tests}
 

@@ -1,4 +1,4 @@
 pub mod Expansion
 pub mod Flavours
-pub mod Inverting
 pub mod PolicyMap
+pub mod Inner

@@ -4,7 +4,7 @@ ghost use Rattle.std.specs.List.{All};
 ghost use Rattle.std.specs.List.Sorted.{IsStrictlyIncreasing};
 ghost use Rattle.pol_bitmap.specs.Nodes.{bits_of, has_bit};
 ghost use Rattle.pol_expand.specs.Expansion.{HaveRows};
-ghost use Rattle.pol_expand.specs.Inverting.{attribute_bits, has_attribute, AreLists, AreWords, GainNodes, GainType, HaveRoom};
+ghost use Rattle.pol_expand.specs.Inner.Inverting.{attribute_bits, has_attribute, AreLists, AreWords, GainNodes, GainType, HaveRoom};
 
 use crate::type_list::TypeList;
 use pol_bitmap::{BitmapView, Set};

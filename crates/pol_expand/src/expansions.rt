@@ -21,7 +21,7 @@ pub struct TypeMap {
 
 impl Model for TypeMap {
     ghost use Rattle.pol_expand.specs.Expansion.{Expansions};
-    ghost use Rattle.pol_expand.specs.Inverting.{AreNumbers};
+    ghost use Rattle.pol_expand.specs.Inner.Inverting.{AreNumbers};
 
     ghost Value = { Expansions };
 

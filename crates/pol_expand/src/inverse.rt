@@ -3,7 +3,7 @@ ghost use Rattle.std.specs.List.{filter, range_with_len};
 ghost use Rattle.pol_bitmap.specs.Nodes.{bits_of};
 ghost use Rattle.pol_bitmap.specs.Sets.{IsSet, ShareBit};
 ghost use Rattle.pol_expand.specs.Expansion.{expand_all, expansion_of, HaveRows, IsDeclared, IsTouching};
-ghost use Rattle.pol_expand.specs.Inverting.{touches};
+ghost use Rattle.pol_expand.specs.Inner.Inverting.{touches};
 
 use crate::building::{has_value, sets_of};
 use pol_bitmap::{BitmapView, Set};
@@ -20,7 +20,7 @@ pub struct Inverse {
 
 impl Model for Inverse {
     ghost use Rattle.std.specs.Prelude.{length};
-    ghost use Rattle.pol_expand.specs.Inverting.{Inversion, IsInversion, listed_all};
+    ghost use Rattle.pol_expand.specs.Inner.Inverting.{Inversion, IsInversion, listed_all};
 
     ghost Value = { Inversion };
 

@@ -11,7 +11,7 @@ use Rattle.pol_cursor.specs.References.{Placed, placed}
 use Rattle.pol_cursor.proofs.Facts.{unless_none}
 use Rattle.pol_bitmap.specs.Bitmap.{bitmap_at}
 use Rattle.pol_symtab.specs.Claims.{Claims}
-use Rattle.pol_symtab.specs.Freshness.{Gives}
+use Rattle.pol_symtab.specs.Inner.Freshness.{Gives}
 use Rattle.pol_symtab.specs.SymbolFields.{symbol_length_at, symbol_name_at}
 use Rattle.pol_symtab.specs.SymbolTables.{table_head_at, table_records_at, table_at, table_start}
 use Rattle.pol_symtab.proofs.FreshRecords.{Gives-part, Gives-any, Gives-done, Gives-number_if, value_is_in}
@@ -27,7 +27,7 @@ use Rattle.pol_contexts.specs.ContextTables.{contexts_at}
 use Rattle.pol_genfs.specs.GenfsRecord.{genfs_at}
 use Rattle.pol_file.specs.declared.parts.Parts.{Parts}
 use Rattle.pol_file.specs.TypeMapRows.{type_map_at}
-use Rattle.pol_file.specs.TypeValues.{IsTypeValue, HasTypeValues}
+use Rattle.pol_file.specs.Inner.TypeValues.{IsTypeValue, HasTypeValues}
 use Rattle.pol_file.specs.PolicyParts.{front_at, rule_lists_at, label_lists_at, policy_at}
 use Rattle.pol_file.proofs.ReadValues.{gives-others, gives-weaker, gives-records_after}
 

@@ -6,7 +6,7 @@ use Rattle.pol_cursor.specs.Parts.{list_of}
 use Rattle.pol_cursor.specs.References.{Placed, placed}
 use Rattle.pol_cursor.specs.Contexts.{records_after}
 use Rattle.pol_cursor.proofs.Laws.{and_then_got}
-use Rattle.pol_symtab.specs.Freshness.{Gives}
+use Rattle.pol_symtab.specs.Inner.Freshness.{Gives}
 use Rattle.pol_symtab.proofs.FreshRecords.{Gives-part, Gives-any, Gives-done}
 
 -- a part of which nothing is said, and then the others

@@ -1,5 +1,5 @@
 pub mod TypeMapRows
 pub mod PolicyParts
-pub mod TypeValues
 pub mod PolicyReferences
 pub mod Acceptance
+pub mod Inner

@@ -6,7 +6,7 @@ use Rattle.pol_cursor.specs.Outcome.{Reader}
 use Rattle.pol_cursor.specs.Parts.{list_of, optional, records_at, counted, number}
 use Rattle.pol_cursor.specs.References.{placed}
 use Rattle.pol_cursor.specs.Contexts.{records_after}
-use Rattle.pol_symtab.specs.Freshness.{Gives}
+use Rattle.pol_symtab.specs.Inner.Freshness.{Gives}
 use Rattle.pol_symtab.proofs.FreshRecords.{Gives-part, Gives-done}
 use Rattle.pol_file.proofs.ReadValues.{gives-others, gives-weaker, gives-placed, gives-list_of}
 use Rattle.pol_laws.specs.OptionalParts.{shape_of_part, first_of, first_in, first_placed}

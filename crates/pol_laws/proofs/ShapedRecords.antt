@@ -11,7 +11,7 @@ use Rattle.pol_mls.specs.LevelRecord.{level_at}
 use Rattle.pol_mls.specs.RangeRecord.{range_at, level_of}
 use Rattle.pol_constraints.specs.ConstraintRecord.{has_names, has_type_set, type_set_at, sets_at, item_at, items_at, values_after_item, constraint_at}
 use Rattle.pol_symtab.specs.Claims.{Claims}
-use Rattle.pol_symtab.specs.Freshness.{Gives}
+use Rattle.pol_symtab.specs.Inner.Freshness.{Gives}
 use Rattle.pol_symtab.proofs.FreshRecords.{Gives-part, Gives-any, Gives-done}
 use Rattle.pol_symtab.specs.SymbolTables.{Table}
 use Rattle.pol_commons.specs.declared.CommonRec.{CommonRec}

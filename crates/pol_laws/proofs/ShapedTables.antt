@@ -6,7 +6,7 @@ use Rattle.pol_fields.specs.declared.fields.TheConstants.{NAMETRANS_COUNT, NAMEG
 use Rattle.pol_cursor.specs.Outcome.{Reader}
 use Rattle.pol_cursor.specs.Parts.{number, counted, records_at}
 use Rattle.pol_cursor.specs.References.{Placed, placed}
-use Rattle.pol_symtab.specs.Freshness.{Gives}
+use Rattle.pol_symtab.specs.Inner.Freshness.{Gives}
 use Rattle.pol_symtab.proofs.FreshRecords.{Gives-part, Gives-done}
 use Rattle.pol_symtab.specs.SymbolTables.{Table, table_head_at, table_records_at, table_at, table_start}
 use Rattle.pol_commons.specs.declared.CommonRec.{CommonRec}

@@ -9,7 +9,7 @@ use Rattle.pol_cursor.specs.References.{Named}
 use Rattle.pol_fields.specs.declared.table_kind.TableKind.TheVariants.{Categories}
 use Rattle.pol_mls.specs.declared.run.Run.{Run}
 use Rattle.pol_mls.specs.MlsTexts.{name_of, with_value, runs_of, run_text, runs_text}
-use Rattle.pol_mls.specs.Runs.{values_of}
+use Rattle.pol_mls.specs.Inner.Runs.{values_of}
 
 -- ---- one run
 

@@ -1,4 +1,4 @@
 pub mod LevelRecord
 pub mod RangeRecord
 pub mod MlsTexts
-pub mod Runs
+pub mod Inner

@@ -1,7 +1,7 @@
 ghost use Rattle.std.specs.Prelude.{◌≡◌, ◌∷◌, ◌++◌, ◌+◌, ℕ, List, Some, OnOk, IfOk};
 ghost use Rattle.pol_fields.specs.declared.table_kind.TableKind.TheVariants.{Categories};
 ghost use Rattle.pol_mls.specs.MlsTexts.{name_of, run_text, categories_of};
-ghost use Rattle.pol_mls.specs.Runs.{values_of, text_left};
+ghost use Rattle.pol_mls.specs.Inner.Runs.{values_of, text_left};
 
 use crate::run::Run;
 use pol_cursor::Names;

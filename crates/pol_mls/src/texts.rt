@@ -1,7 +1,7 @@
 ghost use Rattle.std.specs.Prelude.{◌≡◌, ◌+◌, ◌++◌, ◌∷◌, ℕ, List, OnOk, IfOk, Some, None, if◌then◌else◌, bytes_eq};
 ghost use Rattle.pol_bitmap.specs.Nodes.{bits_of};
 ghost use Rattle.pol_mls.specs.MlsTexts.{is_category, categories_of, categories_text, level_text, range_text};
-ghost use Rattle.pol_mls.specs.Runs.{text_left};
+ghost use Rattle.pol_mls.specs.Inner.Runs.{text_left};
 
 use crate::range_view::RangeView;
 use crate::run::Run;

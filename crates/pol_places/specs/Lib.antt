@@ -1,2 +1,2 @@
 pub mod Members
-pub mod Standing
+pub mod Inner

@@ -1,7 +1,7 @@
 // The stored rules of a policy.
 ghost use Rattle.std.specs.Prelude.{◌≡◌, ◌<◌, ◌≤◌, Some, drop, length, option_map, slice_get};
 ghost use Rattle.pol_rules.specs.StoredRules.{stored, ends_of, stored_rules};
-ghost use Rattle.pol_rules.specs.RuleRecords.{rule_of};
+ghost use Rattle.pol_rules.specs.Inner.RuleRecords.{rule_of};
 ghost use Rattle.pol_rules.specs.DeclaredRules.{IsDeclaredRule, AreDeclaredEnds};
 
 use crate::policy::Policy;

@@ -2,7 +2,7 @@
 use Rattle.std.proofs.Common.{◌≡◌, ℕ, zero, suc, ◌+◌, ◌-◌, ◌<◌, ◌≤◌, List, [], ◌∷◌, ◌++◌, Some, length, take, get_or, slice_get, sum, refl, sym, ap, ◌∙◌, arith}
 use Rattle.std.proofs.lemmas.List.{take_all}
 use Rattle.std.proofs.lemmas.List.Sums.{sum_by-cons, sum_by_more}
-use Rattle.pol_rules.specs.RunningSums.{lengths_between, AreEnds}
+use Rattle.pol_rules.specs.Inner.RunningSums.{lengths_between, AreEnds}
 
 pub length_between : (start : ℕ) (ends : List ℕ) → length (lengths_between start ends) ≡ length ends
 unfolding lengths_between

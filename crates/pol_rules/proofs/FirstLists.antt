@@ -4,7 +4,7 @@ use Rattle.std.proofs.lemmas.List.{take-take, length-append, length-take, length
 use Rattle.std.proofs.lemmas.List.Sums.{sum_by_push, sum_by-take-le}
 use Rattle.std.proofs.lemmas.Bool.{cases_lt}
 use Rattle.std.proofs.Math.Seq.{take-append_seam}
-use Rattle.pol_rules.specs.RunningSums.{HasItem, AreFirsts}
+use Rattle.pol_rules.specs.Inner.RunningSums.{HasItem, AreFirsts}
 
 pub no_firsts : AreFirsts [] []
 no_firsts = record {

@@ -3,7 +3,7 @@ use Rattle.std.proofs.Common.{◌≡◌, ℕ, zero, suc, ◌+◌, ◌<◌, Bool,
 use Rattle.std.specs.Prelude.{if◌then◌else◌}
 use Rattle.std.specs.List.{flat_map, filter, enumerate_from}
 use Rattle.std.proofs.lemmas.Option.{same_Some}
-use Rattle.pol_rules.specs.RuleNumbers.{has_items}
+use Rattle.pol_rules.specs.Inner.RuleNumbers.{has_items}
 
 -- what gives nothing may be left out
 module _ {X A : Type 0} (f : X → List A) where

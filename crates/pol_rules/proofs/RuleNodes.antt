@@ -25,7 +25,7 @@ use Rattle.pol_trans.proofs.NameData.{data_placed}
 use Rattle.pol_rules.specs.declared.name_index.NodePlace.{NodePlace}
 use Rattle.pol_rules.specs.declared.name_index.NameIndex.{NameIndex}
 use Rattle.pol_rules.specs.StoredRules.{StoredRule, is_declared_type, declared_values, name_rule, rules_of_datum, rules_of_group}
-use Rattle.pol_rules.specs.RuleNumbers.{lengths_of, SourceNode, nodes_of_datum, nodes_of_group, rules_of_bits, rules_at, has_items, with_rules, rule_nodes, place_of, Gains}
+use Rattle.pol_rules.specs.Inner.RuleNumbers.{lengths_of, SourceNode, nodes_of_datum, nodes_of_group, rules_of_bits, rules_at, has_items, with_rules, rule_nodes, place_of, Gains}
 use Rattle.pol_rules.proofs.RuleSums.{get_map, total_is, found_by, found_length}
 use Rattle.pol_rules.proofs.ListItems.{Among, There, of_filter, of_map, of_flat_map, of_enumerated, there_is, kept}
 

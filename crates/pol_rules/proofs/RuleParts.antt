@@ -9,7 +9,7 @@ use Rattle.pol_fields.specs.declared.fields.TheConstants.{AV_SOURCE, AV_TARGET, 
 use Rattle.pol_cursor.specs.Outcome.{Got, Reader}
 use Rattle.pol_cursor.specs.Parts.{number, number_if, string, end_at, counted, records_at}
 use Rattle.pol_cursor.specs.References.{placed}
-use Rattle.pol_symtab.specs.Freshness.{Gives}
+use Rattle.pol_symtab.specs.Inner.Freshness.{Gives}
 use Rattle.pol_symtab.proofs.FreshRecords.{Gives-part, Gives-done, Gives-number_if}
 use Rattle.pol_symbols.specs.PolicySymbols.{symbols_at}
 use Rattle.pol_expr.specs.ConditionRecord.{condition_at}

@@ -19,7 +19,7 @@ use Rattle.pol_rules.specs.declared.rule.RulePart.TheVariants as parts
 use Rattle.pol_conditionals.specs.CondNodeRecord.{rules_of_branch as access_vectors_of}
 use Rattle.pol_file.specs.declared.Parts.{Parts}
 use Rattle.pol_rules.specs.StoredRules.{StoredRule, plain_part, rule_part, av_rule, rules_of_branch, rules_of_node, rules_of_nodes, name_rules, rule_sections, stored_rules}
-use Rattle.pol_rules.specs.RuleNumbers.{lengths_of, node_lengths}
+use Rattle.pol_rules.specs.Inner.RuleNumbers.{lengths_of, node_lengths}
 
 -- ---- one list behind another
 

@@ -2,7 +2,7 @@
 ghost use Rattle.std.specs.Prelude.{◌≡◌, ◌+◌, ◌≤◌, ◌<◌, ◌%◌, [], IfOk, OnOk, Some, length, sum, map, option_map, slice_get};
 ghost use Rattle.std.specs.List.{flat_map};
 ghost use Rattle.pol_rules.specs.StoredRules.{rules_of_datum, rules_of_group, name_rules};
-ghost use Rattle.pol_rules.specs.RuleNumbers.{place_of, nodes_of_datum, nodes_of_group, with_rules, rule_nodes, IsNameIndexOf, HasNodes, Gains};
+ghost use Rattle.pol_rules.specs.Inner.RuleNumbers.{place_of, nodes_of_datum, nodes_of_group, with_rules, rule_nodes, IsNameIndexOf, HasNodes, Gains};
 
 use crate::declared_value::count_values;
 use crate::sums::Sums;

@@ -1,7 +1,7 @@
 // How many rules stand where, by which a rule is found by its number.
 ghost use Rattle.std.specs.Prelude.{◌≡◌, ◌≤◌, IfOk, length, sum};
 ghost use Rattle.pol_rules.specs.StoredRules.{rules_of_nodes, name_rules, stored_rules};
-ghost use Rattle.pol_rules.specs.RuleNumbers.{node_lengths, section_lengths, IsNameIndexOf, IsIndexOf};
+ghost use Rattle.pol_rules.specs.Inner.RuleNumbers.{node_lengths, section_lengths, IsNameIndexOf, IsIndexOf};
 
 use crate::name_index::{NameIndex, index_names};
 use crate::sums::Sums;

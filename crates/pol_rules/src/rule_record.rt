@@ -2,7 +2,7 @@
 ghost use Rattle.std.specs.Prelude.{◌≡◌, Some, option_map};
 ghost use Rattle.pol_avtab.specs.AvKeys.{kind_of, key_of};
 ghost use Rattle.pol_rules.specs.StoredRules.{StoredRule, stored, ends_of, rule_kind, plain_part, rule_part, av_rule};
-ghost use Rattle.pol_rules.specs.RuleRecords.{rule_of};
+ghost use Rattle.pol_rules.specs.Inner.RuleRecords.{rule_of};
 
 use crate::rule::{Condition, Rule, RuleEnds, RuleKind, RulePart};
 use pol_avtab::{AvKey, AvView, shown_mask};

@@ -2,8 +2,8 @@
 ghost use Rattle.std.specs.Prelude.{◌≡◌, ◌<◌, ◌%◌, Some, None, length, map, option_map, slice_get};
 ghost use Rattle.pol_bitmap.specs.Nodes.{node_bits};
 ghost use Rattle.pol_rules.specs.StoredRules.{stored, ends_of, av_rule, rules_of_branch, rules_of_node, rules_of_nodes, role_trans_rule, role_allow_rule, name_trans_rule, name_rules, range_trans_rule, stored_rules};
-ghost use Rattle.pol_rules.specs.RuleRecords.{rule_of};
-ghost use Rattle.pol_rules.specs.RuleNumbers.{node_lengths, rules_of_bits, IsNameIndexOf, IsIndexOf};
+ghost use Rattle.pol_rules.specs.Inner.RuleRecords.{rule_of};
+ghost use Rattle.pol_rules.specs.Inner.RuleNumbers.{node_lengths, rules_of_bits, IsNameIndexOf, IsIndexOf};
 
 use crate::declared_value::value_at;
 use crate::name_index::{NameIndex, node_at};

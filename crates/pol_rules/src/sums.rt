@@ -16,7 +16,7 @@ pub struct Sums {
 
 impl Model for Sums {
     ghost use Rattle.std.specs.Prelude.{ℕ, ◌≤◌, List, length};
-    ghost use Rattle.pol_rules.specs.RunningSums.{lengths_between, AreEnds, AreFirsts};
+    ghost use Rattle.pol_rules.specs.Inner.RunningSums.{lengths_between, AreEnds, AreFirsts};
 
     ghost Value = { List ℕ };
 
@@ -27,7 +27,7 @@ impl Model for Sums {
 
 impl Sums {
     /// No list.
-    #[tactic(auto, using(crate::proofs::FirstLists::no_firsts), unfolding(crate::specs::RunningSums::lengths_between, crate::specs::RunningSums::AreEnds))]
+    #[tactic(auto, using(crate::proofs::FirstLists::no_firsts), unfolding(crate::specs::Inner::RunningSums::lengths_between, crate::specs::Inner::RunningSums::AreEnds))]
     pub fn new(alloc: Global) -> Sums
         ensures { result ≡ [] }
     {

@@ -1,3 +1,3 @@
 pub mod UserRecord
-pub mod UserFreshness
 pub mod PolicySymbols
+pub mod Inner

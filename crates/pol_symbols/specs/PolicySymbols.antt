@@ -6,7 +6,7 @@ use Rattle.pol_fields.specs.declared.TableKind.TheVariants.{Commons, Classes, Ro
 use Rattle.pol_cursor.specs.Outcome.{Reader, ◌>>=◌, done}
 use Rattle.pol_cursor.specs.References.{Placed}
 use Rattle.pol_symtab.specs.Claims.{Claims}
-use Rattle.pol_symtab.specs.Freshness.{claims_after}
+use Rattle.pol_symtab.specs.Inner.Freshness.{claims_after}
 use Rattle.pol_symtab.specs.SymbolTables.{Table, table_at, table_start, declares, value_named, primary_index, primary_name, rank_of}
 use Rattle.pol_commons.specs.declared.PermissionRec.{PermissionRec}
 use Rattle.pol_commons.specs.CommonTable.{commons_at, inherited_from}

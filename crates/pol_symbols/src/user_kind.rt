@@ -29,7 +29,7 @@ impl<'a> RecordView<'a> for User {
 
 impl<'a> ReadAfter<'a> for User {
     ghost use Rattle.std.specs.Prelude.{true};
-    ghost use Rattle.pol_symtab.specs.Freshness.{claims_after};
+    ghost use Rattle.pol_symtab.specs.Inner.Freshness.{claims_after};
     ghost use Rattle.pol_symbols.specs.UserRecord.{user_at};
 
     type Context = TableContext<'a>;
@@ -63,7 +63,7 @@ impl SymbolKind for User {
 
 impl<'a> Symbol<'a> for User {
     ghost use Rattle.std.specs.Prelude.{refl};
-    ghost use Rattle.pol_symbols.specs.UserFreshness.{user_is_fresh};
+    ghost use Rattle.pol_symbols.specs.Inner.UserFreshness.{user_is_fresh};
 
     ghost nprim_of = { λ context. context.nprim };
 

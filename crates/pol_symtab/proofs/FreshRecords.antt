@@ -11,7 +11,7 @@ use Rattle.pol_cursor.specs.Parts.{number, string, unless}
 use Rattle.pol_cursor.proofs.Laws.{and_then_got, judged_got}
 use Rattle.pol_symtab.specs.Claims.{Claims, has_name, has_value}
 use Rattle.pol_symtab.specs.SymbolFields.{symbol_length_at, symbol_name_at, is_name_byte, length_test, name_test, value_test, new_value_test, primary_value_test}
-use Rattle.pol_symtab.specs.Freshness.{Gives}
+use Rattle.pol_symtab.specs.Inner.Freshness.{Gives}
 
 -- ---- the parts of a record, one after the other, as its definition has them
 

@@ -7,7 +7,7 @@ use Rattle.std.specs.declared.cmp.Ordering.TheVariants.{Less, Equal, Greater}
 use Rattle.std.specs.Str.{bytes_eq}
 use Rattle.pol_cursor.specs.References.{Placed}
 use Rattle.pol_symtab.specs.SymbolTables.{index_named, has_the_name, is_below}
-use Rattle.pol_symtab.specs.TableIndex.{names_of, name_at, IsNameOrder}
+use Rattle.pol_symtab.specs.Inner.TableIndex.{names_of, name_at, IsNameOrder}
 use Rattle.pol_symtab.proofs.ByteOrder.{compare, less_is_below, greater_is_below, below_trans, not_below_itself, equal_is_same, same_name, name_itself}
 use Rattle.pol_symtab.proofs.Searches.{by_order, not_true, position_is, position_none, place_of, name_at_is}
 

@@ -14,7 +14,7 @@ use Rattle.byteorder.specs.Numbers.{big_from-cons, big_from-lt}
 use Rattle.pol_cursor.specs.Spelling.{AreBytes}
 use Rattle.pol_symtab.specs.SymbolTables.{is_below}
 use Rattle.pol_symtab.specs.declared.name_order.Entry.{Entry}
-use Rattle.pol_symtab.specs.NamePrefixes.{HasPrefix, prefix}
+use Rattle.pol_symtab.specs.Inner.NamePrefixes.{HasPrefix, prefix}
 
 -- ---- zeros behind a name
 

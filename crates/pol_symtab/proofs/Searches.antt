@@ -8,7 +8,7 @@ use Rattle.std.proofs.lemmas.List.Folds.{find_at}
 use Rattle.std.proofs.lemmas.List.Sums.{position_or_len_is}
 use Rattle.pol_cursor.specs.References.{Placed}
 use Rattle.pol_symtab.specs.SymbolTables.{index_named, value_named, primary_index, primary_name, rank_of, has_the_name, declares, names_below}
-use Rattle.pol_symtab.specs.TableIndex.{names_of, name_at, HasRanks}
+use Rattle.pol_symtab.specs.Inner.TableIndex.{names_of, name_at, HasRanks}
 
 -- ---- by cases
 

@@ -12,7 +12,7 @@ use Rattle.std.proofs.lemmas.Option.{slice_get-get_or, get_or_from_slice_get, sl
 use Rattle.pol_cursor.specs.References.{Placed}
 use Rattle.pol_symtab.specs.SymbolTables.{is_below, names_below}
 use Rattle.pol_symtab.specs.declared.name_order.Entry.{Entry}
-use Rattle.pol_symtab.specs.TableIndex.{Named, seen, numbered, AreSorted, AreNumbered, primary_below, RankAll, HaveDistinctNames, IsNameOrder, HasRanks, names_of, name_at}
+use Rattle.pol_symtab.specs.Inner.TableIndex.{Named, seen, numbered, AreSorted, AreNumbered, primary_below, RankAll, HaveDistinctNames, IsNameOrder, HasRanks, names_of, name_at}
 use Rattle.pol_symtab.proofs.ByteOrder.{not_below_itself, below_trans, below_or_same, name_itself, same_name}
 use Rattle.pol_symtab.proofs.ListPlaces.{take_then}
 use Rattle.pol_symtab.proofs.Ranks.{count_none, count-cons}

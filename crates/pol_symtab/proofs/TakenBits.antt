@@ -5,8 +5,8 @@ use Rattle.std.specs.Int.{bit_at}
 use Rattle.std.proofs.lemmas.Bool.{cases_lt}
 use Rattle.std.proofs.lemmas.Nat.Bits.{bit_at-zero}
 use Rattle.std.proofs.lemmas.List.{get_or_append_left, get_or-append_right, get_or_past}
-use Rattle.pol_cursor.specs.BitPlaces.{has_bit_of}
-use Rattle.pol_symtab.specs.TakenMembers.{AreMarked}
+use Rattle.pol_cursor.specs.Inner.BitPlaces.{has_bit_of}
+use Rattle.pol_symtab.specs.Inner.TakenMembers.{AreMarked}
 
 abbrev no_bits : List ℕ
 no_bits = 0 ∷ []

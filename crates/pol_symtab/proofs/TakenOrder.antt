@@ -9,7 +9,7 @@ use Rattle.std.proofs.lemmas.List.Folds.{list_any-append}
 use Rattle.indexmap.specs.IndexSet.{insert_key}
 use Rattle.pol_symtab.specs.Claims.{with_member}
 use Rattle.pol_symtab.specs.SymbolTables.{is_below}
-use Rattle.pol_symtab.specs.TakenMembers.{slot_of, is_behind, NoneBehind, AreInSet, AreFound}
+use Rattle.pol_symtab.specs.Inner.TakenMembers.{slot_of, is_behind, NoneBehind, AreInSet, AreFound}
 use Rattle.pol_symtab.proofs.ByteOrder.{below_trans, not_below_itself, same_name}
 use Rattle.pol_symtab.proofs.TakenNames.{names_of, inserted_name}
 use Rattle.pol_cursor.proofs.BitPlaces.{or_nothing}

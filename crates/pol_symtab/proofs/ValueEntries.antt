@@ -8,7 +8,7 @@ use Rattle.std.proofs.lemmas.Bool.{eqb-true, eqb-false}
 use Rattle.std.proofs.lemmas.Bool.Decides.{Decides-eqb}
 use Rattle.pol_cursor.specs.References.{Placed}
 use Rattle.pol_symtab.specs.SymbolTables.{primary_index, declares}
-use Rattle.pol_symtab.specs.TableIndex.{HaveDistinctValues, IsValueIndex, declared_at, entry_of, joined}
+use Rattle.pol_symtab.specs.Inner.TableIndex.{HaveDistinctValues, IsValueIndex, declared_at, entry_of, joined}
 use Rattle.pol_symtab.proofs.Searches.{not_true, position_is, place_of}
 use Rattle.pol_symtab.proofs.ListPlaces.{slice_get_take, slice_get_in_take, take_then, slice_get_set, slice_get_set_other, position_more_no}
 

@@ -2,9 +2,9 @@
 
 ghost use Rattle.std.specs.Prelude.{◌≡◌, ◌<◌, ◌^◌, IfOk, length, map};
 ghost use Rattle.std.specs.List.{All};
-ghost use Rattle.pol_symtab.specs.NamePrefixes.{HasPrefix};
+ghost use Rattle.pol_symtab.specs.Inner.NamePrefixes.{HasPrefix};
 ghost use Rattle.pol_symtab.specs.SymbolTables.{index_named};
-ghost use Rattle.pol_symtab.specs.TableIndex.{names_of, name_at, IsNameOrder, HaveDistinctNames, seen, numbered, NamesRise, AreSorted, AreNumbered, RankAll};
+ghost use Rattle.pol_symtab.specs.Inner.TableIndex.{names_of, name_at, IsNameOrder, HaveDistinctNames, seen, numbered, NamesRise, AreSorted, AreNumbered, RankAll};
 
 use crate::name_prefix::prefix_of;
 use crate::symbol::Symbol;

@@ -2,12 +2,12 @@
 
 ghost use Rattle.std.specs.Prelude.{◌≡◌, ◌<◌, length};
 ghost use Rattle.pol_cursor.specs.Spelling.{AreBytes};
-ghost use Rattle.pol_symtab.specs.NamePrefixes.{prefix};
+ghost use Rattle.pol_symtab.specs.Inner.NamePrefixes.{prefix};
 
 use byteorder::{BigEndian, ByteOrder};
 
 /// The first eight bytes of a name as one number, the first byte the highest, with zeros behind a shorter name.
-#[tactic(auto, unfolding(crate::specs::NamePrefixes::prefix))]
+#[tactic(auto, unfolding(crate::specs::Inner::NamePrefixes::prefix))]
 pub(crate) fn prefix_of(name: &[u8]) -> u64
     ensures same { result ≡ prefix name.now }
     ensures bytes { AreBytes name.now }

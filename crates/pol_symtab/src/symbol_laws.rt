@@ -1,5 +1,5 @@
 ghost use Rattle.std.specs.Prelude.{◌≡◌};
-ghost use Rattle.pol_symtab.specs.Freshness.{Gives, IsFresh, claims_after};
+ghost use Rattle.pol_symtab.specs.Inner.Freshness.{Gives, IsFresh, claims_after};
 
 use crate::symbol::Symbol;
 

@@ -3,7 +3,7 @@ ghost use Rattle.pol_cursor.specs.Outcome.{Yields};
 ghost use Rattle.pol_cursor.specs.Contexts.{context_after};
 ghost use Rattle.pol_cursor.specs.References.{values_of, AreDeclared, references_in};
 ghost use Rattle.pol_symtab.specs.SymbolTables.{index_named, value_named, primary_index, primary_name, rank_of, table_records_at, table_at, table_start};
-ghost use Rattle.pol_symtab.specs.TableIndex.{HaveDistinctNames, HaveDistinctValues};
+ghost use Rattle.pol_symtab.specs.Inner.TableIndex.{HaveDistinctNames, HaveDistinctValues};
 ghost use Rattle.pol_symtab.specs.declared.taken.TableContext.{TableContext};
 
 use crate::name_order::{find_name, numbers_of, rank_names, sorted_entries};
@@ -35,7 +35,7 @@ pub struct SymbolTable<'a, K: SymbolKind + Drop> {
 
 impl<'a, K: SymbolKind + Drop> Model for SymbolTable<'a, K> {
     ghost use Rattle.pol_symtab.specs.SymbolTables.{Table};
-    ghost use Rattle.pol_symtab.specs.TableIndex.{IsIndexed};
+    ghost use Rattle.pol_symtab.specs.Inner.TableIndex.{IsIndexed};
 
     ghost Value = { Table K.Owned };
 

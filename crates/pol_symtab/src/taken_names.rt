@@ -2,7 +2,7 @@ ghost use Rattle.std.specs.Prelude.{◌≡◌, [], OnOk, OnErr, map};
 ghost use Rattle.std.specs.List.{list_any};
 ghost use Rattle.std.specs.Str.{bytes_eq};
 ghost use Rattle.pol_symtab.specs.Claims.{with_member};
-ghost use Rattle.pol_symtab.specs.TakenMembers.{slot_of, is_behind, AreInSet};
+ghost use Rattle.pol_symtab.specs.Inner.TakenMembers.{slot_of, is_behind, AreInSet};
 
 use indexmap::IndexSet;
 use std::alloc::{AllocError, Global};
@@ -25,7 +25,7 @@ pub(crate) struct TakenNames<'a> {
 
 impl<'a> Model for TakenNames<'a> {
     ghost use Rattle.std.specs.Prelude.{List, ℕ, map};
-    ghost use Rattle.pol_symtab.specs.TakenMembers.{AreFound};
+    ghost use Rattle.pol_symtab.specs.Inner.TakenMembers.{AreFound};
 
     ghost Value = { List (List ℕ) };
 
@@ -84,7 +84,7 @@ impl<'a> TakenNames<'a> {
 
 // The slot of a name: libsepol's hash (`symhash`), of which the table's slots are the low bits.
 #[inline(always)]
-#[tactic(auto, unfolding(crate::specs::TakenMembers::slot_of))]
+#[tactic(auto, unfolding(crate::specs::Inner::TakenMembers::slot_of))]
 fn slot_of(mask: u32, name: &[u8]) -> u32
     ensures { result ≡ slot_of mask name.now }
 {

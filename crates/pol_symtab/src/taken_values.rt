@@ -2,8 +2,8 @@ ghost use Rattle.std.specs.Prelude.{◌≡◌, ◌≤◌, ℕ, [], OnOk, IsOk, n
 ghost use Rattle.std.specs.List.{list_any};
 ghost use Rattle.std.specs.Vec.{vec_len};
 ghost use Rattle.pol_symtab.specs.Claims.{with_member};
-ghost use Rattle.pol_cursor.specs.BitPlaces.{has_bit_of};
-ghost use Rattle.pol_symtab.specs.TakenMembers.{HasRoom};
+ghost use Rattle.pol_cursor.specs.Inner.BitPlaces.{has_bit_of};
+ghost use Rattle.pol_symtab.specs.Inner.TakenMembers.{HasRoom};
 
 use pol_cursor::{has_bit, set_bit};
 use std::alloc::{AllocError, Global};
@@ -20,7 +20,7 @@ pub(crate) struct TakenValues {
 impl Model for TakenValues {
     ghost use Rattle.std.specs.Prelude.{◌-◌};
     ghost use Rattle.std.specs.Vec.{vec_len, vec_capacity};
-    ghost use Rattle.pol_symtab.specs.TakenMembers.{AreMarked, Values};
+    ghost use Rattle.pol_symtab.specs.Inner.TakenMembers.{AreMarked, Values};
 
     ghost Value = { Values };
 

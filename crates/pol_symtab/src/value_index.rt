@@ -1,7 +1,7 @@
 //! Where the primary record of a value stands.
 
 ghost use Rattle.std.specs.Prelude.{◌≡◌, ◌<◌, IfOk, length};
-ghost use Rattle.pol_symtab.specs.TableIndex.{HaveDistinctValues, IsValueIndex, declared_at};
+ghost use Rattle.pol_symtab.specs.Inner.TableIndex.{HaveDistinctValues, IsValueIndex, declared_at};
 
 use crate::symbol::Symbol;
 use pol_cursor::Records;

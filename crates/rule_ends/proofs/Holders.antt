@@ -23,7 +23,7 @@ use Rattle.pol_expand.proofs.Values.{same_tests}
 use Rattle.value_groups.specs.Marking.{is_among, with_value}
 use Rattle.value_groups.proofs.Words.{among_bits, nodes_pass}
 use Rattle.rule_ends.specs.ChosenRules.{holds_type}
-use Rattle.rule_ends.specs.EndTables.{IsEnd, has_places, holds_any, is_attribute_bit}
+use Rattle.rule_ends.specs.Inner.EndTables.{IsEnd, has_places, holds_any, is_attribute_bit}
 use Rattle.rule_ends.specs.PlainTypes.{is_type_value}
 use Rattle.rule_ends.proofs.Anys.{any_gives, any_from, among_contains, contains_among, or_false}
 use Rattle.rule_ends.proofs.TypesOutside.{type_parts}

@@ -7,7 +7,7 @@ use Rattle.std.proofs.lemmas.List.Elements.{filter-append}
 use Rattle.std.proofs.lemmas.List.Concat.{flat_map-append}
 use Rattle.value_groups.specs.Marking.{is_among, with_value}
 use Rattle.value_groups.proofs.Marks.{among_with}
-use Rattle.rule_ends.specs.EndTables.{places_to, rules_at, rules_found}
+use Rattle.rule_ends.specs.Inner.EndTables.{places_to, rules_at, rules_found}
 use Rattle.rule_ends.proofs.Anys.{any_more, or_assoc, or_false}
 
 -- ---- values added one by one, by a test of what is still to come

@@ -1,3 +1,3 @@
 pub mod PlainTypes
 pub mod ChosenRules
-pub mod EndTables
+pub mod Inner

@@ -4,7 +4,7 @@ ghost use Rattle.pol_bitmap.specs.Nodes.{bits_of};
 ghost use Rattle.pol_expand.specs.PolicyMap.{IsPolicyMap};
 ghost use Rattle.rule_order.specs.ListedOrder.{AreRules};
 ghost use Rattle.rule_ends.specs.ChosenRules.{is_between_types, any_joins, rules_between, targets_from, sources_to, sources_to_any};
-ghost use Rattle.rule_ends.specs.EndTables.{AreEndsOf};
+ghost use Rattle.rule_ends.specs.Inner.EndTables.{AreEndsOf};
 
 use crate::end_table::{EndTable, gathered_rules};
 use crate::gathered::RulesWithEnds;
@@ -31,7 +31,7 @@ pub struct ChosenRules<'p> {
 
 impl<'p> Model for ChosenRules<'p> {
     ghost use Rattle.rule_ends.specs.ChosenRules.{ChosenRules};
-    ghost use Rattle.rule_ends.specs.EndTables.{IsTableOf};
+    ghost use Rattle.rule_ends.specs.Inner.EndTables.{IsTableOf};
     ghost use Rattle.pol_expand.specs.PolicyMap.{IsPolicyMap};
 
     ghost Value = { ChosenRules };

@@ -1,8 +1,8 @@
 ghost use Rattle.std.specs.Prelude.{◌≡◌, ◌<◌, ◌^◌, true, IfOk, length};
 ghost use Rattle.std.specs.List.{All};
 ghost use Rattle.rule_ends.specs.ChosenRules.{is_between_types};
-ghost use Rattle.value_groups.specs.Grouping.{AreGroupsOf};
-ghost use Rattle.rule_ends.specs.EndTables.{AreEndsOf};
+ghost use Rattle.value_groups.specs.Inner.Grouping.{AreGroupsOf};
+ghost use Rattle.rule_ends.specs.Inner.EndTables.{AreEndsOf};
 
 use crate::gathered::RulesWithEnds;
 use pol_read::Policy;

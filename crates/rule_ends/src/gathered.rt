@@ -3,7 +3,7 @@ ghost use Rattle.pol_file.specs.declared.Parts.{Parts};
 ghost use Rattle.pol_rules.specs.StoredRules.{stored, stored_rules};
 ghost use Rattle.pol_rules.specs.DeclaredRules.{IsDeclaredRule};
 ghost use Rattle.rule_ends.specs.ChosenRules.{has_type_ends};
-ghost use Rattle.rule_ends.specs.EndTables.{AreEndsOf};
+ghost use Rattle.rule_ends.specs.Inner.EndTables.{AreEndsOf};
 
 use pol_read::{Policy, Rule};
 use std::alloc::{AllocError, Global};

@@ -5,7 +5,7 @@ ghost use Rattle.pol_bitmap.specs.Nodes.{bits_of};
 ghost use Rattle.pol_expand.specs.PolicyMap.{row_in, IsPolicyMap};
 ghost use Rattle.value_groups.specs.Marking.{is_among};
 ghost use Rattle.rule_ends.specs.ChosenRules.{holds_type};
-ghost use Rattle.rule_ends.specs.EndTables.{IsEnd, has_places, is_attribute_bit};
+ghost use Rattle.rule_ends.specs.Inner.EndTables.{IsEnd, has_places, is_attribute_bit};
 
 use crate::plain_types::is_type;
 use pol_bitmap::Set;

@@ -5,7 +5,7 @@ use Rattle.std.proofs.lemmas.Option.{slice_get-map, slice_get_within}
 use Rattle.pol_file.specs.declared.Parts.{Parts}
 use Rattle.pol_rules.specs.declared.rule.RuleKind.{RuleKind}
 use Rattle.rule_listing.specs.declared.listed_rule.ListedRule.{ListedRule}
-use Rattle.rule_listing.specs.ReadRules.{AreAhead, IsOfFirst, IsRuleOf, kind_at}
+use Rattle.rule_listing.specs.Inner.ReadRules.{AreAhead, IsOfFirst, IsRuleOf, kind_at}
 
 get_take : (count i : ℕ) (numbers : List ℕ) → i < count → slice_get (take count numbers) i ≡ slice_get numbers i
 get_take zero i numbers lt = absurd (omega (arith, lt))

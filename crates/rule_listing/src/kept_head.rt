@@ -1,8 +1,8 @@
 //! What stands before the targets of the rules of a kind and a source.
 
 ghost use Rattle.std.specs.Prelude.{◌≡◌, ◌++◌, OnOk, IfOk};
-ghost use Rattle.rule_text.specs.RuleFrames.{head_text};
-ghost use Rattle.rule_listing.specs.KeptTexts.{IsHead};
+ghost use Rattle.rule_text.specs.Inner.RuleFrames.{head_text};
+ghost use Rattle.rule_listing.specs.Inner.KeptTexts.{IsHead};
 
 use pol_read::RuleKind;
 use pol_symbols::Symbols;

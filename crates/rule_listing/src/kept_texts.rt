@@ -5,8 +5,8 @@ ghost use Rattle.pol_symbols.specs.PolicySymbols.{name_in};
 ghost use Rattle.pol_rules.specs.DeclaredRules.{StandsUnder};
 ghost use Rattle.pol_file.specs.declared.Parts.{Parts};
 ghost use Rattle.rule_text.specs.ConditionTexts.{condition_text};
-ghost use Rattle.rule_text.specs.RuleFrames.{given_text};
-ghost use Rattle.rule_listing.specs.KeptTexts.{AreKept, IsKept, text_of};
+ghost use Rattle.rule_text.specs.Inner.RuleFrames.{given_text};
+ghost use Rattle.rule_listing.specs.Inner.KeptTexts.{AreKept, IsKept, text_of};
 
 use pol_read::{Condition, Policy, Rule, RuleKind, RulePart};
 use rule_text::{RuleTexts, push_condition};
@@ -83,7 +83,7 @@ pub(crate) struct KeptTexts<'p, 'a> {
 
 impl<'p, 'a> Model for KeptTexts<'p, 'a> {
     ghost use Rattle.pol_file.specs.declared.Parts.{Parts};
-    ghost use Rattle.rule_listing.specs.KeptTexts.{AreKept};
+    ghost use Rattle.rule_listing.specs.Inner.KeptTexts.{AreKept};
 
     ghost Value = { Parts };
 

@@ -3,7 +3,7 @@
 ghost use Rattle.std.specs.Prelude.{◌≡◌, ◌++◌, OnOk, IfOk};
 ghost use Rattle.pol_rules.specs.StoredRules.{stored};
 ghost use Rattle.pol_rules.specs.DeclaredRules.{StandsUnder};
-ghost use Rattle.rule_listing.specs.ReadRules.{IsStored};
+ghost use Rattle.rule_listing.specs.Inner.ReadRules.{IsStored};
 ghost use Rattle.rule_text.specs.RuleTexts.{rest_text, text_of_rule};
 
 use crate::kept_head::KeptHead;
@@ -26,8 +26,8 @@ pub struct ListedTexts<'p, 'a> {
 
 impl<'p, 'a> Model for ListedTexts<'p, 'a> {
     ghost use Rattle.pol_file.specs.declared.Parts.{Parts};
-    ghost use Rattle.rule_listing.specs.KeptTexts.{IsHead};
-    ghost use Rattle.rule_text.specs.TypeNames.{AreNamesOf};
+    ghost use Rattle.rule_listing.specs.Inner.KeptTexts.{IsHead};
+    ghost use Rattle.rule_text.specs.Inner.TypeNames.{AreNamesOf};
 
     ghost Value = { Parts };
 
@@ -57,7 +57,7 @@ impl<'p, 'a> ListedTexts<'p, 'a> {
     }
 
     /// Adds the text of a stored rule, without a line feed.
-    #[tactic(auto, unfolding(rule_text::specs::RuleTexts::text_of_rule, rule_text::specs::RuleTexts::rule_text, rule_text::specs::RuleTexts::ends_text, rule_text::specs::RuleFrames::head_text))]
+    #[tactic(auto, unfolding(rule_text::specs::RuleTexts::text_of_rule, rule_text::specs::RuleTexts::rule_text, rule_text::specs::RuleTexts::ends_text, rule_text::specs::Inner::RuleFrames::head_text))]
     pub fn push_rule(&mut self, rule: ListedRule, buffer: &mut Vec<u8>) -> Result<(), AllocError>
         requires { IsStored self.old rule }
         ensures policy { self.new ≡ self.old }
@@ -74,7 +74,7 @@ impl<'p, 'a> ListedTexts<'p, 'a> {
 }
 
 // Adds what stands behind the ends of a rule.
-#[tactic(auto, unfolding(rule_text::specs::RuleTexts::rest_text, rule_text::specs::RuleFrames::given_text))]
+#[tactic(auto, unfolding(rule_text::specs::RuleTexts::rest_text, rule_text::specs::Inner::RuleFrames::given_text))]
 fn push_rest<'a>(
     texts: &mut KeptTexts<'_, 'a>,
     rule: &Rule<'a>,

@@ -3,7 +3,7 @@
 ghost use Rattle.std.specs.Prelude.{◌≡◌, ◌<◌, ◌≤◌, ℕ, All, IfOk, MatchOption, Some, length, map, slice_get};
 ghost use Rattle.std.specs.Vec.{vec_capacity};
 ghost use Rattle.pol_rules.specs.StoredRules.{stored_rules};
-ghost use Rattle.rule_listing.specs.ReadRules.{IsOfFirst, PassesNumber, kind_at, none_read};
+ghost use Rattle.rule_listing.specs.Inner.ReadRules.{IsOfFirst, PassesNumber, kind_at, none_read};
 
 use crate::listed_rule::ListedRule;
 use pol_read::{Policy, RuleKind};
@@ -30,7 +30,7 @@ pub struct RulesAhead<'q, 'p, 'a> {
 impl<'q, 'p, 'a> Model for RulesAhead<'q, 'p, 'a> {
     ghost use Rattle.std.specs.Prelude.{◌≤◌, ◌-◌, drop, length};
     ghost use Rattle.std.specs.Vec.{vec_capacity};
-    ghost use Rattle.rule_listing.specs.ReadRules.{AreAhead, AreNumbers, RulesLeft};
+    ghost use Rattle.rule_listing.specs.Inner.ReadRules.{AreAhead, AreNumbers, RulesLeft};
 
     ghost Value = { RulesLeft };
 

@@ -1,2 +1,2 @@
 pub mod ListedOrder
-pub mod Keys
+pub mod Inner

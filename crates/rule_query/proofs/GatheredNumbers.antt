@@ -18,7 +18,7 @@ use Rattle.pol_rules.specs.StoredRules.{StoredRule, av_rule, rule_kind, stored_r
 use Rattle.pol_rules.proofs.RuleSums.{section_sizes, table_first}
 use Rattle.rule_order.specs.ListedOrder.{GatheredRules}
 use Rattle.rule_query.specs.declared.query.Query.{Query}
-use Rattle.rule_query.specs.Gathering.{AreMarked, Gathers, HasMet, extended_kinds, is_asked, is_asked_at, may_be_asked}
+use Rattle.rule_query.specs.Inner.Gathering.{AreMarked, Gathers, HasMet, extended_kinds, is_asked, is_asked_at, may_be_asked}
 use Rattle.rule_query.specs.Meeting.{is_kind_asked}
 use Rattle.rule_query.specs.Refusals.{is_any_asked}
 use Rattle.rule_query.proofs.MetRules.{met_unasked}

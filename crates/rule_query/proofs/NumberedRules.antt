@@ -8,7 +8,7 @@ use Rattle.pol_rules.specs.declared.rule.RuleEnds.{RuleEnds}
 use Rattle.pol_rules.specs.DeclaredRules.{IsDeclaredRule}
 use Rattle.pol_rules.specs.StoredRules.{ends_of, stored_rules}
 use Rattle.pol_rules.proofs.RulesDeclared.{rule_is_declared, rule_with_ends}
-use Rattle.rule_query.specs.NumberedRules.{no_rule, rule_at}
+use Rattle.rule_query.specs.Inner.NumberedRules.{no_rule, rule_at}
 
 pub is_there : (policy : Parts) (number : ℕ) → number < length (stored_rules policy) → slice_get (stored_rules policy) number ≡ Some (rule_at policy number)
 unfolding rule_at

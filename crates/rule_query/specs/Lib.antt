@@ -1,11 +1,9 @@
-pub mod Gathering
 pub mod Given
 pub mod Ends
-pub mod MarkedSets
 pub mod Listed
 pub mod Meeting
-pub mod NumberedRules
 pub mod Refusals
 pub mod Tests
 pub mod Resolved
 pub mod Resolving
+pub mod Inner

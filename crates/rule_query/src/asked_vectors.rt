@@ -1,7 +1,7 @@
 // Which access vectors may be of a kind that is asked, told without a branch.
 ghost use Rattle.std.specs.Prelude.{◌≡◌, ◌+◌, ◌<◌, ◌≤◌, ◌%◌, List, Bool, false, length, take, slice_index_or};
 ghost use Rattle.pol_rules.specs.StoredRules.{rule_kind};
-ghost use Rattle.rule_query.specs.Gathering.{AreMarked, Gathers, is_asked_at, may_be_asked};
+ghost use Rattle.rule_query.specs.Inner.Gathering.{AreMarked, Gathers, is_asked_at, may_be_asked};
 
 use crate::kinds::{is_any_asked, is_kind_asked};
 use pol_read::{Policy, RuleKind};

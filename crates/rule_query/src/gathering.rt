@@ -1,8 +1,8 @@
 // The rules that meet a query, gathered section by section, where they stand.
 ghost use Rattle.std.specs.Prelude.{◌≡◌, ◌+◌, ◌<◌, ◌≤◌, [], Some, IfOk, OnOk, length, option_map, slice_get};
-ghost use Rattle.pol_rules.specs.RuleRecords.{rule_of};
+ghost use Rattle.pol_rules.specs.Inner.RuleRecords.{rule_of};
 ghost use Rattle.pol_rules.specs.StoredRules.{ends_of, rules_of_branch, rules_of_node, stored_rules};
-ghost use Rattle.rule_query.specs.Gathering.{AreMarked, HasMet, StandFrom};
+ghost use Rattle.rule_query.specs.Inner.Gathering.{AreMarked, HasMet, StandFrom};
 
 use crate::asked_vectors::AskedVectors;
 use crate::kinds::is_kind_asked;

@@ -1,7 +1,7 @@
 // Sets that are asked for one value after the other.
 ghost use Rattle.std.specs.Prelude.{◌≡◌, IfOk};
 ghost use Rattle.pol_bitmap.specs.Nodes.{has_bit};
-ghost use Rattle.rule_query.specs.MarkedSets.{AreMarksOf};
+ghost use Rattle.rule_query.specs.Inner.MarkedSets.{AreMarksOf};
 
 use pol_bitmap::Set;
 use std::alloc::{AllocError, Global};
@@ -22,7 +22,7 @@ pub struct MarkedSet {
 impl Model for MarkedSet {
     ghost use Rattle.std.specs.Prelude.{List};
     ghost use Rattle.pol_bitmap.specs.declared.Node.{Node};
-    ghost use Rattle.rule_query.specs.MarkedSets.{AreMarksOf};
+    ghost use Rattle.rule_query.specs.Inner.MarkedSets.{AreMarksOf};
 
     ghost Value = { List Node };
 

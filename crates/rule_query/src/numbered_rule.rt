@@ -17,7 +17,7 @@ pub struct NumberedRule<'p, 'a> {
 impl<'p, 'a> Model for NumberedRule<'p, 'a> {
     ghost use Rattle.std.specs.Prelude.{◌≡◌, Some, slice_get};
     ghost use Rattle.pol_rules.specs.StoredRules.{StoredRule, ends_of, stored_rules};
-    ghost use Rattle.rule_query.specs.NumberedRules.{rule_at};
+    ghost use Rattle.rule_query.specs.Inner.NumberedRules.{rule_at};
 
     ghost Value = { StoredRule };
 

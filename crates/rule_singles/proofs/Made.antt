@@ -15,7 +15,7 @@ use Rattle.pol_rules.specs.RuleOrder.{source_table, target_table}
 use Rattle.pol_rules.specs.StoredRules.{StoredRule, stored_rules}
 use Rattle.rule_criteria.specs.declared.Criteria.{Criteria}
 use Rattle.rule_criteria.specs.declared.Criterion.{Criterion}
-use Rattle.rule_singles.specs.EndSets.{AreAsked, AreSetsOf, Grows, IsEntryOf, IsNumberIn, ends_left, leaves}
+use Rattle.rule_singles.specs.Inner.EndSets.{AreAsked, AreSetsOf, Grows, IsEntryOf, IsNumberIn, ends_left, leaves}
 use Rattle.rule_singles.specs.Singles.{ends_of_rule, is_listed, listed_ends}
 use Rattle.rule_singles.proofs.DeclaredMembers.{members_are_declared}
 use Rattle.rule_singles.proofs.Pools.{bits_stay, longer}

@@ -14,7 +14,7 @@ use Rattle.pol_bitmap.specs.Kept.{IsNumberOf}
 use Rattle.pol_file.specs.declared.Parts.{Parts}
 use Rattle.pol_expand.specs.PolicyMap.{expand}
 use Rattle.pol_places.specs.Members.{bits_at}
-use Rattle.rule_singles.specs.EndSets.{AreSetsOf, Grows, IsNumberIn, ends_left, leaves}
+use Rattle.rule_singles.specs.Inner.EndSets.{AreSetsOf, Grows, IsNumberIn, ends_left, leaves}
 
 -- ---- pools
 

@@ -2,7 +2,7 @@
 ghost use Rattle.std.specs.Prelude.{◌≡◌, IfOk, option_map};
 ghost use Rattle.std.specs.List.{filter};
 ghost use Rattle.pol_bitmap.specs.Nodes.{bits_of};
-ghost use Rattle.rule_singles.specs.EndSets.{leaves, types_left};
+ghost use Rattle.rule_singles.specs.Inner.EndSets.{leaves, types_left};
 
 use pol_bitmap::Set;
 use rule_criteria::Criterion;

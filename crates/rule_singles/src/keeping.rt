@@ -1,7 +1,7 @@
 // Sets that are kept in a pool.
 ghost use Rattle.std.specs.Prelude.{◌≡◌, ◌<◌, ℕ, IfOk, None, length, slice_index_or};
 ghost use Rattle.pol_bitmap.specs.Nodes.{bits_of};
-ghost use Rattle.rule_singles.specs.EndSets.{Grows, IsNumberIn};
+ghost use Rattle.rule_singles.specs.Inner.EndSets.{Grows, IsNumberIn};
 
 use pol_bitmap::{Pool, Set};
 use std::alloc::{AllocError, Global};

@@ -11,7 +11,7 @@ use Rattle.rule_text.proofs.SetTexts.{set_of_two}
 use Rattle.rule_text.specs.declared.ioctl_run.Run.{Run}
 use Rattle.rule_text.specs.declared.ioctl_run.Unwritten.TheVariants.{Nothing, First, Later}
 use Rattle.rule_text.specs.IoctlTexts.{number_text, run_text, runs_text}
-use Rattle.rule_text.specs.IoctlRuns.{numbers_in, text_left}
+use Rattle.rule_text.specs.Inner.IoctlRuns.{numbers_in, text_left}
 
 -- ---- one run
 

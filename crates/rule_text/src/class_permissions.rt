@@ -6,7 +6,7 @@ ghost use Rattle.std.specs.List.Sorted.{IsPermutation, IsSortedBy};
 ghost use Rattle.std.specs.Ordering.{nat_cmp};
 ghost use Rattle.pol_symtab.specs.SymbolTables.{is_below};
 ghost use Rattle.pol_symbols.specs.PolicySymbols.{permissions_of};
-ghost use Rattle.rule_text.specs.ClassPermissions.{AreByName};
+ghost use Rattle.rule_text.specs.Inner.ClassPermissions.{AreByName};
 
 use pol_classes::ClassView;
 use pol_commons::{PermissionList, PermissionView, inherited_from};

@@ -3,7 +3,7 @@
 ghost use Rattle.std.specs.Prelude.{◌≡◌, ◌≤◌, ◌+◌, ◌==◌, ◌∷◌, [], ◌++◌, ℕ, List, codes, OnOk, IfOk};
 ghost use Rattle.pol_avtab.specs.XPerms.{numbers_of};
 ghost use Rattle.rule_text.specs.IoctlTexts.{number_text, run_text, ioctl_text};
-ghost use Rattle.rule_text.specs.IoctlRuns.{numbers_in, text_left};
+ghost use Rattle.rule_text.specs.Inner.IoctlRuns.{numbers_in, text_left};
 
 use crate::ioctl_run::{Run, Unwritten};
 use pol_avtab::XPerms;

@@ -2,7 +2,7 @@
 
 ghost use Rattle.std.specs.Prelude.{◌≡◌, ◌∷◌, [], ◌++◌, ◌<◌, IfOk, OnOk, length};
 ghost use Rattle.pol_symbols.specs.PolicySymbols.{permissions_in_class};
-ghost use Rattle.rule_text.specs.ClassPermissions.{AreByName, AreOfClasses};
+ghost use Rattle.rule_text.specs.Inner.ClassPermissions.{AreByName, AreOfClasses};
 
 use crate::class_permissions::ClassPermissions;
 use pol_commons::PermissionView;

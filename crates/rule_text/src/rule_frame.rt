@@ -1,8 +1,8 @@
 //! The line of a rule with its ends left open.
 
 ghost use Rattle.std.specs.Prelude.{◌≡◌, ◌++◌, OnOk};
-ghost use Rattle.rule_text.specs.RuleFrames.{frame_head, frame_target};
-ghost use Rattle.rule_text.specs.TypeNames.{AreNamesOf};
+ghost use Rattle.rule_text.specs.Inner.RuleFrames.{frame_head, frame_target};
+ghost use Rattle.rule_text.specs.Inner.TypeNames.{AreNamesOf};
 
 use crate::rule_parts::push_head;
 use crate::type_names::TypeNames;
@@ -20,7 +20,7 @@ pub struct RuleFrame<'p, 'a> {
 
 impl<'p, 'a> RuleFrame<'p, 'a> {
     /// Adds what stands before the targets of a source: a type, or a role where the sources of such rules are roles.
-    #[tactic(auto, unfolding(crate::specs::RuleFrames::frame_head))]
+    #[tactic(auto, unfolding(crate::specs::Inner::RuleFrames::frame_head))]
     pub fn push_head(&self, source: u32, head: &mut Vec<u8>) -> Result<(), AllocError>
         ensures { OnOk result (head.new.items ≡ head.old.items ++ frame_head self.now source) }
     {
@@ -28,7 +28,7 @@ impl<'p, 'a> RuleFrame<'p, 'a> {
     }
 
     /// Adds a target by its name. The names of types are handed in.
-    #[tactic(auto, unfolding(crate::specs::RuleFrames::frame_target))]
+    #[tactic(auto, unfolding(crate::specs::Inner::RuleFrames::frame_target))]
     pub fn push_target(
         &self,
         names: &TypeNames<'_>,

@@ -5,8 +5,8 @@ ghost use Rattle.pol_mls.specs.MlsTexts.{name_of, range_text};
 ghost use Rattle.pol_symbols.specs.PolicySymbols.{name_in, permissions_in_class};
 ghost use Rattle.pol_rules.specs.RuleOrder.{source_table, target_table};
 ghost use Rattle.pol_rules.specs.DeclaredRules.{default_table};
-ghost use Rattle.rule_text.specs.ClassPermissions.{ShowsPart};
-ghost use Rattle.rule_text.specs.RuleFrames.{head_text};
+ghost use Rattle.rule_text.specs.Inner.ClassPermissions.{ShowsPart};
+ghost use Rattle.rule_text.specs.Inner.RuleFrames.{head_text};
 ghost use Rattle.rule_text.specs.RuleTexts.{keyword, class_text, part_text, file_name_text};
 
 use crate::ioctl_texts::push_ioctl_text;
@@ -70,7 +70,7 @@ fn default_table(kind: RuleKind) -> TableKind
 }
 
 /// Adds the first word of the rules of a kind and a source, each with the space behind it.
-#[tactic(auto, unfolding(crate::specs::RuleFrames::head_text))]
+#[tactic(auto, unfolding(crate::specs::Inner::RuleFrames::head_text))]
 pub fn push_head(
     buffer: &mut Vec<u8>,
     symbols: &Symbols<'_>,

@@ -3,9 +3,9 @@
 ghost use Rattle.std.specs.Prelude.{◌≡◌, ◌<◌, ◌++◌, ℕ, OnOk, IfOk, codes, length};
 ghost use Rattle.pol_symbols.specs.PolicySymbols.{permissions_in_class};
 ghost use Rattle.pol_rules.specs.StoredRules.{stored_rules};
-ghost use Rattle.rule_text.specs.ClassPermissions.{ShowsPart};
-ghost use Rattle.rule_text.specs.RuleFrames.{given_text};
-ghost use Rattle.rule_text.specs.RuleFrames.{frame_line};
+ghost use Rattle.rule_text.specs.Inner.ClassPermissions.{ShowsPart};
+ghost use Rattle.rule_text.specs.Inner.RuleFrames.{given_text};
+ghost use Rattle.rule_text.specs.Inner.RuleFrames.{frame_line};
 ghost use Rattle.rule_text.specs.RuleTexts.{text_of_rule, single_text};
 
 use crate::permission_table::PermissionTable;
@@ -26,7 +26,7 @@ pub struct RuleTexts<'p, 'a> {
 
 impl<'p, 'a> Model for RuleTexts<'p, 'a> {
     ghost use Rattle.pol_file.specs.declared.Parts.{Parts};
-    ghost use Rattle.rule_text.specs.ClassPermissions.{AreOfClasses};
+    ghost use Rattle.rule_text.specs.Inner.ClassPermissions.{AreOfClasses};
 
     ghost Value = { Parts };
 

@@ -3,8 +3,8 @@
 ghost use Rattle.std.specs.Prelude.{◌≡◌, ◌≤◌, ◌-◌, ◌==◌, ◌∷◌, [], ◌++◌, ℕ, List, IfOk, OnOk};
 ghost use Rattle.std.specs.Int.{bit_at};
 ghost use Rattle.pol_commons.specs.declared.PermissionRec.{PermissionRec};
-ghost use Rattle.rule_text.specs.ClassPermissions.{shown_text};
-ghost use Rattle.rule_text.specs.ShownNames.{text_left, shown_left};
+ghost use Rattle.rule_text.specs.Inner.ClassPermissions.{shown_text};
+ghost use Rattle.rule_text.specs.Inner.ShownNames.{text_left, shown_left};
 
 use pol_commons::PermissionView;
 use std::alloc::AllocError;
@@ -21,7 +21,7 @@ pub enum Unwritten<'a> {
 }
 
 /// Adds those of these permissions whose bits are set in a mask, as a set of their names in the order in which they stand.
-#[tactic(auto, unfolding(crate::specs::ClassPermissions::shown_text, crate::specs::ShownNames::shown_left, crate::specs::ShownNames::text_left))]
+#[tactic(auto, unfolding(crate::specs::Inner::ClassPermissions::shown_text, crate::specs::Inner::ShownNames::shown_left, crate::specs::Inner::ShownNames::text_left))]
 pub(crate) fn push_shown(
     buffer: &mut Vec<u8>,
     sorted: &[PermissionView<'_>],
@@ -37,7 +37,7 @@ pub(crate) fn push_shown(
 }
 
 // Takes the next permission, and answers what is not written yet.
-#[tactic(auto, unfolding(crate::specs::ShownNames::shown_left))]
+#[tactic(auto, unfolding(crate::specs::Inner::ShownNames::shown_left))]
 fn push_permission<'a>(
     buffer: &mut Vec<u8>,
     unwritten: Unwritten<'a>,
@@ -79,7 +79,7 @@ fn push_name<'a>(
 }
 
 // Adds what is left where no name comes any more.
-#[tactic(auto, unfolding(crate::specs::ShownNames::text_left))]
+#[tactic(auto, unfolding(crate::specs::Inner::ShownNames::text_left))]
 fn push_end(buffer: &mut Vec<u8>, unwritten: Unwritten<'_>) -> Result<(), AllocError>
     ensures { OnOk result (buffer.new.items ≡ buffer.old.items ++ text_left unwritten.entry []) }
 {

@@ -5,7 +5,7 @@ ghost use Rattle.pol_fields.specs.declared.TableKind.TheVariants.{Types};
 ghost use Rattle.pol_mls.specs.MlsTexts.{name_of};
 ghost use Rattle.pol_symbols.specs.PolicySymbols.{name_in};
 ghost use Rattle.pol_rules.specs.RuleOrder.{target_table};
-ghost use Rattle.rule_text.specs.TypeNames.{AreNamesOf};
+ghost use Rattle.rule_text.specs.Inner.TypeNames.{AreNamesOf};
 
 use crate::rule_parts::push_target;
 use pol_fields::TableKind;

@@ -6,7 +6,7 @@ use Rattle.pol_bitmap.specs.declared.Node.{Node}
 use Rattle.pol_bitmap.specs.Nodes.{has_bit}
 use Rattle.pol_file.specs.declared.Parts.{Parts}
 use Rattle.pol_symbols.specs.declared.Symbols.{Symbols}
-use Rattle.dom_trans.specs.DomainEdges.{Domains, domain_edge, is_step}
+use Rattle.dom_trans.specs.Inner.DomainEdges.{Domains, domain_edge, is_step}
 use Rattle.se_options.specs.Options.{named_view}
 use Rattle.se_options.specs.declared.Named.{Named}
 use Rattle.se_words.specs.DomRequest.{DomAsks}

@@ -11,7 +11,7 @@ use Rattle.rule_ends.specs.ChosenRules.{joins, rule_passes, rules_between}
 use Rattle.dom_trans.specs.Grants.{counts, default_rules, gives, granting_rules, has_default, permission_named, rules_that, process, file, transition, dyntransition, setexec, setcurrent, execute, entrypoint}
 use Rattle.dom_trans.specs.ReasonLists.{entry_reason, grants_between, reasons_between}
 use Rattle.dom_trans.specs.Transitions.{defaults_between, entries, is_dynamic, is_standard}
-use Rattle.se_dom.specs.ReasonRules.{AreEntryRules, AreReasonRules}
+use Rattle.se_dom.specs.Inner.ReasonRules.{AreEntryRules, AreReasonRules}
 
 that-rules : (policy : Parts) (test : StoredRule → Bool) → AreRules policy (rules_that policy test)
 unfolding rules_that

@@ -1,3 +1,3 @@
 pub mod DomTexts
-pub mod ReasonRules
 pub mod DomAnswer
+pub mod Inner

@@ -3,7 +3,7 @@ ghost use Rattle.std.specs.Prelude.{◌≡◌, ◌<◌, ◌++◌, OnOk, All, len
 ghost use Rattle.std.specs.List.{flat_map};
 ghost use Rattle.pol_rules.specs.StoredRules.{stored_rules};
 ghost use Rattle.rule_order.specs.ListedOrder.{AreRules};
-ghost use Rattle.se_dom.specs.ReasonRules.{AreEntryRules, AreReasonRules};
+ghost use Rattle.se_dom.specs.Inner.ReasonRules.{AreEntryRules, AreReasonRules};
 ghost use Rattle.se_dom.specs.DomTexts.{entry_text, reason_line, reason_lines, reasons_text};
 
 use dom_trans::{EntryReason, Reasons};

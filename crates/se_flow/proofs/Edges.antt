@@ -10,7 +10,7 @@ use Rattle.pol_symbols.specs.declared.Symbols.{Symbols}
 use Rattle.perm_map.specs.PermissionMap.{Entry, Weights, weights_of}
 use Rattle.rule_ends.specs.PlainTypes.{are_two_types}
 use Rattle.flow_search.specs.Flows.{flow_weight}
-use Rattle.flow_search.specs.FlowEdges.{FlowSearch, flow_edge, is_flow}
+use Rattle.flow_search.specs.Inner.FlowEdges.{FlowSearch, flow_edge, is_flow}
 use Rattle.se_options.specs.Options.{named_view}
 use Rattle.se_options.specs.declared.Named.{Named}
 use Rattle.se_words.specs.FlowRequest.{FlowAsks}

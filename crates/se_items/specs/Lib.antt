@@ -1,3 +1,3 @@
 pub mod Writing
-pub mod Items
 pub mod Paging
+pub mod Inner

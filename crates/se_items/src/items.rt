@@ -1,6 +1,6 @@
 // Items that are made one after the other.
 ghost use Rattle.std.specs.Prelude.{ℕ, List, IfOk};
-ghost use Rattle.se_items.specs.Items.{Passes, PushesItem};
+ghost use Rattle.se_items.specs.Inner.Items.{Passes, PushesItem};
 
 use std::alloc::AllocError;
 

@@ -2,7 +2,7 @@
 use Rattle.std.proofs.Common.{◌≡◌, Bool, ◌≤◌, ◌<◌, ◌+◌, ◌++◌, ◌∷◌, [], ℕ, suc, List, length, take, drop, get_or, Option, Ok, Err, codes, sym, ◌∙◌, ap, refl, append_assoc, drop-cons, add-one, arith}
 use Rattle.std.specs.List.{flat_map}
 use Rattle.std.proofs.lemmas.List.{take_more, take-append-drop}
-use Rattle.info_lines.specs.Lines.{PushesLine}
+use Rattle.info_lines.specs.Inner.Lines.{PushesLine}
 use Rattle.se_listing.specs.Listing.{PushesNext, line_text, front_text, indent_of, listing_text}
 use Rattle.se_items.specs.Writing.{Moves, Emits, Sends, Wrote}
 use Rattle.se_items.specs.declared.WriteEnd.{WriteEnd}

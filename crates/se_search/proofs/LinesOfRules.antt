@@ -2,8 +2,8 @@
 use Rattle.std.proofs.Common.{◌≡◌, ◌∙◌, ℕ, Bool, true, false, List, [], ◌∷◌, ◌++◌, map, ap}
 use Rattle.pol_file.specs.declared.Parts.{Parts}
 use Rattle.rule_listing.specs.declared.listed_rule.ListedRule.{ListedRule}
-use Rattle.rule_listing.specs.ReadRules.{IsOfFirst, IsStored, PassesNumber}
-use Rattle.se_items.specs.Items.{Passes, PushesItem}
+use Rattle.rule_listing.specs.Inner.ReadRules.{IsOfFirst, IsStored, PassesNumber}
+use Rattle.se_items.specs.Inner.Items.{Passes, PushesItem}
 use Rattle.se_search.specs.SearchAnswer.{rule_line}
 
 -- a line that is passed over

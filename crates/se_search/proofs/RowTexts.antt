@@ -4,7 +4,7 @@ use Rattle.std.specs.List.{flat_map}
 use Rattle.std.specs.Iterator.{YieldsFirst}
 use Rattle.std.proofs.lemmas.List.{take_more}
 use Rattle.se_items.proofs.Gains.{texts-more}
-use Rattle.se_search.specs.RowLines.{PushesTargets}
+use Rattle.se_search.specs.Inner.RowLines.{PushesTargets}
 
 -- nothing was given, and nothing was left
 pub none_given : (old new : List ℕ) (given : Option ℕ) → YieldsFirst (λ (targets : List ℕ). targets) old given new → ((x : ℕ) → given ≡ Some x → ⊥) → (old ≡ []) × (new ≡ [])

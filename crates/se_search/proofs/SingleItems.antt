@@ -12,7 +12,7 @@ use Rattle.rule_singles.specs.Singles.{ends_found, ends_of_rule}
 use Rattle.se_items.specs.Paging.{page}
 use Rattle.se_words.specs.SearchRequest.{SearchAsks}
 use Rattle.se_search.specs.SearchAnswer.{found_rules, single_line, singles_text}
-use Rattle.se_search.specs.SingleLines.{AreOfRules}
+use Rattle.se_search.specs.Inner.SingleLines.{AreOfRules}
 
 rule_is : (policy : Parts) (criteria : Criteria) (number : ℕ) (o : Option StoredRule) → (ends_found policy criteria number o).rule ≡ number
 rule_is policy criteria number None = refl

@@ -11,16 +11,16 @@ use Rattle.pol_places.specs.declared.Place.{Place}
 use Rattle.pol_places.specs.declared.Row.{Row}
 use Rattle.pol_places.specs.declared.Single.{Single}
 use Rattle.pol_places.specs.Members.{Product, members, members_of}
-use Rattle.pol_places.specs.Standing.{IsRowAt, RowGives, StandsAt, member_in}
+use Rattle.pol_places.specs.Inner.Standing.{IsRowAt, RowGives, StandsAt, member_in}
 use Rattle.pol_places.proofs.Products.{get_dropped}
 use Rattle.pol_rules.specs.StoredRules.{stored_rules}
-use Rattle.rule_text.specs.RuleFrames.{frame_target}
+use Rattle.rule_text.specs.Inner.RuleFrames.{frame_target}
 use Rattle.se_items.specs.Paging.{limited, most_items, page}
 use Rattle.se_search.specs.declared.row_lines.RowLines.{RowLines}
 use Rattle.se_search.specs.declared.row_lines.SourceFrame.{SourceFrame}
-use Rattle.se_search.specs.RowLines.{IsFrameOf, IsHeadOf, PushesTargets}
+use Rattle.se_search.specs.Inner.RowLines.{IsFrameOf, IsHeadOf, PushesTargets}
 use Rattle.se_search.specs.SearchAnswer.{single_line}
-use Rattle.se_search.specs.SingleLines.{AreOfRules, IsAtRow, IsRow, end_of, lines_between, turns_to_line, turns_to_targets}
+use Rattle.se_search.specs.Inner.SingleLines.{AreOfRules, IsAtRow, IsRow, end_of, lines_between, turns_to_line, turns_to_targets}
 
 -- ---- members
 

@@ -6,7 +6,7 @@ use Rattle.se_items.specs.declared.WriteEnd.{WriteEnd}
 use Rattle.se_items.specs.declared.WriteEnd.TheVariants.{Memory}
 use Rattle.se_items.proofs.Gains.{gains-none, moves-then, part-so-far, part-then, part-wider, spilled, spilled-part}
 use Rattle.se_search.specs.declared.single_lines.SingleLines.{SingleLines}
-use Rattle.se_search.specs.SingleLines.{StandsIn, Steps, Turns, lines_left, turns_left}
+use Rattle.se_search.specs.Inner.SingleLines.{StandsIn, Steps, Turns, lines_left, turns_left}
 
 -- The text of the lines up to those that are left went on.
 pub record LinesWritten (first lines : SingleLines) (old new : Option (List ℕ)) (before now : ℕ) (had has : List ℕ) : Type 0 where

@@ -1,5 +1,3 @@
 pub mod SearchAnswer
 pub mod SearchPatterns
-pub mod RuleLines
-pub mod RowLines
-pub mod SingleLines
+pub mod Inner

@@ -1,7 +1,7 @@
 // The lines of rules, as items that are written one after the other.
 ghost use Rattle.std.specs.Prelude.{◌≡◌, ◌++◌, IfOk, OnOk, map};
 ghost use Rattle.rule_order.specs.ListedOrder.{AreRules};
-ghost use Rattle.rule_listing.specs.ReadRules.{IsStored};
+ghost use Rattle.rule_listing.specs.Inner.ReadRules.{IsStored};
 ghost use Rattle.se_search.specs.SearchAnswer.{rule_line};
 
 use rule_listing::{ListedRule, ListedTexts, RulesAhead};
@@ -17,7 +17,7 @@ pub struct RuleLines<'q, 'p, 'a> {
 }
 
 impl<'q, 'p, 'a> RuleLines<'q, 'p, 'a> {
-    ghost use Rattle.se_search.specs.RuleLines.{lines_left};
+    ghost use Rattle.se_search.specs.Inner.RuleLines.{lines_left};
 
     /// Those of the rules of a policy, which are read when their lines are made.
     pub fn new(
@@ -34,7 +34,7 @@ impl<'q, 'p, 'a> RuleLines<'q, 'p, 'a> {
 }
 
 impl Items for RuleLines<'_, '_, '_> {
-    ghost use Rattle.se_search.specs.RuleLines.{lines_left};
+    ghost use Rattle.se_search.specs.Inner.RuleLines.{lines_left};
 
     ghost left = { lines_left };
 

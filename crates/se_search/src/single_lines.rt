@@ -1,12 +1,12 @@
 // The lines of rules between single types, some of a row at a time.
 ghost use Rattle.std.specs.Prelude.{◌≡◌, ◌<◌, ◌≤◌, IfOk, length, map, min};
 ghost use Rattle.pol_places.specs.Members.{members};
-ghost use Rattle.pol_places.specs.Standing.{StandsAt};
-ghost use Rattle.rule_text.specs.TypeNames.{AreNamesOf};
+ghost use Rattle.pol_places.specs.Inner.Standing.{StandsAt};
+ghost use Rattle.rule_text.specs.Inner.TypeNames.{AreNamesOf};
 ghost use Rattle.se_items.specs.Paging.{most_items, page};
-ghost use Rattle.se_search.specs.RowLines.{IsFrameOf, IsLast};
+ghost use Rattle.se_search.specs.Inner.RowLines.{IsFrameOf, IsLast};
 ghost use Rattle.se_search.specs.SearchAnswer.{single_line};
-ghost use Rattle.se_search.specs.SingleLines.{AreOfRules, BeginsRow, CanBegin, IsRow, StandsIn, Steps, end_of, lines_left};
+ghost use Rattle.se_search.specs.Inner.SingleLines.{AreOfRules, BeginsRow, CanBegin, IsRow, StandsIn, Steps, end_of, lines_left};
 
 use crate::row_lines::{RowLines, SourceFrame, frame_between, push_targets};
 use pol_places::{Place, Places, Row};

@@ -1,7 +1,7 @@
 // The lines of rules between single types, through a buffer.
 ghost use Rattle.std.specs.List.{concat};
 ghost use Rattle.se_items.specs.Writing.{Emits, Sends};
-ghost use Rattle.se_search.specs.SingleLines.{StandsIn, lines_left};
+ghost use Rattle.se_search.specs.Inner.SingleLines.{StandsIn, lines_left};
 
 use crate::single_lines::SingleLines;
 use se_items::{WriteEnd, page_buffer, spill, write_all};

@@ -5,9 +5,9 @@ use Rattle.std.specs.List.{All}
 use Rattle.std.proofs.lemmas.List.{drop_all}
 use Rattle.std.proofs.lemmas.Option.{slice_get_within}
 use Rattle.se_items.specs.Paging.{most_items}
-use Rattle.walk_enum.specs.Moving.{Moves}
+use Rattle.walk_enum.specs.Inner.Moving.{Moves}
 use Rattle.se_walks.specs.Numbered.{numbered}
-use Rattle.se_walks.specs.Placed.{IsNext}
+use Rattle.se_walks.specs.Inner.Placed.{IsNext}
 
 -- an item of a list, and what stands after it, also of a front of the list
 front-at : (all : List (List ℕ)) (most number : ℕ) (walk : List ℕ) → slice_get all number ≡ Some walk → number < most → drop number (take most all) ≡ walk ∷ drop (suc number) (take most all)

@@ -20,7 +20,7 @@ pub struct EdgeItems<'q, T> {
 }
 
 impl<T: EdgeTexts> Items for EdgeItems<'_, T> {
-    ghost use Rattle.se_walks.specs.EdgeItems.{edges_left};
+    ghost use Rattle.se_walks.specs.Inner.EdgeItems.{edges_left};
 
     ghost left = { edges_left T.words };
 

@@ -1,6 +1,6 @@
 // Walks, as items that are written one after the other.
 ghost use Rattle.std.specs.Prelude.{◌≡◌, ◌+◌, ◌∷◌, true};
-ghost use Rattle.se_walks.specs.Placed.{IsNextIf};
+ghost use Rattle.se_walks.specs.Inner.Placed.{IsNextIf};
 ghost use Rattle.se_walks.specs.WalkTexts.{walk_item};
 
 use crate::EdgeTexts;
@@ -26,7 +26,7 @@ pub struct WalkItems<'q, T> {
 }
 
 impl<T: EdgeTexts> WalkItems<'_, T> {
-    ghost use Rattle.se_walks.specs.WalkItems.{walks_left};
+    ghost use Rattle.se_walks.specs.Inner.WalkItems.{walks_left};
 
     // Goes on to the next walk, if there is one.
     fn advance(&mut self)
@@ -43,7 +43,7 @@ impl<T: EdgeTexts> WalkItems<'_, T> {
 }
 
 impl<T: EdgeTexts> Items for WalkItems<'_, T> {
-    ghost use Rattle.se_walks.specs.WalkItems.{walks_left};
+    ghost use Rattle.se_walks.specs.Inner.WalkItems.{walks_left};
 
     ghost left = { walks_left T.words };
 

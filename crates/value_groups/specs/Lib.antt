@@ -1,3 +1,2 @@
-pub mod Dense
 pub mod Marking
-pub mod Grouping
+pub mod Inner

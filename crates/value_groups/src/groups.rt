@@ -1,6 +1,6 @@
 ghost use Rattle.std.specs.Prelude.{◌≡◌, ◌<◌, ◌≤◌, ◌^◌, IfOk, length};
 ghost use Rattle.std.specs.List.{All};
-ghost use Rattle.value_groups.specs.Grouping.{group_of, AreGroupsOf};
+ghost use Rattle.value_groups.specs.Inner.Grouping.{group_of, AreGroupsOf};
 
 use crate::counting::{places_by_value, starts_of};
 use std::alloc::{AllocError, Global};
@@ -16,7 +16,7 @@ pub struct Groups {
 
 impl Model for Groups {
     ghost use Rattle.std.specs.Prelude.{ℕ, List};
-    ghost use Rattle.value_groups.specs.Grouping.{groups_in, AreSteps};
+    ghost use Rattle.value_groups.specs.Inner.Grouping.{groups_in, AreSteps};
 
     ghost Value = { List (List ℕ) };
 

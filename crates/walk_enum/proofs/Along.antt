@@ -4,7 +4,7 @@ use Rattle.std.specs.Prelude.{◌==◌}
 use Rattle.std.specs.List.{Contains, flat_map, range_with_len}
 use Rattle.std.proofs.lemmas.Bool.{eqb-true, cases_order}
 use Rattle.walk_enum.specs.Walks.{walks_along, first_some, Goes}
-use Rattle.walk_enum.specs.Cutting.{is_none}
+use Rattle.walk_enum.specs.Inner.Cutting.{is_none}
 use Rattle.walk_enum.proofs.Elements.{not_in_nothing, in_cases, in_first, in_map, from_map, in_flat, from_flat}
 use Rattle.walk_enum.proofs.Ascending.{Ascends, Before, ascends_append, ascends_map, before_cons, before_head}
 

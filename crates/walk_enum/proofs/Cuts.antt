@@ -7,9 +7,9 @@ use Rattle.std.proofs.lemmas.List.{get_or_default}
 use Rattle.std.proofs.Math.ListN.{length-set}
 use Rattle.std.proofs.lemmas.Bool.{cases_order, cases_lt, eqb-true, and_parts, and_from, or_cases, or_left, or_right}
 use Rattle.walk_enum.specs.Walks.{walks_along, Goes}
-use Rattle.walk_enum.specs.Moving.{row_of, Leads}
-use Rattle.walk_enum.specs.Exploring.{Explores, IsAtEnd}
-use Rattle.walk_enum.specs.Cutting.{is_none, goes_on, leads_in, Cuts}
+use Rattle.walk_enum.specs.Inner.Moving.{row_of, Leads}
+use Rattle.walk_enum.specs.Inner.Exploring.{Explores, IsAtEnd}
+use Rattle.walk_enum.specs.Inner.Cutting.{is_none, goes_on, leads_in, Cuts}
 use Rattle.walk_enum.proofs.Elements.{in_filter, from_filter, passes_filter, filter_same, flat_same, flat_kept}
 use Rattle.walk_enum.proofs.Ascending.{Ascends, ascends_filter, increasing_from_ascends}
 use Rattle.walk_enum.proofs.Along.{by_step, goes_join, goes_on_by, goes_from_some, some_from_goes, some_has, has_some, none_is_empty}

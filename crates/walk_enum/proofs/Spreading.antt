@@ -6,7 +6,7 @@ use Rattle.std.proofs.lemmas.Bool.{cases_lt}
 use Rattle.std.proofs.lemmas.List.Elements.{All-contains, All-contains_itself, All-weaker, Contains-push, Contains-push_cases, Contains-append_left, Contains-append_right}
 use Rattle.std.proofs.Math.ListN.{length-set}
 use Rattle.pol_bitmap.specs.Sets.{IsUnion, IsDifference}
-use Rattle.walk_enum.specs.Exploring.{some_count, Spreads, AreFound}
+use Rattle.walk_enum.specs.Inner.Exploring.{some_count, Spreads, AreFound}
 use Rattle.walk_enum.proofs.Elements.{not_in_nothing, in_first}
 
 -- what stands in a list after a write

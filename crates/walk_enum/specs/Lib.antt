@@ -1,5 +1,2 @@
 pub mod Walks
-pub mod Moving
-pub mod Exploring
-pub mod Cutting
-pub mod Leading
+pub mod Inner

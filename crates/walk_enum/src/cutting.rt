@@ -2,7 +2,7 @@
 ghost use Rattle.std.specs.Prelude.{◌≡◌, ◌≤◌, ◌<◌, ◌+◌, ◌^◌, All, IfOk, OnOk, length, slice_index, slice_set};
 ghost use Rattle.std.specs.List.{filter};
 ghost use Rattle.pol_bitmap.specs.Nodes.{bits_of};
-ghost use Rattle.walk_enum.specs.Cutting.{goes_on, AreLeading, IsCut};
+ghost use Rattle.walk_enum.specs.Inner.Cutting.{goes_on, AreLeading, IsCut};
 
 use crate::explore::Found;
 use crate::leading::Leading;

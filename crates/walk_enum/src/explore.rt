@@ -1,7 +1,7 @@
 // The search from the source, up to the depth of the target.
 ghost use Rattle.std.specs.Prelude.{◌≡◌, ◌≤◌, ◌<◌, ◌+◌, ◌*◌, ◌^◌, IfOk, length};
 ghost use Rattle.walk_enum.specs.Walks.{ends_of};
-ghost use Rattle.walk_enum.specs.Exploring.{Explores, IsAtEnd};
+ghost use Rattle.walk_enum.specs.Inner.Exploring.{Explores, IsAtEnd};
 
 use crate::graph::Graph;
 use crate::spread::{goes_on, spread, zeros};

@@ -15,7 +15,7 @@ pub struct Leading {
 }
 
 impl Leading {
-    ghost use Rattle.walk_enum.specs.Leading.{Notes, Gathers};
+    ghost use Rattle.walk_enum.specs.Inner.Leading.{Notes, Gathers};
 
     /// One node, in the set.
     pub fn new(alloc: Global, node: u32) -> Result<Leading, AllocError>

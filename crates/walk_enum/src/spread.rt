@@ -1,7 +1,7 @@
 // One step of a search: the successors of a node get a depth.
 ghost use Rattle.std.specs.Prelude.{◌≡◌, ◌≤◌, ◌<◌, ◌+◌, All, replicate, length, IfOk, OnOk, MatchBool};
 ghost use Rattle.pol_bitmap.specs.Nodes.{bits_of};
-ghost use Rattle.walk_enum.specs.Exploring.{Spreads, AreFound, GoesOn, IsAtEnd};
+ghost use Rattle.walk_enum.specs.Inner.Exploring.{Spreads, AreFound, GoesOn, IsAtEnd};
 
 use crate::row::number_at;
 use crate::successors::Successors;

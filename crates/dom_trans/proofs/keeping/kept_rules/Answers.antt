@@ -1,7 +1,7 @@
 use Rattle.std.proofs.Common.{ap, subst, ◌∙◌}
 use Rattle.pol_rules.specs.StoredRules.{stored}
 use Rattle.dom_trans.specs.declared.keeping.Wanted.{Wanted}
-use Rattle.dom_trans.specs.Keeping.{wanted_in, AddsRule}
+use Rattle.dom_trans.specs.Inner.Keeping.{wanted_in, AddsRule}
 use Rattle.dom_trans.proofs.Keeps.{kept_more}
 use Rattle.dom_trans.proofs.keeping.kept_rules.Goals as goal
 

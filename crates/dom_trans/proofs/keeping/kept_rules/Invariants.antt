@@ -1,4 +1,4 @@
-use Rattle.dom_trans.specs.Keeping.{wanted_in, AreKept}
+use Rattle.dom_trans.specs.Inner.Keeping.{wanted_in, AreKept}
 use Rattle.dom_trans.proofs.keeping.kept_rules.Given as goal
 
 abbrev pub invariant-loop-number : goal.invariant-loop-number

@@ -1,5 +1,5 @@
 use Rattle.std.proofs.Common.{◌≡◌, take}
-use Rattle.flow_search.specs.WeightTables.{greatest_into, greatest_out}
+use Rattle.flow_search.specs.Inner.WeightTables.{greatest_into, greatest_out}
 use Rattle.flow_search.proofs.class_weights.greatest_of.Given as goal
 
 abbrev pub invariant-loop-permission : goal.invariant-loop-permission

@@ -1,6 +1,6 @@
 use Rattle.std.proofs.Common.{◌≡◌, ◌++◌, map}
 use Rattle.perm_map.specs.PermissionMap.{weights_of}
-use Rattle.flow_search.specs.WeightTables.{weighed}
+use Rattle.flow_search.specs.Inner.WeightTables.{weighed}
 use Rattle.flow_search.proofs.class_weights.push_list.Given as goal
 
 -- those that were added and those that are left

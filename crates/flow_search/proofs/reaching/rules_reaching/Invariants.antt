@@ -1,9 +1,9 @@
 use Rattle.std.proofs.Common.{◌≡◌}
 use Rattle.std.specs.List.{filter, range_with_len}
-use Rattle.rule_ends.specs.EndTables.{AreEndsOf}
+use Rattle.rule_ends.specs.Inner.EndTables.{AreEndsOf}
 use Rattle.perm_map.specs.PermissionMap.{weights_of}
 use Rattle.flow_search.specs.FlowWeights.{inwards, outwards}
-use Rattle.flow_search.specs.FlowParts.{reaches}
+use Rattle.flow_search.specs.Inner.FlowParts.{reaches}
 use Rattle.flow_search.proofs.reaching.rules_reaching.Given as goal
 
 abbrev pub invariant-loop-number : goal.invariant-loop-number

@@ -2,7 +2,7 @@ use Rattle.std.proofs.Common.{◌≡◌, ◌<◌, ℕ, [], length, slice_get, sl
 use Rattle.pol_cursor.specs.References.{Placed}
 use Rattle.pol_classes.specs.declared.ClassRec.{ClassRec}
 use Rattle.perm_map.specs.PermissionMap.{weights_of}
-use Rattle.flow_search.specs.WeightTables.{class_weights}
+use Rattle.flow_search.specs.Inner.WeightTables.{class_weights}
 use Rattle.flow_search.proofs.weigher.weights_of_classes.Given as goal
 
 abbrev pub invariant-loop-i : goal.invariant-loop-i

@@ -1,5 +1,5 @@
 use Rattle.std.proofs.Common.{take}
-use Rattle.info_symbols.specs.AliasLists.{AreListed}
+use Rattle.info_symbols.specs.Inner.AliasLists.{AreListed}
 use Rattle.info_symbols.proofs.aliases.aliases_among.Given as goal
 
 abbrev pub invariant-loop-number : goal.invariant-loop-number

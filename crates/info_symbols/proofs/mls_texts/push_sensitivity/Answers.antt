@@ -5,7 +5,7 @@ use Rattle.pol_fields.specs.declared.TableKind.TheVariants.{Levels}
 use Rattle.pol_datums.specs.declared.SensitivityRec.{SensitivityRec}
 use Rattle.pol_symbols.specs.declared.symbols.Symbols.{Symbols}
 use Rattle.pol_texts.specs.NameLists.{in_order}
-use Rattle.info_symbols.specs.AliasLists.{AreAliases}
+use Rattle.info_symbols.specs.Inner.AliasLists.{AreAliases}
 use Rattle.info_symbols.specs.Aliases.{alias_names, alias_text}
 use Rattle.info_symbols.specs.MlsLines.{level_part, sensitivity_line}
 use Rattle.info_symbols.proofs.mls_texts.push_sensitivity.Goals as goal

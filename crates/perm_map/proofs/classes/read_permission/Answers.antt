@@ -1,4 +1,4 @@
-use Rattle.perm_map.specs.RowViews.{permission_line_of}
+use Rattle.perm_map.specs.Inner.RowViews.{permission_line_of}
 use Rattle.perm_map.proofs.Repeating.{permission_read}
 use Rattle.perm_map.proofs.classes.read_permission.Goals as goal
 

@@ -1,6 +1,6 @@
 use Rattle.std.proofs.Common.{rules, refl, nat_lt}
 use Rattle.std.proofs.lemmas.Fn.{always_returns_same}
-use Rattle.pol_avtab.specs.InnerKeys.{words_of, is_shared}
+use Rattle.pol_avtab.specs.Inner.DuplicateKeys.{words_of, is_shared}
 use Rattle.pol_avtab.proofs.KeyWords.{distinct_of_rising}
 use Rattle.pol_avtab.proofs.SharedWords.{distinct_of_tested}
 use Rattle.pol_avtab.proofs.av_table.have_distinct_words.Goals as goal

@@ -1,5 +1,5 @@
 use Rattle.std.proofs.Common.{◌-◌, ◌≤◌, length, take}
-use Rattle.pol_avtab.specs.InnerKeys.{words_of, AreMarked}
+use Rattle.pol_avtab.specs.Inner.DuplicateKeys.{words_of, AreMarked}
 use Rattle.pol_avtab.proofs.av_table.mark_words.Given as goal
 
 abbrev pub invariant-loop-i : goal.invariant-loop-i

@@ -1,7 +1,7 @@
 use Rattle.std.proofs.Common.{◌≡◌, ◌∙◌, Bool, Some, true, sym, ap}
 use Rattle.std.specs.Prelude.{◌==◌}
 use Rattle.std.specs.List.{IsDistinct}
-use Rattle.pol_avtab.specs.InnerKeys.{words_of}
+use Rattle.pol_avtab.specs.Inner.DuplicateKeys.{words_of}
 use Rattle.pol_avtab.proofs.EvenRules.{read_if}
 use Rattle.pol_avtab.proofs.av_table.read_even.Goals as goal
 use Rattle.pol_avtab.proofs.av_table.read_even.Goals.{then-rising, else-rising+in_ok-distinct}

@@ -1,6 +1,6 @@
 use Rattle.std.proofs.Common.{◌≡◌, ◌-◌, ◌≤◌, length, take}
 use Rattle.std.specs.List.{filter}
-use Rattle.pol_avtab.specs.InnerKeys.{words_of, is_shared}
+use Rattle.pol_avtab.specs.Inner.DuplicateKeys.{words_of, is_shared}
 use Rattle.pol_avtab.proofs.av_table.shared_words.Given as goal
 
 abbrev pub invariant-loop-i : goal.invariant-loop-i

@@ -1,5 +1,5 @@
 use Rattle.std.proofs.Common.{◌≡◌, ◌+◌, ◌*◌, true, sym, ap, ◌∙◌, below_more, arith}
-use Rattle.pol_cursor.specs.EvenPlaces.{even_places}
+use Rattle.pol_cursor.specs.Inner.EvenPlaces.{even_places}
 use Rattle.pol_avtab.specs.AvRecord.{is_kind, specified_in}
 use Rattle.pol_avtab.proofs.EvenRules.{words_more}
 use Rattle.pol_avtab.proofs.KeyOrder.{rising_more}

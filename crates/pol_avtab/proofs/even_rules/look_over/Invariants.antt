@@ -1,7 +1,7 @@
 use Rattle.std.proofs.Common.{◌≡◌, ◌<◌, ◌+◌, ◌*◌, ℕ, true}
 use Rattle.pol_avtab.specs.AvRecord.{is_kind, specified_in}
-use Rattle.pol_avtab.specs.EvenRules.{even_rules}
-use Rattle.pol_avtab.specs.InnerKeys.{words_of, AreRising}
+use Rattle.pol_avtab.specs.Inner.EvenRules.{even_rules}
+use Rattle.pol_avtab.specs.Inner.DuplicateKeys.{words_of, AreRising}
 use Rattle.pol_avtab.proofs.even_rules.look_over.Given as goal
 
 -- all before are of such kinds, and, if they rise so far, the last key is theirs

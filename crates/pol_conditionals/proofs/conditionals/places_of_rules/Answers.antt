@@ -4,7 +4,7 @@ use Rattle.std.proofs.lemmas.Option.{get_or_from_slice_get, slice_get_within}
 use Rattle.pol_cursor.specs.References.{Placed}
 use Rattle.pol_conditionals.specs.declared.condnode_rec.CondNodeRec.{CondNodeRec}
 use Rattle.pol_conditionals.specs.CondNodeRecord.{branch_rules}
-use Rattle.pol_conditionals.specs.PlaceGroups.{places_of}
+use Rattle.pol_conditionals.specs.Inner.PlaceGroups.{places_of}
 use Rattle.pol_conditionals.proofs.conditionals.places_of_rules.Goals as goal
 
 pub loop-i-preserved : goal.loop-i-preserved

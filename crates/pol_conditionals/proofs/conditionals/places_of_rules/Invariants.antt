@@ -1,5 +1,5 @@
 use Rattle.std.proofs.Common.{◌≡◌, take, map}
-use Rattle.pol_conditionals.specs.PlaceGroups.{places_of}
+use Rattle.pol_conditionals.specs.Inner.PlaceGroups.{places_of}
 use Rattle.pol_conditionals.specs.CondNodeRecord.{branch_rules}
 use Rattle.pol_conditionals.proofs.conditionals.places_of_rules.Given as goal
 

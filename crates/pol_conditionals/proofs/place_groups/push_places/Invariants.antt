@@ -1,5 +1,5 @@
 use Rattle.std.proofs.Common.{◌≡◌, ◌++◌, length, drop}
-use Rattle.pol_conditionals.specs.PlaceGroups.{places_of}
+use Rattle.pol_conditionals.specs.Inner.PlaceGroups.{places_of}
 use Rattle.pol_conditionals.proofs.place_groups.push_places.Given as goal
 
 abbrev pub invariant-loop-rule : goal.invariant-loop-rule

@@ -2,7 +2,7 @@ use Rattle.std.proofs.Common.{ℕ, ◌%◌, ap, sym, ◌∙◌, arith}
 use Rattle.std.specs.Prelude.{◌==◌}
 use Rattle.std.specs.Int.{bit_at}
 use Rattle.std.proofs.lemmas.Nat.Bits.{bit_at-zero, shr_and_one}
-use Rattle.pol_cursor.specs.BitPlaces.{has_bit_of}
+use Rattle.pol_cursor.specs.Inner.BitPlaces.{has_bit_of}
 use Rattle.pol_cursor.proofs.bit_places.has_bit.Goals as goal
 
 pub returns-in-Some : goal.returns-in-Some

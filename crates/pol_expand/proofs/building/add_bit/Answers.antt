@@ -1,7 +1,7 @@
 use Rattle.std.proofs.Common.{◌≡◌, ◌<◌, ◌*◌, ◌%◌, ◌^◌, ℕ, length, get_or, set, bit_or, sym, subst, ◌∙◌, arith}
 use Rattle.std.specs.Prelude.{◌==◌}
 use Rattle.std.proofs.lemmas.List.{get_or_default}
-use Rattle.pol_expand.specs.Inverting.{GainType}
+use Rattle.pol_expand.specs.Inner.Inverting.{GainType}
 use Rattle.pol_expand.proofs.Gains.{gains_bit}
 use Rattle.pol_expand.proofs.building.add_bit.Goals as goal
 

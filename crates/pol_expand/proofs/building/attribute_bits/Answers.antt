@@ -1,6 +1,6 @@
 use Rattle.std.proofs.Common.{◌≡◌, ◌+◌, ◌++◌, ◌∷◌, [], List, ℕ, Bool, true, false, cond, sym, ap, ◌∙◌, append-nil}
 use Rattle.pol_bitmap.specs.Nodes.{has_bit}
-use Rattle.pol_expand.specs.Inverting.{attribute_bits}
+use Rattle.pol_expand.specs.Inner.Inverting.{attribute_bits}
 use Rattle.pol_expand.proofs.Values.{filter_below_more}
 use Rattle.pol_expand.proofs.building.attribute_bits.Goals as goal
 use Rattle.pol_expand.proofs.building.attribute_bits.Goals.{then-has_value+in_ok-push, else-has_value}

@@ -1,5 +1,5 @@
 use Rattle.std.proofs.Common.{◌≡◌}
-use Rattle.pol_expand.specs.Inverting.{attribute_bits}
+use Rattle.pol_expand.specs.Inner.Inverting.{attribute_bits}
 use Rattle.pol_expand.proofs.building.attribute_bits.Given as goal
 
 abbrev pub invariant-loop-bit : goal.invariant-loop-bit

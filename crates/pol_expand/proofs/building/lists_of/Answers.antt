@@ -1,6 +1,6 @@
 use Rattle.std.proofs.Common.{◌≡◌, ◌+◌, ◌*◌, ◌<◌, List, ℕ, length, subst, sym, ap, ◌∙◌, arith}
 use Rattle.std.specs.List.{All}
-use Rattle.pol_expand.specs.Inverting.{attribute_bits, AreListsBelow, AreWords, GainNodes}
+use Rattle.pol_expand.specs.Inner.Inverting.{attribute_bits, AreListsBelow, AreWords, GainNodes}
 use Rattle.pol_expand.proofs.Gains.{attribute_bits_rise, attribute_bits_within, lists_room, lists_next, lists_end, whole}
 use Rattle.pol_expand.proofs.building.lists_of.Goals as goal
 

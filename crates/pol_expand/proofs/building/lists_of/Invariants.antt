@@ -1,5 +1,5 @@
 use Rattle.std.proofs.Common.{◌*◌}
-use Rattle.pol_expand.specs.Inverting.{AreListsBelow}
+use Rattle.pol_expand.specs.Inner.Inverting.{AreListsBelow}
 use Rattle.pol_expand.proofs.building.lists_of.Given as goal
 
 abbrev pub invariant-loop-block : goal.invariant-loop-block

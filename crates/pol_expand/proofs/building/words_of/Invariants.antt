@@ -1,4 +1,4 @@
-use Rattle.pol_expand.specs.Inverting.{AreWords}
+use Rattle.pol_expand.specs.Inner.Inverting.{AreWords}
 use Rattle.pol_expand.proofs.building.words_of.Given as goal
 
 abbrev pub invariant-loop-place : goal.invariant-loop-place

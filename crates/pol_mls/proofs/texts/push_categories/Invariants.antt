@@ -1,7 +1,7 @@
 use Rattle.std.proofs.Common.{◌≡◌, ◌++◌}
 use Rattle.pol_bitmap.specs.Nodes.{bits_of}
 use Rattle.pol_mls.specs.MlsTexts.{categories_of, categories_text}
-use Rattle.pol_mls.specs.Runs.{text_left}
+use Rattle.pol_mls.specs.Inner.Runs.{text_left}
 use Rattle.pol_mls.proofs.texts.push_categories.Given as goal
 
 -- what is written and what is left make the text

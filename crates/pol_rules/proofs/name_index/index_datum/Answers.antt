@@ -1,7 +1,7 @@
 use Rattle.std.proofs.Common.{ℕ, ◌+◌, List, [], ◌∷◌, sym, subst, ◌∙◌, arith}
 use Rattle.pol_cursor.specs.References.{Placed}
 use Rattle.pol_trans.specs.declared.NameGroupRec.{NameGroupRec}
-use Rattle.pol_rules.specs.RuleNumbers.{SourceNode, Gains, nodes_of_datum, with_rules}
+use Rattle.pol_rules.specs.Inner.RuleNumbers.{SourceNode, Gains, nodes_of_datum, with_rules}
 use Rattle.pol_rules.proofs.RuleNodes.{Adding, nodes_left, datum_total, node_some, node_gone, one_total, gains_one, few_more, adding_limit, adding_more}
 use Rattle.pol_rules.proofs.name_index.index_datum.Goals as goal
 use Rattle.pol_rules.proofs.name_index.index_datum.Goals.{then-count-gt0+in_ok-push+in_ok-push-2, else-count-gt0}

@@ -1,7 +1,7 @@
 use Rattle.std.proofs.Common.{ℕ, ◌≤◌, length, sum}
 use Rattle.pol_cursor.specs.References.{Placed}
 use Rattle.pol_trans.specs.declared.NameGroupRec.{NameGroupRec}
-use Rattle.pol_rules.specs.RuleNumbers.{nodes_of_datum, with_rules}
+use Rattle.pol_rules.specs.Inner.RuleNumbers.{nodes_of_datum, with_rules}
 use Rattle.pol_rules.proofs.RuleNodes.{Adding, nodes_left}
 use Rattle.pol_rules.proofs.name_index.index_datum.Given as goal
 

@@ -3,7 +3,7 @@ use Rattle.std.specs.List.{flat_map}
 use Rattle.pol_cursor.specs.References.{Placed}
 use Rattle.pol_trans.specs.declared.NameDatumRec.{NameDatumRec}
 use Rattle.pol_trans.specs.declared.NameGroupRec.{NameGroupRec}
-use Rattle.pol_rules.specs.RuleNumbers.{nodes_of_datum, nodes_of_group, with_rules}
+use Rattle.pol_rules.specs.Inner.RuleNumbers.{nodes_of_datum, nodes_of_group, with_rules}
 use Rattle.pol_rules.proofs.RuleNodes.{group_total, datum_total, datum_more, adding_limit, adding_more}
 use Rattle.pol_rules.proofs.name_index.index_group.Goals as goal
 

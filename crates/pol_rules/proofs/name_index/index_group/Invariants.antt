@@ -2,7 +2,7 @@ use Rattle.std.proofs.Common.{ℕ, ◌≤◌, length, sum}
 use Rattle.std.specs.List.{flat_map}
 use Rattle.pol_cursor.specs.References.{Placed}
 use Rattle.pol_trans.specs.declared.NameGroupRec.{NameGroupRec}
-use Rattle.pol_rules.specs.RuleNumbers.{nodes_of_datum, nodes_of_group, with_rules}
+use Rattle.pol_rules.specs.Inner.RuleNumbers.{nodes_of_datum, nodes_of_group, with_rules}
 use Rattle.pol_rules.proofs.RuleNodes.{Adding}
 use Rattle.pol_rules.proofs.name_index.index_group.Given as goal
 

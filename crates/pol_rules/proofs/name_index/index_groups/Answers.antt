@@ -1,6 +1,6 @@
 use Rattle.std.proofs.Common.{ℕ, ◌+◌, List, [], ◌++◌, length, map, sum, ap, arith}
 use Rattle.pol_rules.specs.declared.name_index.NodePlace.{NodePlace}
-use Rattle.pol_rules.specs.RuleNumbers.{lengths_of, rules_at, place_of, nodes_of_group, with_rules, rule_nodes}
+use Rattle.pol_rules.specs.Inner.RuleNumbers.{lengths_of, rules_at, place_of, nodes_of_group, with_rules, rule_nodes}
 use Rattle.pol_rules.proofs.RuleNodes.{group_nodes_left, names_total, group_total, group_more, adding_limit, adding_more}
 use Rattle.pol_rules.proofs.name_index.index_groups.Goals as goal
 

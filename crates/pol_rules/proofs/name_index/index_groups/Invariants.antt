@@ -1,5 +1,5 @@
 use Rattle.std.proofs.Common.{◌≤◌, [], length, sum}
-use Rattle.pol_rules.specs.RuleNumbers.{with_rules, rule_nodes}
+use Rattle.pol_rules.specs.Inner.RuleNumbers.{with_rules, rule_nodes}
 use Rattle.pol_rules.proofs.RuleNodes.{Adding, group_nodes_left}
 use Rattle.pol_rules.proofs.name_index.index_groups.Given as goal
 

@@ -1,7 +1,7 @@
 use Rattle.std.proofs.Common.{◌≡◌}
 use Rattle.std.specs.List.{range_with_len}
 use Rattle.pol_rules.specs.StoredRules.{rules_of_node}
-use Rattle.pol_rules.specs.RuleNumbers.{lengths_of}
+use Rattle.pol_rules.specs.Inner.RuleNumbers.{lengths_of}
 use Rattle.pol_rules.proofs.rule_index.index_nodes.Given as goal
 
 abbrev pub invariant-loop-i : goal.invariant-loop-i

@@ -3,7 +3,7 @@ use Rattle.std.proofs.lemmas.List.{length-map}
 use Rattle.std.proofs.lemmas.Result.{IfOk-weaker}
 use Rattle.std.specs.List.{range_with_len}
 use Rattle.pol_rules.specs.StoredRules.{rules_of_node, rules_of_nodes}
-use Rattle.pol_rules.specs.RuleNumbers.{section_lengths}
+use Rattle.pol_rules.specs.Inner.RuleNumbers.{section_lengths}
 use Rattle.pol_rules.proofs.RuleSums.{total_is, section_sizes}
 use Rattle.pol_rules.proofs.rule_index.index_sections.Goals as goal
 

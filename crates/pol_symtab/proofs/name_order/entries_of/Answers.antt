@@ -2,8 +2,8 @@ use Rattle.std.proofs.Common.{◌≡◌, refl, sym, ap, ◌∙◌, length, take,
 use Rattle.std.proofs.lemmas.List.{map_push, length-map, length-take}
 use Rattle.std.proofs.lemmas.List.Elements.{All-nil, All-push}
 use Rattle.pol_symtab.specs.declared.name_order.Entry.{Entry}
-use Rattle.pol_symtab.specs.NamePrefixes.{HasPrefix}
-use Rattle.pol_symtab.specs.TableIndex.{numbered, seen}
+use Rattle.pol_symtab.specs.Inner.NamePrefixes.{HasPrefix}
+use Rattle.pol_symtab.specs.Inner.TableIndex.{numbered, seen}
 use Rattle.pol_symtab.proofs.SortedNames.{numbered_next, length_numbered, named}
 use Rattle.pol_symtab.proofs.name_order.entries_of.Goals as goal
 

@@ -1,8 +1,8 @@
 use Rattle.std.proofs.Common.{◌≡◌}
 use Rattle.std.specs.Prelude.{map, take}
 use Rattle.std.specs.List.{All}
-use Rattle.pol_symtab.specs.NamePrefixes.{HasPrefix}
-use Rattle.pol_symtab.specs.TableIndex.{seen, numbered}
+use Rattle.pol_symtab.specs.Inner.NamePrefixes.{HasPrefix}
+use Rattle.pol_symtab.specs.Inner.TableIndex.{seen, numbered}
 use Rattle.pol_symtab.proofs.name_order.entries_of.Given as goal
 
 abbrev pub invariant-loop-number : goal.invariant-loop-number

@@ -1,5 +1,5 @@
 use Rattle.std.proofs.Common.{ℕ, ◌<◌, ◌≤◌, ◌+◌, ◌-◌, ◌/◌, refl, sym, ◌∙◌, arith}
-use Rattle.pol_symtab.specs.TableIndex.{names_of, name_at}
+use Rattle.pol_symtab.specs.Inner.TableIndex.{names_of, name_at}
 use Rattle.std.specs.declared.cmp.Ordering.TheVariants.{Less, Equal, Greater}
 use Rattle.std.specs.Prelude.{slice_index}
 use Rattle.pol_symtab.proofs.ByteOrder.{compared}

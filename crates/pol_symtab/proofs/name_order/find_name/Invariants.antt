@@ -1,5 +1,5 @@
 use Rattle.std.proofs.Common.{◌-◌}
-use Rattle.pol_symtab.specs.TableIndex.{names_of}
+use Rattle.pol_symtab.specs.Inner.TableIndex.{names_of}
 use Rattle.pol_symtab.proofs.NameSearch.{IsBetween}
 use Rattle.pol_symtab.proofs.name_order.find_name.Given as goal
 

@@ -3,7 +3,7 @@ use Rattle.std.specs.Prelude.{map, slice_get, slice_set, option_map}
 use Rattle.std.proofs.lemmas.List.{length-map, length-set}
 use Rattle.std.proofs.lemmas.Option.{slice_get-map, slice_get-get_or, slice_get_within}
 use Rattle.pol_symtab.specs.declared.name_order.Entry.{Entry}
-use Rattle.pol_symtab.specs.TableIndex.{seen}
+use Rattle.pol_symtab.specs.Inner.TableIndex.{seen}
 use Rattle.pol_symtab.proofs.Ranks.{primary_next, number_within, rank_next, RankFirst}
 use Rattle.pol_symtab.proofs.name_order.rank_names.Goals as goal
 use Rattle.pol_symtab.proofs.name_order.rank_names.Goals.{then-entry, else-entry}

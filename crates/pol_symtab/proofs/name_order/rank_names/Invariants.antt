@@ -1,6 +1,6 @@
 use Rattle.std.proofs.Common.{◌≡◌, length}
 use Rattle.std.specs.Prelude.{map}
-use Rattle.pol_symtab.specs.TableIndex.{seen}
+use Rattle.pol_symtab.specs.Inner.TableIndex.{seen}
 use Rattle.pol_symtab.proofs.Ranks.{primary_before, RankFirst}
 use Rattle.pol_symtab.proofs.name_order.rank_names.Given as goal
 

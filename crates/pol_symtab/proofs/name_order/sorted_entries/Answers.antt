@@ -9,9 +9,9 @@ use Rattle.std.proofs.lemmas.List.{length-map}
 use Rattle.std.proofs.lemmas.List.Sorted.{All-permutation, IsPermutation-map}
 use Rattle.std.proofs.lemmas.Option.{slice_get-map, slice_get-get_or, slice_get_within, same_Some}
 use Rattle.pol_symtab.specs.declared.name_order.Entry.{Entry}
-use Rattle.pol_symtab.specs.NamePrefixes.{HasPrefix}
+use Rattle.pol_symtab.specs.Inner.NamePrefixes.{HasPrefix}
 use Rattle.pol_symtab.specs.SymbolTables.{is_below}
-use Rattle.pol_symtab.specs.TableIndex.{Named, seen}
+use Rattle.pol_symtab.specs.Inner.TableIndex.{Named, seen}
 use Rattle.pol_symtab.proofs.Prefixes.{name_not_below}
 use Rattle.pol_symtab.proofs.SortedNames.{DoNotFall, sorted_names}
 use Rattle.pol_symtab.proofs.name_order.sorted_entries.Goals as goal

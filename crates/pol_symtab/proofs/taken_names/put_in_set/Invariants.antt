@@ -1,5 +1,5 @@
 use Rattle.std.proofs.Common.{take}
-use Rattle.pol_symtab.specs.TakenMembers.{AreInSet}
+use Rattle.pol_symtab.specs.Inner.TakenMembers.{AreInSet}
 use Rattle.pol_symtab.proofs.TakenNames.{names_of}
 use Rattle.pol_symtab.proofs.taken_names.put_in_set.Given as goal
 

@@ -1,5 +1,5 @@
 use Rattle.std.proofs.Common.{◌≡◌, ℕ, ◌-◌, vec_len}
-use Rattle.pol_cursor.specs.BitPlaces.{has_bit_of}
+use Rattle.pol_cursor.specs.Inner.BitPlaces.{has_bit_of}
 use Rattle.pol_symtab.proofs.taken_values.grow.Given as goal
 
 abbrev pub decreases-loop-bits : goal.decreases-loop-bits

@@ -1,7 +1,7 @@
 use Rattle.std.proofs.Common.{sym, ◌∙◌, subst, ◌<◌, length, Some, None, [], ◌+◌, arith}
 use Rattle.std.specs.Prelude.{vec_len, take, slice_set}
 use Rattle.std.proofs.lemmas.List.{length-set}
-use Rattle.pol_symtab.specs.TableIndex.{IsValueIndex}
+use Rattle.pol_symtab.specs.Inner.TableIndex.{IsValueIndex}
 use Rattle.pol_symtab.proofs.ListPlaces.{filled_up}
 use Rattle.pol_symtab.proofs.ValueEntries.{values_start, after_alias, declared_within, after_primary}
 use Rattle.pol_symtab.proofs.value_index.index_values.Goals as goal

@@ -1,6 +1,6 @@
 use Rattle.std.proofs.Common.{◌≡◌, ◌+◌, length}
 use Rattle.std.specs.Prelude.{take}
-use Rattle.pol_symtab.specs.TableIndex.{IsValueIndex}
+use Rattle.pol_symtab.specs.Inner.TableIndex.{IsValueIndex}
 use Rattle.pol_symtab.proofs.value_index.index_values.Given as goal
 
 abbrev pub invariant-loop-i : goal.invariant-loop-i

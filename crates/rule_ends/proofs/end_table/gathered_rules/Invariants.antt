@@ -1,5 +1,5 @@
 use Rattle.std.proofs.Common.{◌≡◌, take}
-use Rattle.rule_ends.specs.EndTables.{AreEndsOf}
+use Rattle.rule_ends.specs.Inner.EndTables.{AreEndsOf}
 use Rattle.rule_ends.proofs.end_table.gathered_rules.Given as goal
 
 abbrev pub invariant-loop-number : goal.invariant-loop-number

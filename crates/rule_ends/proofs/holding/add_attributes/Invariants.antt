@@ -1,7 +1,7 @@
 use Rattle.std.proofs.Common.{◌≡◌, ◌+◌}
 use Rattle.pol_bitmap.specs.Nodes.{bits_of}
 use Rattle.pol_expand.specs.PolicyMap.{row_in}
-use Rattle.rule_ends.specs.EndTables.{is_attribute_bit}
+use Rattle.rule_ends.specs.Inner.EndTables.{is_attribute_bit}
 use Rattle.rule_ends.proofs.Steps.{Adding}
 use Rattle.rule_ends.proofs.holding.add_attributes.Given as goal
 

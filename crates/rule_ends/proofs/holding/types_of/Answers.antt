@@ -3,7 +3,7 @@ use Rattle.std.specs.List.{list_any}
 use Rattle.std.proofs.lemmas.List.{take_all}
 use Rattle.std.proofs.lemmas.List.Elements.{All-get_or}
 use Rattle.rule_ends.specs.ChosenRules.{holds_type}
-use Rattle.rule_ends.specs.EndTables.{IsEnd}
+use Rattle.rule_ends.specs.Inner.EndTables.{IsEnd}
 use Rattle.rule_ends.proofs.Holders.{held_within, passing_set}
 use Rattle.rule_ends.proofs.Steps.{front_more}
 use Rattle.rule_ends.proofs.holding.types_of.Goals as goal

@@ -1,6 +1,6 @@
 use Rattle.std.proofs.Common.{◌≡◌, take}
-use Rattle.value_groups.specs.Grouping.{group_of}
-use Rattle.rule_ends.specs.EndTables.{rules_found}
+use Rattle.value_groups.specs.Inner.Grouping.{group_of}
+use Rattle.rule_ends.specs.Inner.EndTables.{rules_found}
 use Rattle.rule_ends.proofs.walking.found_rules.Given as goal
 
 abbrev pub invariant-loop-end : goal.invariant-loop-end

@@ -1,6 +1,6 @@
 use Rattle.std.proofs.Common.{◌≡◌, false, take}
-use Rattle.value_groups.specs.Grouping.{group_of}
-use Rattle.rule_ends.specs.EndTables.{any_found}
+use Rattle.value_groups.specs.Inner.Grouping.{group_of}
+use Rattle.rule_ends.specs.Inner.EndTables.{any_found}
 use Rattle.rule_ends.proofs.walking.has_rule.Given as goal
 
 abbrev pub invariant-loop-end : goal.invariant-loop-end

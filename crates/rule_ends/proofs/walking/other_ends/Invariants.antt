@@ -1,7 +1,7 @@
 use Rattle.std.proofs.Common.{◌≡◌, [], take}
 use Rattle.std.specs.Prelude.{◌==◌, slice_index}
 use Rattle.std.specs.List.{list_any}
-use Rattle.value_groups.specs.Grouping.{group_of}
+use Rattle.value_groups.specs.Inner.Grouping.{group_of}
 use Rattle.rule_ends.proofs.Steps.{AddedFront}
 use Rattle.rule_ends.proofs.walking.other_ends.Given as goal
 

@@ -1,5 +1,5 @@
 use Rattle.std.proofs.Common.{◌≡◌, ◌++◌, take}
-use Rattle.rule_ends.specs.EndTables.{places_to, rules_at}
+use Rattle.rule_ends.specs.Inner.EndTables.{places_to, rules_at}
 use Rattle.rule_ends.proofs.walking.push_rules.Given as goal
 
 abbrev pub invariant-loop-place : goal.invariant-loop-place

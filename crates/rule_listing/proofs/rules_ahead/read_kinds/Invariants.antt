@@ -1,6 +1,6 @@
 use Rattle.std.proofs.Common.{◌≡◌, Some, length, map, take}
 use Rattle.std.specs.Vec.{vec_capacity}
-use Rattle.rule_listing.specs.ReadRules.{kind_at}
+use Rattle.rule_listing.specs.Inner.ReadRules.{kind_at}
 use Rattle.rule_listing.proofs.rules_ahead.read_kinds.Given as goal
 
 -- those of the rules of the numbers before are read

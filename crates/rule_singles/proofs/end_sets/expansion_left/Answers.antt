@@ -2,7 +2,7 @@ use Rattle.std.proofs.Common.{◌≡◌, ◌∙◌, ℕ, IfOk, List, subst}
 use Rattle.std.specs.List.{filter}
 use Rattle.pol_bitmap.specs.Nodes.{bits_of}
 use Rattle.rule_query.proofs.TypeEnds.{in_map}
-use Rattle.rule_singles.specs.EndSets.{leaves}
+use Rattle.rule_singles.specs.Inner.EndSets.{leaves}
 use Rattle.rule_singles.proofs.end_sets.expansion_left.Goals as goal
 
 pub expansion-requires : goal.expansion-requires

@@ -1,6 +1,6 @@
 use Rattle.std.proofs.Common.{◌≡◌, ◌++◌}
 use Rattle.rule_text.specs.IoctlTexts.{ioctl_text}
-use Rattle.rule_text.specs.IoctlRuns.{text_left}
+use Rattle.rule_text.specs.Inner.IoctlRuns.{text_left}
 use Rattle.rule_text.proofs.ioctl_texts.push_ioctl_text.Given as goal
 
 -- what is written and what is left make the text

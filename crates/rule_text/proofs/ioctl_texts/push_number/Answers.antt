@@ -1,6 +1,6 @@
 use Rattle.std.proofs.Common.{◌++◌, ◌∙◌, List, ℕ, ap, sym}
 use Rattle.rule_text.specs.IoctlTexts.{run_text}
-use Rattle.rule_text.specs.IoctlRuns.{numbers_in}
+use Rattle.rule_text.specs.Inner.IoctlRuns.{numbers_in}
 use Rattle.rule_text.proofs.RunTexts.{first_goes_on, later_goes_on, first_is_cut, later_is_cut}
 use Rattle.rule_text.proofs.ioctl_texts.push_number.Goals as goal
 

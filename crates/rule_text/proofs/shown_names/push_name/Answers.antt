@@ -1,5 +1,5 @@
 use Rattle.std.proofs.Common.{refl}
-use Rattle.rule_text.specs.ShownNames.{text_left}
+use Rattle.rule_text.specs.Inner.ShownNames.{text_left}
 use Rattle.rule_text.proofs.SetTexts.{second_name, next_name}
 use Rattle.rule_text.proofs.shown_names.push_name.Goals as goal
 

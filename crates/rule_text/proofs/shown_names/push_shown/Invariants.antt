@@ -1,6 +1,6 @@
 use Rattle.std.proofs.Common.{◌≡◌, ◌++◌, drop}
-use Rattle.rule_text.specs.ClassPermissions.{shown_text}
-use Rattle.rule_text.specs.ShownNames.{shown_left}
+use Rattle.rule_text.specs.Inner.ClassPermissions.{shown_text}
+use Rattle.rule_text.specs.Inner.ShownNames.{shown_left}
 use Rattle.rule_text.proofs.shown_names.push_shown.Given as goal
 
 -- what is written and what is left make the text

@@ -1,7 +1,7 @@
 use Rattle.std.proofs.Common.{subst, sym}
 use Rattle.pol_file.specs.declared.Parts.{Parts}
 use Rattle.dom_trans.specs.declared.Reasons.{Reasons}
-use Rattle.se_dom.specs.ReasonRules.{AreReasonRules}
+use Rattle.se_dom.specs.Inner.ReasonRules.{AreReasonRules}
 use Rattle.se_dom.proofs.ReasonLemmas.{reason-rules}
 use Rattle.se_dom.proofs.dom_texts.push_transition.Goals as goal
 

@@ -1,6 +1,6 @@
 use Rattle.std.proofs.Common.{subst, sym}
 use Rattle.dom_trans.specs.declared.EntryReason.{EntryReason}
-use Rattle.se_dom.specs.ReasonRules.{AreEntryRules}
+use Rattle.se_dom.specs.Inner.ReasonRules.{AreEntryRules}
 use Rattle.se_dom.proofs.reason_texts.push_entries.Goals as goal
 
 pub push_entry-requires-clause-rules : goal.push_entry-requires-clause-rules

@@ -4,7 +4,7 @@ use Rattle.rule_order.specs.ListedOrder.{AreRules}
 use Rattle.se_items.specs.Paging.{most_items}
 use Rattle.se_items.specs.Writing.{Sends}
 use Rattle.se_words.specs.SearchRequest.{search_view}
-use Rattle.se_search.specs.RuleLines.{lines_left}
+use Rattle.se_search.specs.Inner.RuleLines.{lines_left}
 use Rattle.se_search.specs.SearchAnswer.{found_rules, rule_line}
 use Rattle.se_search.proofs.FoundRules.{few-lines, listed-are-rules, text-found}
 use Rattle.se_search.proofs.search.write_rules.Goals as goal

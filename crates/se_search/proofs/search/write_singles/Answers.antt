@@ -3,12 +3,12 @@ use Rattle.pol_file.specs.declared.Parts.{Parts}
 use Rattle.pol_places.specs.Members.{Product, members}
 use Rattle.pol_symbols.specs.declared.Symbols.{Symbols}
 use Rattle.rule_singles.specs.Singles.{ends_of_rule}
-use Rattle.rule_text.specs.TypeNames.{AreNamesOf}
+use Rattle.rule_text.specs.Inner.TypeNames.{AreNamesOf}
 use Rattle.se_items.specs.Paging.{page}
 use Rattle.se_items.specs.Writing.{Sends}
 use Rattle.se_words.specs.SearchRequest.{search_view}
 use Rattle.se_search.specs.SearchAnswer.{found_rules, single_line}
-use Rattle.se_search.specs.SingleLines.{AreOfRules, lines_left}
+use Rattle.se_search.specs.Inner.SingleLines.{AreOfRules, lines_left}
 use Rattle.se_search.proofs.FoundRules.{found-are-rules}
 use Rattle.se_search.proofs.SingleItems.{listed_are_of_rules, singles-found}
 use Rattle.se_search.proofs.search.write_singles.Goals as goal

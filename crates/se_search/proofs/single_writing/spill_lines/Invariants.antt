@@ -1,4 +1,4 @@
-use Rattle.se_search.specs.SingleLines.{turns_left}
+use Rattle.se_search.specs.Inner.SingleLines.{turns_left}
 use Rattle.se_search.proofs.SingleTexts.{LinesWritten}
 use Rattle.se_search.proofs.single_writing.spill_lines.Given as goal
 

@@ -1,7 +1,7 @@
 use Rattle.std.proofs.Common.{◌≡◌, ℕ, ◌/◌, ◌<◌, length, get_or, set, bit_or, ap, ◌∙◌, arith}
 use Rattle.std.proofs.lemmas.List.{length-set, get_or_default}
 use Rattle.pol_bitmap.specs.declared.Node.{Node}
-use Rattle.value_groups.specs.Dense.{word_has}
+use Rattle.value_groups.specs.Inner.Dense.{word_has}
 use Rattle.value_groups.proofs.Words.{word_or, nodes_more, start_within, start_whole}
 use Rattle.value_groups.proofs.dense_set.add_nodes.Goals as goal
 

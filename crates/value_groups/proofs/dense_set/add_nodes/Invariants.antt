@@ -1,6 +1,6 @@
 use Rattle.std.proofs.Common.{◌≡◌, ◌||◌, ℕ, length, take}
 use Rattle.pol_bitmap.specs.Nodes.{has_bit}
-use Rattle.value_groups.specs.Dense.{word_has}
+use Rattle.value_groups.specs.Inner.Dense.{word_has}
 use Rattle.value_groups.proofs.dense_set.add_nodes.Given as goal
 
 abbrev pub invariant-loop-node : goal.invariant-loop-node

@@ -1,6 +1,6 @@
 use Rattle.std.proofs.Common.{◌≡◌, ◌-◌, length}
 use Rattle.pol_bitmap.specs.Nodes.{bits_of}
-use Rattle.walk_enum.specs.Cutting.{AreLeading, IsCut}
+use Rattle.walk_enum.specs.Inner.Cutting.{AreLeading, IsCut}
 use Rattle.walk_enum.proofs.cutting.cut.Given as goal
 
 abbrev pub invariant-loop-back : goal.invariant-loop-back

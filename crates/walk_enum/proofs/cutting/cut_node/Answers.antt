@@ -1,6 +1,6 @@
 use Rattle.std.proofs.Common.{List, ℕ, subst}
-use Rattle.walk_enum.specs.Cutting.{AreLeading}
-use Rattle.walk_enum.specs.Leading.{Notes}
+use Rattle.walk_enum.specs.Inner.Cutting.{AreLeading}
+use Rattle.walk_enum.specs.Inner.Leading.{Notes}
 use Rattle.pol_bitmap.specs.Nodes.{bits_of}
 use Rattle.walk_enum.proofs.Gathering.{leads_noted}
 use Rattle.walk_enum.proofs.cutting.cut_node.Goals as goal

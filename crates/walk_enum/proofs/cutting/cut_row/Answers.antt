@@ -3,7 +3,7 @@ use Rattle.std.specs.List.{filter}
 use Rattle.std.proofs.lemmas.Result.{IfOk-weaker}
 use Rattle.pol_bitmap.specs.Nodes.{bits_of}
 use Rattle.pol_bitmap.specs.Sets.{IsCommon, ShareBit}
-use Rattle.walk_enum.specs.Cutting.{goes_on}
+use Rattle.walk_enum.specs.Inner.Cutting.{goes_on}
 use Rattle.walk_enum.proofs.Ascending.{Ascends}
 use Rattle.walk_enum.proofs.Gathering.{leads_gathered, goes_on_there, filter_near, filter_apart, set_ascends}
 use Rattle.walk_enum.proofs.cutting.cut_row.Goals as goal

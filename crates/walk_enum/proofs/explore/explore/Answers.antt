@@ -4,7 +4,7 @@ use Rattle.std.specs.List.{All, Contains}
 use Rattle.std.proofs.lemmas.List.{get_or_default}
 use Rattle.std.proofs.lemmas.List.Elements.{Contains-get_or}
 use Rattle.walk_enum.specs.Walks.{ends_of}
-use Rattle.walk_enum.specs.Exploring.{Explores, GoesOn, Spreads}
+use Rattle.walk_enum.specs.Inner.Exploring.{Explores, GoesOn, Spreads}
 use Rattle.walk_enum.proofs.Elements.{not_in_nothing}
 use Rattle.walk_enum.proofs.Rows.{ends_fit, ends_fit_at}
 use Rattle.walk_enum.proofs.Exploring.{explores_start, explores_more, queue_small}

@@ -1,7 +1,7 @@
 use Rattle.std.proofs.Common.{◌≡◌, ◌+◌, ◌-◌}
 use Rattle.pol_bitmap.specs.Nodes.{bits_of}
 use Rattle.walk_enum.specs.Walks.{ends_of}
-use Rattle.walk_enum.specs.Exploring.{Explores, AreFound}
+use Rattle.walk_enum.specs.Inner.Exploring.{Explores, AreFound}
 use Rattle.walk_enum.proofs.explore.explore.Given as goal
 
 abbrev pub invariant-asking : goal.invariant-asking

@@ -3,8 +3,8 @@ use Rattle.std.proofs.lemmas.Result.{IfOk-weaker}
 use Rattle.pol_bitmap.specs.declared.Node.{Node}
 use Rattle.pol_bitmap.specs.Nodes.{bits_of}
 use Rattle.walk_enum.specs.Walks.{AreEnds}
-use Rattle.dom_trans.specs.DomainEdges.{Domains, is_step}
-use Rattle.dom_trans.specs.Targets.{AreOpen, AreTargets}
+use Rattle.dom_trans.specs.Inner.DomainEdges.{Domains, is_step}
+use Rattle.dom_trans.specs.Inner.Targets.{AreOpen, AreTargets}
 use Rattle.dom_trans.proofs.Steps.{ends_from}
 use Rattle.dom_trans.proofs.dom_graph.DomGraph.steps_from.Goals as goal
 

@@ -9,7 +9,7 @@ use Rattle.value_groups.specs.Marking.{is_among}
 use Rattle.rule_ends.specs.ChosenRules.{ChosenRules, rules_between}
 use Rattle.rule_ends.proofs.Anys.{any_more, or_assoc, or_false}
 use Rattle.dom_trans.specs.Grants.{default_rules}
-use Rattle.dom_trans.specs.Targets.{is_default_at}
+use Rattle.dom_trans.specs.Inner.Targets.{is_default_at}
 use Rattle.dom_trans.proofs.dom_rules.DomRules.add_defaults.Goals as goal
 
 pub add_default-requires-clause-rule : goal.add_default-requires-clause-rule

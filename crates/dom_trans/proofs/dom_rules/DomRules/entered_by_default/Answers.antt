@@ -7,7 +7,7 @@ use Rattle.pol_bitmap.specs.Nodes.{bits_of}
 use Rattle.pol_file.specs.declared.Parts.{Parts}
 use Rattle.value_groups.specs.Marking.{MarkedValues, is_among}
 use Rattle.rule_ends.proofs.Anys.{or_assoc, or_false}
-use Rattle.dom_trans.specs.Targets.{AreEntered}
+use Rattle.dom_trans.specs.Inner.Targets.{AreEntered}
 use Rattle.dom_trans.proofs.Targets.{default_from, entered_by_defaults}
 use Rattle.dom_trans.proofs.dom_rules.DomRules.entered_by_default.Goals as goal
 

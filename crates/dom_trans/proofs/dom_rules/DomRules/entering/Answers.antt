@@ -4,7 +4,7 @@ use Rattle.std.proofs.lemmas.Result.{IfOk-weaker}
 use Rattle.pol_bitmap.specs.declared.Node.{Node}
 use Rattle.pol_bitmap.specs.Nodes.{bits_of}
 use Rattle.rule_ends.specs.ChosenRules.{ChosenRules, sources_to, sources_to_any}
-use Rattle.dom_trans.specs.Targets.{AreEntering, may_enter}
+use Rattle.dom_trans.specs.Inner.Targets.{AreEntering, may_enter}
 use Rattle.dom_trans.proofs.Steps.{filter_of_set_rises}
 use Rattle.dom_trans.proofs.Sources.{entering_are}
 use Rattle.dom_trans.proofs.dom_rules.DomRules.entering.Goals as goal

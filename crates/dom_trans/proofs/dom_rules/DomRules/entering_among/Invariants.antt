@@ -1,7 +1,7 @@
 use Rattle.std.proofs.Common.{◌≡◌, ◌++◌}
 use Rattle.std.specs.List.{filter}
 use Rattle.pol_bitmap.specs.Nodes.{bits_of}
-use Rattle.dom_trans.specs.Targets.{may_enter}
+use Rattle.dom_trans.specs.Inner.Targets.{may_enter}
 use Rattle.dom_trans.proofs.dom_rules.DomRules.entering_among.Given as goal
 
 -- the types that were found and those that are left

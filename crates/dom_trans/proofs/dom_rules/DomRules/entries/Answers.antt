@@ -1,7 +1,7 @@
 use Rattle.std.proofs.Common.{◌≡◌, ℕ, List, append-nil, sym, ap, ◌∙◌, ◌++◌}
 use Rattle.std.specs.List.{filter}
 use Rattle.pol_bitmap.specs.Nodes.{bits_of}
-use Rattle.dom_trans.specs.RuleLists.{leads}
+use Rattle.dom_trans.specs.Inner.RuleLists.{leads}
 use Rattle.dom_trans.proofs.Entries.{entries_are}
 use Rattle.dom_trans.proofs.dom_rules.DomRules.entries.Goals as goal
 

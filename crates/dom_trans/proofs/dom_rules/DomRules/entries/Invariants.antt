@@ -1,6 +1,6 @@
 use Rattle.std.proofs.Common.{◌≡◌, ◌++◌}
 use Rattle.std.specs.List.{filter}
-use Rattle.dom_trans.specs.RuleLists.{leads}
+use Rattle.dom_trans.specs.Inner.RuleLists.{leads}
 use Rattle.dom_trans.proofs.dom_rules.DomRules.entries.Given as goal
 
 -- the entries that were found and those that are left

@@ -3,7 +3,7 @@ use Rattle.std.proofs.lemmas.Bool.{or_left}
 use Rattle.pol_bitmap.specs.Nodes.{bits_of}
 use Rattle.rule_ends.specs.ChosenRules.{ChosenRules, any_joins, targets_from}
 use Rattle.dom_trans.specs.Grants.{grants, process, setexec}
-use Rattle.dom_trans.specs.Targets.{has_entry}
+use Rattle.dom_trans.specs.Inner.Targets.{has_entry}
 use Rattle.dom_trans.proofs.Sources.{enters_by_default}
 use Rattle.dom_trans.proofs.dom_rules.DomRules.may_enter.Goals as goal
 

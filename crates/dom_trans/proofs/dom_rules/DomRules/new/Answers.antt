@@ -1,5 +1,5 @@
 use Rattle.dom_trans.specs.Grants.{gives, sets_default}
-use Rattle.dom_trans.specs.Keeping.{wanted_in}
+use Rattle.dom_trans.specs.Inner.Keeping.{wanted_in}
 use Rattle.dom_trans.proofs.Chosen.{one_more}
 use Rattle.dom_trans.proofs.Keeps.{kept_ends, kept_all, gives_types, defaults_types}
 use Rattle.dom_trans.proofs.dom_rules.DomRules.new.Goals as goal

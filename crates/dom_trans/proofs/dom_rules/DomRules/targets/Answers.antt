@@ -5,7 +5,7 @@ use Rattle.pol_bitmap.specs.declared.Node.{Node}
 use Rattle.pol_bitmap.specs.Nodes.{bits_of}
 use Rattle.pol_bitmap.specs.Sets.{IsUnion}
 use Rattle.rule_ends.specs.ChosenRules.{ChosenRules, targets_from}
-use Rattle.dom_trans.specs.Targets.{AreTargets}
+use Rattle.dom_trans.specs.Inner.Targets.{AreTargets}
 use Rattle.dom_trans.proofs.Targets.{targets_standard, targets_both}
 use Rattle.dom_trans.proofs.dom_rules.DomRules.targets.Goals as goal
 

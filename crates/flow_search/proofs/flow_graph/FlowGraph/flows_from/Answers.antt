@@ -2,7 +2,7 @@ use Rattle.std.proofs.Common.{◌≡◌, List, [], sym, ◌∙◌}
 use Rattle.pol_bitmap.specs.declared.Node.{Node}
 use Rattle.pol_bitmap.specs.Nodes.{bits_of}
 use Rattle.walk_enum.specs.Walks.{AreEnds}
-use Rattle.flow_search.specs.FlowEdges.{flow_edge}
+use Rattle.flow_search.specs.Inner.FlowEdges.{flow_edge}
 use Rattle.flow_search.proofs.Results.{if_ok}
 use Rattle.flow_search.proofs.Successors.{no_ends}
 use Rattle.flow_search.proofs.flow_graph.FlowGraph.flows_from.Goals as goal

@@ -1,8 +1,8 @@
 use Rattle.std.proofs.Common.{ℕ, Bool, sym, ap, subst, ◌∙◌}
 use Rattle.std.specs.Prelude.{IfOk}
 use Rattle.pol_bitmap.specs.Nodes.{bits_of}
-use Rattle.flow_search.specs.FlowEdges.{FlowSearch}
-use Rattle.flow_search.specs.FlowParts.{AreJoined}
+use Rattle.flow_search.specs.Inner.FlowEdges.{FlowSearch}
+use Rattle.flow_search.specs.Inner.FlowParts.{AreJoined}
 use Rattle.flow_search.proofs.Successors.{edge_ahead, edge_back}
 use Rattle.flow_search.proofs.flow_graph.FlowGraph.joined.Goals as goal
 

@@ -3,7 +3,7 @@ use Rattle.pol_bitmap.specs.declared.Node.{Node}
 use Rattle.pol_bitmap.specs.Nodes.{bits_of}
 use Rattle.pol_bitmap.specs.Sets.{IsUnion}
 use Rattle.perm_map.specs.PermissionMap.{weights_of}
-use Rattle.flow_search.specs.FlowParts.{AreJoined, any_flow}
+use Rattle.flow_search.specs.Inner.FlowParts.{AreJoined, any_flow}
 use Rattle.flow_search.proofs.Results.{if_ok}
 use Rattle.flow_search.proofs.Successors.{rules_join_to}
 use Rattle.flow_search.proofs.flow_graph.FlowGraph.joined_to.Goals as goal

@@ -1,9 +1,9 @@
 use Rattle.std.proofs.Common.{◌<◌, ◌≤◌, ◌^◌, ℕ, length, subst, arith}
 use Rattle.pol_rules.specs.StoredRules.{stored_rules}
-use Rattle.rule_ends.specs.EndTables.{AreEndsOf}
+use Rattle.rule_ends.specs.Inner.EndTables.{AreEndsOf}
 use Rattle.perm_map.specs.PermissionMap.{weights_of}
 use Rattle.flow_search.specs.FlowWeights.{inwards, outwards}
-use Rattle.flow_search.specs.WeightTables.{Weighing}
+use Rattle.flow_search.specs.Inner.WeightTables.{Weighing}
 use Rattle.flow_search.proofs.ReachedWeights.{reaching_few}
 use Rattle.flow_search.proofs.flow_graph.FlowGraph.new.Goals as goal
 

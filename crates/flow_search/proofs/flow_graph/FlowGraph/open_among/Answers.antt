@@ -3,8 +3,8 @@ use Rattle.pol_bitmap.specs.declared.Node.{Node}
 use Rattle.pol_bitmap.specs.Nodes.{bits_of}
 use Rattle.pol_bitmap.specs.Sets.{IsCommon}
 use Rattle.rule_ends.specs.PlainTypes.{types_outside}
-use Rattle.flow_search.specs.FlowEdges.{FlowSearch}
-use Rattle.flow_search.specs.FlowParts.{IsOpenPart}
+use Rattle.flow_search.specs.Inner.FlowEdges.{FlowSearch}
+use Rattle.flow_search.specs.Inner.FlowParts.{IsOpenPart}
 use Rattle.flow_search.proofs.Results.{if_ok}
 use Rattle.flow_search.proofs.Successors.{open_part}
 use Rattle.flow_search.proofs.flow_graph.FlowGraph.open_among.Goals as goal

@@ -3,7 +3,7 @@ use Rattle.pol_bitmap.specs.declared.Node.{Node}
 use Rattle.pol_bitmap.specs.Nodes.{bits_of}
 use Rattle.pol_bitmap.specs.Sets.{IsDifference}
 use Rattle.walk_enum.specs.Walks.{AreEnds}
-use Rattle.flow_search.specs.FlowEdges.{flow_edge}
+use Rattle.flow_search.specs.Inner.FlowEdges.{flow_edge}
 use Rattle.flow_search.proofs.Results.{if_ok}
 use Rattle.flow_search.proofs.Successors.{ends_are}
 use Rattle.flow_search.proofs.flow_graph.FlowGraph.successors.Goals as goal

@@ -1,7 +1,7 @@
 use Rattle.std.proofs.Common.{List, subst}
 use Rattle.perm_map.specs.PermissionMap.{weights_of}
 use Rattle.flow_search.specs.declared.class_weights.PermissionWeight.{PermissionWeight}
-use Rattle.flow_search.specs.WeightTables.{AreBitsOf, HaveReachBits}
+use Rattle.flow_search.specs.Inner.WeightTables.{AreBitsOf, HaveReachBits}
 use Rattle.flow_search.proofs.Results.{if_ok}
 use Rattle.flow_search.proofs.Weighing.{have_bits}
 use Rattle.flow_search.proofs.weigher.Weigher.reaching.Goals as goal

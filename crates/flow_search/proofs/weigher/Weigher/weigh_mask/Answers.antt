@@ -5,7 +5,7 @@ use Rattle.pol_symbols.specs.PolicySymbols.{index_in}
 use Rattle.perm_map.specs.PermissionMap.{weights_of}
 use Rattle.flow_search.specs.declared.class_weights.PermissionWeight.{PermissionWeight}
 use Rattle.flow_search.specs.FlowWeights.{inwards, outwards}
-use Rattle.flow_search.specs.WeightTables.{greatest_into, greatest_out}
+use Rattle.flow_search.specs.Inner.WeightTables.{greatest_into, greatest_out}
 use Rattle.flow_search.proofs.Weighing.{class_into, class_missing, class_out, class_within}
 use Rattle.flow_search.proofs.weigher.Weigher.weigh_mask.Goals as goal
 

@@ -1,5 +1,5 @@
 use Rattle.std.proofs.Common.{◌+◌, ◌-◌, length}
-use Rattle.info_symbols.specs.AliasLists.{SameLists}
+use Rattle.info_symbols.specs.Inner.AliasLists.{SameLists}
 use Rattle.info_symbols.proofs.aliases.Aliases.reach.Given as goal
 
 abbrev pub invariant-lists : goal.invariant-lists

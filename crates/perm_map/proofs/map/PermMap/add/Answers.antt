@@ -1,7 +1,7 @@
 use Rattle.std.proofs.Common.{ℕ, List, ap, ◌∙◌}
 use Rattle.perm_map.specs.declared.direction.Direction.{Direction}
 use Rattle.perm_map.specs.declared.map.Key.{Key}
-use Rattle.perm_map.specs.KeyedWeights.{entries_kept}
+use Rattle.perm_map.specs.Inner.KeyedWeights.{entries_kept}
 use Rattle.perm_map.specs.PermissionMap.{weights_of}
 use Rattle.perm_map.proofs.Gaining.{inserted}
 use Rattle.perm_map.proofs.map.PermMap.add.Goals as goal

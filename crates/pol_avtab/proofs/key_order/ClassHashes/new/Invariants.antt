@@ -1,5 +1,5 @@
 use Rattle.std.proofs.Common.{◌≡◌, ℕ, ◌<◌, get_or, length}
-use Rattle.pol_avtab.specs.InnerKeys.{hashed}
+use Rattle.pol_avtab.specs.Inner.DuplicateKeys.{hashed}
 use Rattle.pol_avtab.proofs.key_order.ClassHashes.new.Given as goal
 
 abbrev pub invariant-loop-class : goal.invariant-loop-class

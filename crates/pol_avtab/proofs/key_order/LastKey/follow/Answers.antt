@@ -1,5 +1,5 @@
 use Rattle.std.proofs.Common.{ℕ, sym, subst, arith}
-use Rattle.pol_avtab.specs.InnerKeys.{slot_of, kind_bit, Follows}
+use Rattle.pol_avtab.specs.Inner.DuplicateKeys.{slot_of, kind_bit, Follows}
 use Rattle.pol_avtab.proofs.KeyOrder.{follows_behind, slot_behind}
 use Rattle.pol_avtab.proofs.key_order.LastKey.follow.Goals as goal
 

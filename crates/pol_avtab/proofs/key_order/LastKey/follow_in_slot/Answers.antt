@@ -1,5 +1,5 @@
 use Rattle.std.proofs.Common.{ℕ, subst, arith}
-use Rattle.pol_avtab.specs.InnerKeys.{kind_bit, Follows}
+use Rattle.pol_avtab.specs.Inner.DuplicateKeys.{kind_bit, Follows}
 use Rattle.pol_avtab.proofs.KeyOrder.{follows_behind, follows_beside}
 use Rattle.pol_avtab.proofs.key_order.LastKey.follow_in_slot.Goals as goal
 

@@ -1,6 +1,6 @@
 use Rattle.std.proofs.Common.{ℕ, ◌+◌, List, ap, ◌∙◌}
-use Rattle.pol_cursor.specs.BitPlaces.{has_bit_of}
-use Rattle.pol_avtab.specs.InnerKeys.{Marks, is_shared}
+use Rattle.pol_cursor.specs.Inner.BitPlaces.{has_bit_of}
+use Rattle.pol_avtab.specs.Inner.DuplicateKeys.{Marks, is_shared}
 use Rattle.pol_avtab.proofs.word_marks.WordMarks.is_shared.Goals as goal
 
 pub returns : goal.returns

@@ -2,8 +2,8 @@ use Rattle.std.proofs.Common.{◌≡◌, ℕ, ◌+◌, ◌*◌, true, false, ◌
 use Rattle.std.specs.Prelude.{◌||◌, ◌==◌}
 use Rattle.std.specs.Vec.{with_items}
 use Rattle.std.proofs.lemmas.List.{with_items_is}
-use Rattle.pol_cursor.specs.BitPlaces.{has_bit_of}
-use Rattle.pol_avtab.specs.InnerKeys.{Marks, bucket_of, is_met}
+use Rattle.pol_cursor.specs.Inner.BitPlaces.{has_bit_of}
+use Rattle.pol_avtab.specs.Inner.DuplicateKeys.{Marks, bucket_of, is_met}
 use Rattle.pol_avtab.proofs.SharedWords.{Meets, meets_at}
 use Rattle.pol_avtab.proofs.word_marks.WordMarks.meet.Goals as goal
 use Rattle.pol_avtab.proofs.word_marks.WordMarks.meet.Goals.{then-has_bit, else-has_bit}

@@ -1,5 +1,5 @@
 use Rattle.std.proofs.Common.{ℕ, ◌++◌, List, take}
-use Rattle.pol_avtab.specs.InnerKeys.{AreMarked}
+use Rattle.pol_avtab.specs.Inner.DuplicateKeys.{AreMarked}
 use Rattle.pol_avtab.proofs.word_marks.WordMarks.meet_all.Given as goal
 
 abbrev pub invariant-loop-word : goal.invariant-loop-word

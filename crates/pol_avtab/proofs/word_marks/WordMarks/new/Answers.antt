@@ -1,5 +1,5 @@
 use Rattle.std.proofs.Common.{◌≡◌, ℕ, ◌-◌, ◌*◌, ◌%◌, ◌^◌, List, replicate, ap, ◌∙◌, rules, arith}
-use Rattle.pol_avtab.specs.InnerKeys.{is_met, is_shared}
+use Rattle.pol_avtab.specs.Inner.DuplicateKeys.{is_met, is_shared}
 use Rattle.pol_avtab.proofs.SharedWords.{some_shift, none_met, none_shared}
 use Rattle.pol_avtab.proofs.word_marks.WordMarks.new.Goals as goal
 

@@ -1,6 +1,6 @@
 use Rattle.std.proofs.Common.{◌-◌, ◌*◌, ◌^◌, ◌≤◌, length, ap, arith}
 use Rattle.std.proofs.Math.Nat.{pow-le-pow_right}
-use Rattle.pol_avtab.specs.InnerKeys.{Marks, bucket_of}
+use Rattle.pol_avtab.specs.Inner.DuplicateKeys.{Marks, bucket_of}
 use Rattle.pol_avtab.proofs.SharedWords.{bits_long, bucket_below}
 use Rattle.pol_avtab.proofs.word_marks.WordMarks.place_of.Goals as goal
 

@@ -1,5 +1,5 @@
 use Rattle.std.proofs.Common.{arith}
-use Rattle.pol_avtab.specs.InnerKeys.{is_shared}
+use Rattle.pol_avtab.specs.Inner.DuplicateKeys.{is_shared}
 use Rattle.pol_avtab.proofs.SharedFirst.{sifted_more}
 use Rattle.pol_avtab.proofs.word_marks.WordMarks.push_shared.Goals as goal
 

@@ -1,4 +1,4 @@
-use Rattle.pol_avtab.specs.InnerKeys.{is_shared}
+use Rattle.pol_avtab.specs.Inner.DuplicateKeys.{is_shared}
 use Rattle.pol_avtab.proofs.SharedFirst.{AreSifted}
 use Rattle.pol_avtab.proofs.word_marks.WordMarks.push_shared.Given as goal
 

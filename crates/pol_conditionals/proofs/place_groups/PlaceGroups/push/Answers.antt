@@ -2,7 +2,7 @@ use Rattle.std.proofs.Common.{◌≡◌, ◌∙◌, ◌++◌, ◌∷◌, [], Lis
 use Rattle.std.proofs.lemmas.List.{length-map}
 use Rattle.pol_cursor.specs.References.{Placed}
 use Rattle.pol_avtab.specs.declared.AvRec.{AvRec}
-use Rattle.pol_conditionals.specs.PlaceGroups.{places_of}
+use Rattle.pol_conditionals.specs.Inner.PlaceGroups.{places_of}
 use Rattle.pol_conditionals.proofs.Groups.{groups_push}
 use Rattle.pol_conditionals.proofs.place_groups.PlaceGroups.push.Goals as goal
 

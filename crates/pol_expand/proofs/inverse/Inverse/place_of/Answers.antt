@@ -1,5 +1,5 @@
 use Rattle.std.proofs.Common.{◌≡◌, length, ap, arith}
-use Rattle.pol_expand.specs.Inverting.{Inversion}
+use Rattle.pol_expand.specs.Inner.Inverting.{Inversion}
 use Rattle.pol_expand.proofs.inverse.Inverse.place_of.Goals as goal
 
 pub overflow_sub-result : goal.overflow_sub-result

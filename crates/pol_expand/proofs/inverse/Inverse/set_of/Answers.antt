@@ -1,7 +1,7 @@
 use Rattle.std.proofs.Common.{◌≡◌, List, ℕ, IfOk, true, false, sym, ap, subst, ◌∙◌, arith}
 use Rattle.pol_bitmap.specs.Nodes.{bits_of, has_bit}
 use Rattle.pol_expand.specs.Expansion.{expansion_of}
-use Rattle.pol_expand.specs.Inverting.{Inversion}
+use Rattle.pol_expand.specs.Inner.Inverting.{Inversion}
 use Rattle.pol_expand.proofs.Listing.{listed_at, attribute_listed, type_listed, shared_bits}
 use Rattle.pol_expand.proofs.inverse.Inverse.set_of.Goals as goal
 

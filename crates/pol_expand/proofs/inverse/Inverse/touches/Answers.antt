@@ -2,7 +2,7 @@ use Rattle.std.proofs.Common.{◌≡◌, true, length, sym, ap, ◌∙◌, arith
 use Rattle.std.specs.List.{list_any}
 use Rattle.pol_bitmap.specs.Nodes.{bits_of, has_bit}
 use Rattle.pol_expand.specs.Expansion.{expansion_of}
-use Rattle.pol_expand.specs.Inverting.{Inversion}
+use Rattle.pol_expand.specs.Inner.Inverting.{Inversion}
 use Rattle.pol_expand.proofs.Listing.{listed_at, attribute_listed}
 use Rattle.pol_expand.proofs.Touching.{meets_is}
 use Rattle.pol_expand.proofs.inverse.Inverse.touches.Goals as goal

@@ -3,7 +3,7 @@ use Rattle.std.specs.List.{filter, range_with_len}
 use Rattle.std.specs.List.Sorted.{IsStrictlyIncreasing}
 use Rattle.pol_bitmap.specs.Nodes.{bits_of}
 use Rattle.pol_expand.specs.Expansion.{IsTouching}
-use Rattle.pol_expand.specs.Inverting.{Inversion, touches}
+use Rattle.pol_expand.specs.Inner.Inverting.{Inversion, touches}
 use Rattle.pol_expand.proofs.Values.{filter_rises}
 use Rattle.pol_expand.proofs.Touching.{touching_of}
 use Rattle.pol_expand.proofs.inverse.Inverse.touching.Goals as goal

@@ -1,6 +1,6 @@
 use Rattle.std.proofs.Common.{◌≡◌, ◌+◌, ◌++◌, ◌∷◌, [], List, ℕ, Bool, true, false, cond, sym, ap, ◌∙◌, append-nil}
 use Rattle.std.specs.List.{filter, range_with_len}
-use Rattle.pol_expand.specs.Inverting.{touches}
+use Rattle.pol_expand.specs.Inner.Inverting.{touches}
 use Rattle.pol_expand.proofs.Values.{filter_range_more}
 use Rattle.pol_expand.proofs.inverse.Inverse.touching_attributes.Goals as goal
 use Rattle.pol_expand.proofs.inverse.Inverse.touching_attributes.Goals.{then-touches+in_ok-push, else-touches}

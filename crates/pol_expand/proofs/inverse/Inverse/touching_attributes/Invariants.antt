@@ -1,6 +1,6 @@
 use Rattle.std.proofs.Common.{◌≡◌}
 use Rattle.std.specs.List.{filter, range_with_len}
-use Rattle.pol_expand.specs.Inverting.{touches}
+use Rattle.pol_expand.specs.Inner.Inverting.{touches}
 use Rattle.pol_expand.proofs.inverse.Inverse.touching_attributes.Given as goal
 
 abbrev pub invariant-loop-i : goal.invariant-loop-i

@@ -1,4 +1,4 @@
-use Rattle.pol_rules.specs.RuleRecords.{rule_of}
+use Rattle.pol_rules.specs.Inner.RuleRecords.{rule_of}
 use Rattle.pol_rules.proofs.RulesDeclared.{rule_is_declared}
 use Rattle.pol_read.proofs.policy.Policy.rule_record.Goals as goal
 

@@ -1,6 +1,6 @@
 use Rattle.std.proofs.Common.{◌≡◌, ◌<◌, ◌≤◌, ◌+◌, ◌∷◌, [], List, ℕ, length, sum, ap, sym, ◌∙◌, arith}
 use Rattle.std.proofs.lemmas.List.{length-append}
-use Rattle.pol_rules.specs.RunningSums.{lengths_between}
+use Rattle.pol_rules.specs.Inner.RunningSums.{lengths_between}
 use Rattle.pol_rules.proofs.EndLists.{length_between, between_push, ends_push}
 use Rattle.pol_rules.proofs.FirstLists.{firsts_push}
 use Rattle.pol_rules.proofs.sums.Sums.push.Goals as goal

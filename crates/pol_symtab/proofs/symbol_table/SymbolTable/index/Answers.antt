@@ -1,7 +1,7 @@
 use Rattle.std.proofs.Common.{◌≡◌, sym, ap, ◌∙◌, subst}
 use Rattle.std.specs.Prelude.{map}
 use Rattle.pol_symtab.specs.declared.name_order.Entry.{Entry}
-use Rattle.pol_symtab.specs.TableIndex.{Named, seen, AreNumbered, IsNameOrder, RankAll, names_of}
+use Rattle.pol_symtab.specs.Inner.TableIndex.{Named, seen, AreNumbered, IsNameOrder, RankAll, names_of}
 use Rattle.pol_symtab.proofs.SortedNames.{sorted_numbered, sorted_order, sorted_ranks, numbers_seen}
 use Rattle.pol_symtab.proofs.symbol_table.SymbolTable.index.Goals as goal
 

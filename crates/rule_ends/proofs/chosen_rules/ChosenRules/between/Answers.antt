@@ -1,8 +1,8 @@
 use Rattle.std.proofs.Common.{◌≡◌, ℕ, List, length, ap, sym, subst, ◌∙◌, IfOk}
 use Rattle.rule_order.specs.ListedOrder.{AreRules, in_rule_order}
-use Rattle.value_groups.specs.Grouping.{group_of}
+use Rattle.value_groups.specs.Inner.Grouping.{group_of}
 use Rattle.rule_ends.specs.ChosenRules.{ChosenRules, rules_between}
-use Rattle.rule_ends.specs.EndTables.{rules_found}
+use Rattle.rule_ends.specs.Inner.EndTables.{rules_found}
 use Rattle.rule_ends.proofs.Found.{between_is, groups_within}
 use Rattle.rule_ends.proofs.chosen_rules.ChosenRules.between.Goals as goal
 

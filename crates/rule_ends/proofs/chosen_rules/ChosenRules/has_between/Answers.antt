@@ -1,7 +1,7 @@
 use Rattle.std.proofs.Common.{ℕ, List, length, ap, sym, ◌∙◌}
-use Rattle.value_groups.specs.Grouping.{group_of}
+use Rattle.value_groups.specs.Inner.Grouping.{group_of}
 use Rattle.rule_ends.specs.ChosenRules.{ChosenRules, holds_type, joins, any_joins}
-use Rattle.rule_ends.specs.EndTables.{any_found}
+use Rattle.rule_ends.specs.Inner.EndTables.{any_found}
 use Rattle.rule_ends.proofs.Found.{by_sources, any_is, groups_within}
 use Rattle.rule_ends.proofs.chosen_rules.ChosenRules.has_between.Goals as goal
 

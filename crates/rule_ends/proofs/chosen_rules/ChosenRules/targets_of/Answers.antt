@@ -2,9 +2,9 @@ use Rattle.std.proofs.Common.{◌≡◌, ℕ, List, length, ap, sym, subst, ◌�
 use Rattle.std.specs.List.{All, filter, list_any, range_with_len}
 use Rattle.pol_bitmap.specs.declared.Node.{Node}
 use Rattle.pol_bitmap.specs.Nodes.{bits_of}
-use Rattle.value_groups.specs.Grouping.{group_of}
+use Rattle.value_groups.specs.Inner.Grouping.{group_of}
 use Rattle.rule_ends.specs.ChosenRules.{ChosenRules, holds_type, targets_from}
-use Rattle.rule_ends.specs.EndTables.{IsEnd, is_other_end}
+use Rattle.rule_ends.specs.Inner.EndTables.{IsEnd, is_other_end}
 use Rattle.rule_ends.proofs.Found.{targets_are, groups_within, others_are_ends}
 use Rattle.rule_ends.proofs.chosen_rules.ChosenRules.targets_of.Goals as goal
 

@@ -1,8 +1,8 @@
 use Rattle.std.proofs.Common.{◌∙◌, ap, subst, sym}
 use Rattle.pol_symbols.specs.declared.Symbols.{Symbols}
 use Rattle.pol_file.specs.declared.Parts.{Parts}
-use Rattle.rule_listing.specs.KeptTexts.{IsHead}
-use Rattle.rule_text.specs.TypeNames.{AreNamesOf}
+use Rattle.rule_listing.specs.Inner.KeptTexts.{IsHead}
+use Rattle.rule_text.specs.Inner.TypeNames.{AreNamesOf}
 use Rattle.rule_listing.proofs.listed_texts.ListedTexts.new.Goals as goal
 
 pub invariant_of-result : goal.invariant_of-result

@@ -1,6 +1,6 @@
 use Rattle.std.proofs.Common.{◌≡◌}
 use Rattle.std.proofs.lemmas.Result.{IfOk-weaker}
-use Rattle.rule_order.specs.Keys.{AreSortedNumbers, numbers_in}
+use Rattle.rule_order.specs.Inner.Keys.{AreSortedNumbers, numbers_in}
 use Rattle.rule_order.specs.ListedOrder.{AreRules, in_rule_order}
 use Rattle.rule_order.proofs.GatheredKeys.{numbers_in_order, numbers_are_rules}
 use Rattle.rule_order.proofs.SortedNumbers.{are_declared}

@@ -1,6 +1,6 @@
 use Rattle.std.proofs.Common.{◌≡◌, ◌+◌, ◌<◌, ◌≤◌, ◌∙◌, Bool, true, false, length, length-set, sym, arith}
 use Rattle.std.specs.Int.{from_bool}
-use Rattle.rule_query.specs.Gathering.{is_asked_at}
+use Rattle.rule_query.specs.Inner.Gathering.{is_asked_at}
 use Rattle.rule_query.proofs.GatheredNumbers.{gathered_next, unmarked}
 use Rattle.rule_query.proofs.asked_vectors.AskedVectors.gather.Goals as goal
 

@@ -1,5 +1,5 @@
 use Rattle.std.proofs.Common.{◌≡◌, ◌+◌, ◌≤◌, Bool, List, length, take}
-use Rattle.rule_query.specs.Gathering.{AreMarked, Gathers, is_asked_at}
+use Rattle.rule_query.specs.Inner.Gathering.{AreMarked, Gathers, is_asked_at}
 use Rattle.rule_query.proofs.asked_vectors.AskedVectors.gather.Given as goal
 
 abbrev pub invariant-loop-number : goal.invariant-loop-number

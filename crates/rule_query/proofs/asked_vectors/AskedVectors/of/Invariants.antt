@@ -1,5 +1,5 @@
 use Rattle.std.proofs.Common.{◌≡◌, ℕ, ◌<◌, false, length, get_or}
-use Rattle.rule_query.specs.Gathering.{may_be_asked}
+use Rattle.rule_query.specs.Inner.Gathering.{may_be_asked}
 use Rattle.rule_query.proofs.asked_vectors.AskedVectors.of.Given as goal
 
 abbrev pub invariant-loop-low : goal.invariant-loop-low

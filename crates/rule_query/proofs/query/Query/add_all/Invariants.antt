@@ -1,4 +1,4 @@
-use Rattle.rule_query.specs.Gathering.{HasMet}
+use Rattle.rule_query.specs.Inner.Gathering.{HasMet}
 use Rattle.rule_query.proofs.query.Query.add_all.Given as goal
 
 abbrev pub invariant-loop-number : goal.invariant-loop-number

@@ -1,5 +1,5 @@
 use Rattle.std.proofs.Common.{◌-◌, ◌≤◌, length}
-use Rattle.rule_query.specs.Gathering.{HasMet}
+use Rattle.rule_query.specs.Inner.Gathering.{HasMet}
 use Rattle.rule_query.proofs.query.Query.add_of_table.Given as goal
 
 abbrev pub invariant-loop-from : goal.invariant-loop-from

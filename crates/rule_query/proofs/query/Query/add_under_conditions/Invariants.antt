@@ -1,4 +1,4 @@
-use Rattle.rule_query.specs.Gathering.{HasMet, StandFrom}
+use Rattle.rule_query.specs.Inner.Gathering.{HasMet, StandFrom}
 use Rattle.rule_query.proofs.MetRules.{rules_from_node}
 use Rattle.rule_query.proofs.query.Query.add_under_conditions.Given as goal
 

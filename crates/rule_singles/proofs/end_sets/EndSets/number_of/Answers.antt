@@ -1,5 +1,5 @@
 use Rattle.std.proofs.Common.{◌∙◌, IfOk, ℕ, List, refl, subst}
-use Rattle.rule_singles.specs.EndSets.{IsNumberIn}
+use Rattle.rule_singles.specs.Inner.EndSets.{IsNumberIn}
 use Rattle.rule_singles.proofs.Pools.{other_ends, sets_stay}
 use Rattle.rule_singles.proofs.end_sets.EndSets.number_of.Goals as goal
 

@@ -3,7 +3,7 @@ use Rattle.pol_cursor.specs.References.{Placed}
 use Rattle.pol_commons.specs.declared.PermissionRec.{PermissionRec}
 use Rattle.pol_classes.specs.declared.ClassRec.{ClassRec}
 use Rattle.pol_symbols.specs.PolicySymbols.{permissions_of}
-use Rattle.rule_text.specs.ClassPermissions.{AreByName}
+use Rattle.rule_text.specs.Inner.ClassPermissions.{AreByName}
 use Rattle.rule_text.proofs.PermissionLists.{FirstFit, first_more, all_fit}
 use Rattle.rule_text.proofs.permission_table.PermissionTable.new.Goals as goal
 

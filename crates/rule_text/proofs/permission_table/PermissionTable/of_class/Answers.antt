@@ -2,7 +2,7 @@ use Rattle.std.proofs.Common.{◌≡◌, ◌<◌, List, [], length, get_or, sym,
 use Rattle.std.proofs.lemmas.List.{get_or_default}
 use Rattle.pol_commons.specs.declared.PermissionRec.{PermissionRec}
 use Rattle.pol_symbols.specs.PolicySymbols.{permissions_in_class}
-use Rattle.rule_text.specs.ClassPermissions.{AreByName}
+use Rattle.rule_text.specs.Inner.ClassPermissions.{AreByName}
 use Rattle.rule_text.proofs.ClassLists.{number_is_within, by_list, by_none}
 use Rattle.rule_text.proofs.permission_table.PermissionTable.of_class.Goals as goal
 

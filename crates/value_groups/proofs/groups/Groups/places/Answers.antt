@@ -1,7 +1,7 @@
 use Rattle.std.proofs.Common.{◌≡◌, ℕ, ◌+◌, ◌-◌, ◌<◌, ◌≤◌, List, length, take, drop, sym, ap, ◌∙◌, arith}
 use Rattle.std.specs.Prelude.{slice_index}
 use Rattle.std.proofs.lemmas.List.{get_or_default}
-use Rattle.value_groups.specs.Grouping.{group_of}
+use Rattle.value_groups.specs.Inner.Grouping.{group_of}
 use Rattle.value_groups.proofs.Stretches.{group_at, group_past}
 use Rattle.value_groups.proofs.groups.Groups.places.Goals as goal
 

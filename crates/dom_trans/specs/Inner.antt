@@ -1,0 +1,5 @@
+pub mod DomainEdges
+pub mod EdgesBetween
+pub mod Keeping
+pub mod RuleLists
+pub mod Targets

@@ -1,0 +1,56 @@
+-- The types that a type may change to, and those that may change to it, as the graph finds them. It serves the code alone.
+use Rattle.std.specs.Prelude.{◌≡◌, ℕ, Bool, true, false, not, ◌&&◌, ◌||◌, ◌==◌, ◌↔◌, Option, Some, None, List}
+use Rattle.std.specs.List.{Contains, list_any, range_with_len}
+use Rattle.pol_bitmap.specs.Nodes.{has_bit}
+use Rattle.pol_file.specs.declared.Parts.{Parts}
+use Rattle.rule_ends.specs.PlainTypes.{are_two_types, is_type_value}
+use Rattle.dom_trans.specs.Grants.{grants, has_default, process, setexec, file, entrypoint}
+use Rattle.dom_trans.specs.Transitions.{is_entry, is_standard, is_transition}
+use Rattle.dom_trans.specs.Inner.DomainEdges.{Domains}
+
+-- there is an entry from the one type to the other
+abbrev pub has_entry : Parts → ℕ → ℕ → Bool
+has_entry policy a b = list_any (is_entry policy a b) (range_with_len 1 policy.symbols.types.nprim)
+
+-- ---- from a type
+
+-- Of the types other than one, those among some types are the ones that have an entry from it.
+pub record AreEntered (policy : Parts) (a : ℕ) (types : List ℕ) : Type 0 where
+  pub each : (b : ℕ) → are_two_types policy a b ≡ true → Contains types b ↔ (has_entry policy a b ≡ true)
+
+-- Of the types other than one, those among some types are the ones that it has a transition to.
+pub record AreTargets (policy : Parts) (a : ℕ) (types : List ℕ) : Type 0 where
+  pub each : (b : ℕ) → are_two_types policy a b ≡ true → Contains types b ↔ (is_transition policy a b ≡ true)
+
+-- a type is the default of the rule of a number, and has an entry point
+abbrev pub is_default_at : Parts → ℕ → ℕ → ℕ → Bool
+is_default_at policy entry b number = has_default policy b number && (is_type_value policy b && grants policy b entry file entrypoint)
+
+-- a value is the one that was found
+abbrev pub is_found : Option ℕ → ℕ → Bool
+is_found None value = false
+is_found (Some found) value = found == value
+
+-- ---- to a type
+
+-- a type may ask for another domain, or there is an entry from it to the domain
+abbrev pub may_enter : Parts → ℕ → ℕ → Bool
+may_enter policy a b = grants policy a a process setexec || has_entry policy a b
+
+-- Of the types other than one, those among some types are the ones that have a transition to it by executing a file.
+pub record AreEntering (policy : Parts) (b : ℕ) (types : List ℕ) : Type 0 where
+  pub each : (a : ℕ) → are_two_types policy a b ≡ true → Contains types a ↔ (is_standard policy a b ≡ true)
+
+-- Of the types other than one, those among some types are the ones that have a transition to it.
+pub record AreSources (policy : Parts) (b : ℕ) (types : List ℕ) : Type 0 where
+  pub each : (a : ℕ) → are_two_types policy a b ≡ true → Contains types a ↔ (is_transition policy a b ≡ true)
+
+-- ---- steps
+
+-- two different types, none of them excluded
+abbrev pub is_open : Domains → ℕ → ℕ → Bool
+is_open domains a b = are_two_types domains.policy a b && not (has_bit domains.excluded a || has_bit domains.excluded b)
+
+-- of some types, those between which and a type a step may be
+pub record AreOpen (domains : Domains) (a : ℕ) (types found : List ℕ) : Type 0 where
+  pub each : (b : ℕ) → Contains found b ↔ (Contains types b × (is_open domains a b ≡ true))

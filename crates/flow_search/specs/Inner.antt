@@ -1,0 +1,4 @@
+pub mod EdgesBetween
+pub mod FlowEdges
+pub mod FlowParts
+pub mod WeightTables

@@ -1,0 +1,62 @@
+-- What a graph of flows keeps: the rules that flow at least the weight, each way. It serves the code alone.
+use Rattle.std.specs.Prelude.{◌≡◌, ◌↔◌, ℕ, ◌≤◌, Bool, true, ◌||◌, nat_le, List, ◌&&◌, ◌==◌, not, Contains, if◌then◌else◌}
+use Rattle.std.specs.List.{filter}
+use Rattle.std.specs.List.Sorted.{IsStrictlyIncreasing}
+use Rattle.pol_file.specs.declared.Parts.{Parts}
+use Rattle.rule_ends.specs.ChosenRules.{ChosenRules, any_joins}
+use Rattle.rule_ends.specs.PlainTypes.{is_type_outside}
+use Rattle.perm_map.specs.declared.Direction.{Direction}
+use Rattle.perm_map.specs.PermissionMap.{Weights, weights_of}
+use Rattle.flow_search.specs.FlowWeights.{inwards, outwards}
+use Rattle.flow_search.specs.Inner.FlowEdges.{FlowSearch}
+use Rattle.flow_search.specs.Flows.{rule_numbers, weight_of_rule}
+
+abbrev pub reaches : (Direction → ℕ → ℕ) → Weights → Parts → ℕ → ℕ → Bool
+reaches way weights policy least number = nat_le least (weight_of_rule way weights policy number)
+
+-- the rules that flow one way at least a weight, rising
+unfoldable pub rules_reaching : (Direction → ℕ → ℕ) → Weights → Parts → ℕ → List ℕ
+rules_reaching way weights policy least = filter (reaches way weights policy least) (rule_numbers policy)
+
+-- those of each way
+pub record AreFlowRules (weights : Weights) (policy : Parts) (least : ℕ) (out into : ChosenRules) : Type 0 where
+  pub out_policy : out.policy ≡ policy
+  pub out_rules : out.rules ≡ rules_reaching outwards weights policy least
+  pub into_policy : into.policy ≡ policy
+  pub into_rules : into.rules ≡ rules_reaching inwards weights policy least
+
+-- ---- the successors of a node
+
+-- some rule gives a flow of at least the weight from a value to a value
+unfoldable pub any_flow : Weights → Parts → ℕ → ℕ → ℕ → Bool
+any_flow weights policy least from to =
+    any_joins policy (rules_reaching outwards weights policy least) from to || any_joins policy (rules_reaching inwards weights policy least) to from
+
+-- the same from or to a node, as the graph is turned
+unfoldable pub any_edge : FlowSearch → ℕ → ℕ → Bool
+any_edge search node other =
+    if search.reverse then any_flow (weights_of search.entries) search.policy search.least other node
+    else any_flow (weights_of search.entries) search.policy search.least node other
+
+-- the type values that pass a test
+pub record AreJoined (policy : Parts) (test : ℕ → Bool) (found : List ℕ) : Type 0 where
+  pub each : (value : ℕ) → Contains found value ↔ ((1 ≤ value) × (value ≤ policy.symbols.types.nprim) × (test value ≡ true))
+
+-- a type that is not excluded
+abbrev pub is_open : FlowSearch → ℕ → Bool
+is_open search node = is_type_outside search.policy search.excluded node
+
+-- those among some types
+pub record IsOpenPart (search : FlowSearch) (types part : List ℕ) : Type 0 where
+  pub each : (value : ℕ) → Contains part value ↔ (Contains types value × (is_open search value ≡ true))
+
+-- a successor among the joined
+abbrev pub is_successor : FlowSearch → ℕ → ℕ → Bool
+is_successor search node other = not (other == node) && is_open search other
+
+-- ---- the rules of a flow
+
+-- rising numbers, those of some
+pub record AreDistinct (some rising : List ℕ) : Type 0 where
+  pub rise : IsStrictlyIncreasing rising
+  pub each : (number : ℕ) → Contains rising number ↔ Contains some number

@@ -1,0 +1,4 @@
+pub mod Placing
+pub mod Lines
+pub mod ListedOnce
+pub mod Listings

@@ -1,0 +1,3 @@
+pub mod KeyedWeights
+pub mod MapReading
+pub mod RowViews

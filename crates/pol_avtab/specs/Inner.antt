@@ -1,0 +1,2 @@
+pub mod DuplicateKeys
+pub mod EvenRules

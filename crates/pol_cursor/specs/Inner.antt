@@ -1,0 +1,2 @@
+pub mod EvenPlaces
+pub mod BitPlaces

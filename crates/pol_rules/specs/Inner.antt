@@ -1,0 +1,3 @@
+pub mod RuleNumbers
+pub mod RunningSums
+pub mod RuleRecords

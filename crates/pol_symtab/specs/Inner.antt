@@ -1,0 +1,4 @@
+pub mod NamePrefixes
+pub mod TakenMembers
+pub mod Freshness
+pub mod TableIndex

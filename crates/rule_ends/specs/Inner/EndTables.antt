@@ -1,0 +1,70 @@
+-- The ends of chosen rules, by the places of the rules in their list. It serves the code alone.
+use Rattle.std.specs.Prelude.{◌≡◌, ℕ, ◌+◌, ◌<◌, ◌==◌, nat_lt, ◌&&◌, Bool, true, List, length, map, not, is_some, slice_index}
+use Rattle.std.specs.List.{All, filter, flat_map, list_any}
+use Rattle.pol_datums.specs.declared.Flavour.TheVariants.{Attribute}
+use Rattle.pol_symbols.specs.PolicySymbols.{flavour_in}
+use Rattle.pol_file.specs.declared.Parts.{Parts}
+use Rattle.pol_file.specs.Inner.TypeValues.{IsTypeValue}
+use Rattle.pol_rules.specs.StoredRules.{StoredRule}
+use Rattle.pol_expand.specs.PolicyMap.{has_flavour}
+use Rattle.value_groups.specs.Marking.{is_among}
+use Rattle.value_groups.specs.Inner.Grouping.{AreGroupsOf, group_of}
+use Rattle.rule_ends.specs.ChosenRules.{holds_type, rule_passes}
+
+-- a value is that of a type or of an attribute
+pub record IsEnd (policy : Parts) (value : ℕ) : Type 0 where
+  pub within : IsTypeValue policy.symbols value
+  pub declared : is_some (flavour_in policy.symbols value) ≡ true
+
+-- a rule has these ends
+abbrev pub has_ends : ℕ → ℕ → StoredRule → Bool
+has_ends source target rule = (rule.source == source) && (rule.target == target)
+
+-- the rule of each place has the source and the target of that place, and these are types or attributes
+pub record AreEndsOf (policy : Parts) (rules sources targets : List ℕ) : Type 0 where
+  pub sources_long : length sources ≡ length rules
+  pub targets_long : length targets ≡ length rules
+  pub each : (place : ℕ) → place < length rules → rule_passes policy (has_ends (slice_index sources place) (slice_index targets place)) (slice_index rules place) ≡ true
+  pub sources_are : All (IsEnd policy) sources
+  pub targets_are : All (IsEnd policy) targets
+
+-- those of some places whose other end is among some values
+abbrev pub places_to : List ℕ → List ℕ → List ℕ → List ℕ
+places_to others ends places = filter (λ place. is_among ends (slice_index others place)) places
+
+-- the rules of these places
+abbrev pub rules_at : List ℕ → List ℕ → List ℕ
+rules_at rules places = map (slice_index rules) places
+
+-- the rules that have one end among some values and the other among others, group by group
+abbrev pub rules_found : List ℕ → List ℕ → (ℕ → List ℕ) → List ℕ → List ℕ → List ℕ
+rules_found rules others groups from to = flat_map (λ end. rules_at rules (places_to others to (groups end))) from
+
+-- whether there is one
+abbrev pub any_found : List ℕ → (ℕ → List ℕ) → List ℕ → List ℕ → Bool
+any_found others groups from to = list_any (λ end. list_any (λ place. is_among to (slice_index others place)) (groups end)) from
+
+-- whether a value is the other end of a rule that has one end among some values
+abbrev pub is_other_end : List ℕ → (ℕ → List ℕ) → List ℕ → ℕ → Bool
+is_other_end others groups from value = list_any (λ end. list_any (λ place. slice_index others place == value) (groups end)) from
+
+-- ---- the ends that hold a type
+
+-- a rule has a value as its end
+abbrev pub has_places : List (List ℕ) → ℕ → Bool
+has_places groups value = not (length (group_of groups value) == 0)
+
+-- a bit of a row stands for a value, which is that of an attribute that rules have
+abbrev pub is_attribute_bit : Parts → List (List ℕ) → ℕ → ℕ → Bool
+is_attribute_bit policy groups value bit = nat_lt bit policy.symbols.types.nprim && has_places groups (bit + 1) && has_flavour policy.symbols Attribute (bit + 1) && (bit + 1 == value)
+
+-- a value expands to one of some types
+abbrev pub holds_any : Parts → List ℕ → ℕ → Bool
+holds_any policy types value = list_any (holds_type policy value) types
+
+-- ---- the whole table
+
+pub record IsTableOf (policy : Parts) (rules sources targets : List ℕ) (by_source by_target : List (List ℕ)) : Type 0 where
+  pub ends : AreEndsOf policy rules sources targets
+  pub sources_grouped : AreGroupsOf policy.symbols.types.nprim sources by_source
+  pub targets_grouped : AreGroupsOf policy.symbols.types.nprim targets by_target

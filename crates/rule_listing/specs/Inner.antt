@@ -1,0 +1,2 @@
+pub mod KeptTexts
+pub mod ReadRules

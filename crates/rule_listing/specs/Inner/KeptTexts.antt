@@ -1,0 +1,33 @@
+-- Texts that are kept from line to line: what serves the code alone.
+use Rattle.std.specs.Prelude.{◌≡◌, ℕ, List, Option, Some, None, ⊤, length}
+use Rattle.std.specs.List.{All}
+use Rattle.pol_symbols.specs.PolicySymbols.{name_in}
+use Rattle.pol_symbols.specs.declared.Symbols.{Symbols}
+use Rattle.pol_file.specs.declared.Parts.{Parts}
+use Rattle.pol_rules.specs.declared.rule.RulePart.TheVariants as parts
+use Rattle.rule_listing.specs.declared.kept_head.KeptHead.{KeptHead}
+use Rattle.rule_listing.specs.declared.kept_texts.KeptText.{KeptText}
+use Rattle.rule_listing.specs.declared.kept_texts.TextKey.{TextKey}
+use Rattle.rule_listing.specs.declared.kept_texts.TextKey.TheVariants.{Perms, Default, Under}
+use Rattle.rule_text.specs.Inner.RuleFrames.{head_text, given_text}
+use Rattle.rule_text.specs.ConditionTexts.{condition_text}
+
+-- A kept head is that of its kind and source.
+abbrev pub IsHead : Symbols → KeptHead → Type 0
+IsHead symbols head = head.text.items ≡ head_text symbols head.kind head.source
+
+-- the text of what a key stands for
+abbrev pub text_of : Parts → TextKey → List ℕ
+text_of policy (Perms kind class mask) = given_text policy.symbols kind class (parts.Perms mask)
+text_of policy (Default kind class value) = given_text policy.symbols kind class (parts.Default value)
+text_of policy (Under condition) = condition_text (name_in policy.symbols) policy.rules.conditionals (Some condition)
+
+-- What a slot keeps, if it does, is the text of its key.
+abbrev pub IsKept : Parts → Option KeptText → Type 0
+IsKept policy None = ⊤
+IsKept policy (Some kept) = kept.text.items ≡ text_of policy kept.key
+
+-- so in each of 2,048 slots
+pub record AreKept (policy : Parts) (slots : List (Option KeptText)) : Type 0 where
+  pub count : length slots ≡ 2048
+  pub each : All (IsKept policy) slots

@@ -1,0 +1,5 @@
+pub mod ClassPermissions
+pub mod IoctlRuns
+pub mod RuleFrames
+pub mod ShownNames
+pub mod TypeNames

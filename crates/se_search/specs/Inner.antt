@@ -1,0 +1,3 @@
+pub mod RowLines
+pub mod RuleLines
+pub mod SingleLines

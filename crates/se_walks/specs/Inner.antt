@@ -1,0 +1,3 @@
+pub mod EdgeItems
+pub mod Placed
+pub mod WalkItems

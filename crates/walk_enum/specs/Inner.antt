@@ -1,0 +1,4 @@
+pub mod Cutting
+pub mod Exploring
+pub mod Leading
+pub mod Moving
