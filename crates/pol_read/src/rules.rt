@@ -22,6 +22,7 @@ impl<'a> Policy<'a> {
     /// the others are found by halves: in a group of file-name transitions, by the node of its source.
     ///
     /// What it names is declared: its ends, its class and its default, and the conditional node that it stands under is there.
+    #[inline(always)]
     pub fn rule(&self, n: u32) -> Rule<'a>
         requires { n < length (stored_rules self.now) }
         ensures is { slice_get (stored_rules self.now) n ≡ Some (stored result) }

@@ -115,10 +115,11 @@ of_kinds P a b c d e f g h i k =
     (choose P (k == 0x100) _ _ g
     (choose P (k == 0x200) _ _ h i)))))))
 
-source_of : (k : ℕ) → source_table (rule_kind k) ≡ Types
+-- their ends are types
+pub source_of : (k : ℕ) → source_table (rule_kind k) ≡ Types
 source_of k = of_kinds (λ kind. source_table kind ≡ Types) refl refl refl refl refl refl refl refl refl k
 
-target_of : (k : ℕ) → target_table (rule_kind k) ≡ Types
+pub target_of : (k : ℕ) → target_table (rule_kind k) ≡ Types
 target_of k = of_kinds (λ kind. target_table kind ≡ Types) refl refl refl refl refl refl refl refl refl k
 
 default_of : (k : ℕ) → default_table (rule_kind k) ≡ Types

@@ -24,6 +24,7 @@ use pol_trans::{
 /// The stored rule of that number, from 0 on, in file order. One of the table of access vectors, where nearly all rules stand,
 /// is found at once. The others are found by halves, and among those of a node of the sources of file-name transitions by
 /// going through its 64 bits.
+#[inline(always)]
 pub fn rule_at<'a>(parts: &Parts<'a>, index: &RuleIndex, n: u32) -> Rule<'a>
     requires index { IsIndexOf parts.now index.now }
     requires rule { n < length (stored_rules parts.now) }
@@ -32,8 +33,18 @@ pub fn rule_at<'a>(parts: &Parts<'a>, index: &RuleIndex, n: u32) -> Rule<'a>
     if n < parts.rules.table.len() {
         vector_rule(&vector_at(parts, n), None)
     } else {
-        record_at(parts, index, n).rule()
+        found_rule(parts, index, n)
     }
+}
+
+// That rule, which is looked for. It is no part of each loop that reads rules of the table.
+#[inline(never)]
+fn found_rule<'a>(parts: &Parts<'a>, index: &RuleIndex, n: u32) -> Rule<'a>
+    requires index { IsIndexOf parts.now index.now }
+    requires rule { n < length (stored_rules parts.now) }
+    ensures { slice_get (stored_rules parts.now) n ≡ Some (stored result) }
+{
+    record_at(parts, index, n).rule()
 }
 
 /// What that rule is read from. It is found in the same way, and nothing of it is read.

@@ -11,4 +11,4 @@ pub mod Resolvings
 pub mod Asking
 pub mod FoundRules
 pub mod MetRules
-pub mod GatheredNumbers
+pub mod PassedRules

@@ -1,10 +1,9 @@
 -- Which stored rules of a policy meet what is asked: those of a kind that is asked that meet each criterion that is given. A rule without
 -- the part that a criterion is about does not meet it (SETools' manual page of sesearch).
-use Rattle.std.specs.Prelude.{ℕ, Bool, false, ◌&&◌, Option, Some, None, List, length, slice_get, slice_index_or}
+use Rattle.std.specs.Prelude.{ℕ, Bool, false, ◌&&◌, Option, Some, None, List, length, slice_get}
 use Rattle.std.specs.List.{filter, list_all, range_with_len}
 use Rattle.pol_file.specs.declared.Parts.{Parts}
-use Rattle.pol_rules.specs.declared.RuleKind.{RuleKind}
-use Rattle.pol_rules.specs.RuleOrder.{kind_number, source_table, target_table}
+use Rattle.pol_rules.specs.RuleOrder.{source_table, target_table}
 use Rattle.pol_rules.specs.StoredRules.{StoredRule, stored_rules}
 use Rattle.rule_criteria.specs.declared.Criteria.{Criteria}
 use Rattle.rule_criteria.specs.declared.Criterion.{Criterion}
@@ -12,14 +11,12 @@ use Rattle.rule_query.specs.declared.given.Aspect.{Aspect}
 use Rattle.rule_query.specs.declared.given.Aspect.TheVariants.{Source, Target, Class, Permissions, Numbers, Default, Booleans}
 use Rattle.rule_query.specs.Given.{Given, in_word_order}
 use Rattle.rule_query.specs.Ends.{meets_end}
+use Rattle.rule_tests.specs.AskedKinds.{is_kind_asked}
 use Rattle.rule_tests.specs.Permissions.{meets_permissions}
 use Rattle.rule_tests.specs.Numbers.{meets_numbers}
 use Rattle.rule_query.specs.Listed.{meets_class, meets_default, meets_condition}
 
 -- ---- rules
-
-abbrev pub is_kind_asked : List Bool → RuleKind → Bool
-is_kind_asked kinds kind = slice_index_or kinds (kind_number kind) false
 
 -- a rule meets a criterion that is about one part of it
 abbrev pub meets_aspect : Parts → StoredRule → Criterion → Aspect → Bool

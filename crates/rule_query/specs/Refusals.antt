@@ -16,14 +16,11 @@ use Rattle.rule_query.specs.declared.given.Aspect.TheVariants as aspects
 use Rattle.rule_query.specs.declared.refusing.Refusal.{Refusal}
 use Rattle.rule_query.specs.declared.refusing.Refusal.TheVariants.{NotThere, NoNumber}
 use Rattle.rule_query.specs.Given.{Given}
-use Rattle.rule_query.specs.Meeting.{is_kind_asked}
+use Rattle.rule_tests.specs.AskedKinds.{is_any_asked}
 use Rattle.rule_tests.specs.Permissions.{is_among}
 use Rattle.rule_tests.specs.Numbers.{span_of}
 
 -- ---- the kinds that are asked
-
-abbrev pub is_any_asked : List Bool → List RuleKind → Bool
-is_any_asked kinds some = list_any (is_kind_asked kinds) some
 
 -- the kinds whose sources are types, and those whose sources are roles
 abbrev pub type_sources : List RuleKind

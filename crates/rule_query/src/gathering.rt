@@ -2,18 +2,19 @@
 ghost use Rattle.std.specs.Prelude.{◌≡◌, ◌+◌, ◌<◌, ◌≤◌, [], Some, IfOk, OnOk, length, option_map, slice_get};
 ghost use Rattle.pol_rules.specs.Inner.RuleRecords.{rule_of};
 ghost use Rattle.pol_rules.specs.StoredRules.{ends_of, rules_of_branch, rules_of_node, stored_rules};
-ghost use Rattle.rule_query.specs.Inner.Gathering.{AreMarked, HasMet, StandFrom};
+ghost use Rattle.rule_query.specs.Inner.Gathering.{HasMet, PassesOver, StandFrom};
 
-use crate::asked_vectors::AskedVectors;
-use crate::kinds::is_kind_asked;
 use crate::numbered_rule::NumberedRule;
 use crate::query::Query;
+use crate::tests::Test;
 use pol_read::{Condition, Policy, RuleEnds, RuleRecord};
 use rule_order::RuleKeys;
+use rule_tests::{AskedVectors, is_kind_asked};
 use std::alloc::AllocError;
 
 impl Query {
-    /// Adds the rules that meet the criteria, in file order. Only the kind is read of an access vector whose kind is not asked.
+    /// Adds the rules that meet the criteria, in file order. Only the kind and the ends are read of an access vector whose kind, source
+    /// or target is not asked.
     pub(crate) fn add_all(
         &self,
         policy: &Policy<'_>,
@@ -37,7 +38,7 @@ impl Query {
         requires { HasMet policy.now self.now 0 found.old }
         ensures { OnOk result (HasMet policy.now self.now (length policy.now.rules.table) found.new) }
     {
-        let asked = AskedVectors::of(&self.kinds);
+        let asked = self.asked_vectors();
         let count = policy.table().len();
         let mut from = 0;
         while from < count {
@@ -48,12 +49,27 @@ impl Query {
         Ok(())
     }
 
+    // The access vectors that may pass, by their kinds and by the types that are asked.
+    fn asked_vectors(&self) -> AskedVectors<'_>
+        ensures { PassesOver self.now result }
+    {
+        let mut asked = AskedVectors::of(&self.kinds);
+        for test in &self.tests {
+            match test {
+                Test::Source(ends) => asked.ask_sources(ends.types.marks()),
+                Test::Target(ends) => asked.ask_targets(ends.types.marks()),
+                _ => (),
+            }
+        }
+        asked
+    }
+
     // Adds those from one number up to another. The numbers of those that may be asked are put together first, and only these rules are
     // looked at one by one.
     fn add_block(
         &self,
         policy: &Policy<'_>,
-        asked: &AskedVectors,
+        asked: &AskedVectors<'_>,
         from: u32,
         to: u32,
         found: &mut RuleKeys<'_>,
@@ -61,14 +77,14 @@ impl Query {
         requires rising { from ≤ to }
         requires within { to ≤ length policy.now.rules.table }
         requires few { to ≤ from + 128 }
-        requires asked { AreMarked self.now.kinds asked.now.marks }
+        requires asked { PassesOver self.now asked.now }
         requires found { HasMet policy.now self.now from found.old }
         ensures { OnOk result (HasMet policy.now self.now to found.new) }
     {
         // the policy was accepted, and so what its rules name is declared
         let _ = policy.bytes();
         let mut numbers = [0; 128];
-        let count = asked.gather(policy, from, to, &mut numbers);
+        let count = asked.gather(policy.table(), from, to, &mut numbers);
         for number in &numbers[..count] {
             self.add_vector(policy, *number, found)?;
         }

@@ -4,11 +4,9 @@
 //! that a rule is compared by look-ups of numbers alone ([`Query`]).
 #![tactic(auto)]
 
-mod asked_vectors;
 mod ends;
 mod gathering;
 mod given;
-mod kinds;
 mod listed;
 mod marked_set;
 mod numbered_rule;

@@ -1,5 +1,5 @@
 // Sets that are asked for one value after the other.
-ghost use Rattle.std.specs.Prelude.{◌≡◌, IfOk};
+ghost use Rattle.std.specs.Prelude.{◌≡◌, IfOk, option_map};
 ghost use Rattle.pol_bitmap.specs.Nodes.{has_bit};
 ghost use Rattle.rule_query.specs.Inner.MarkedSets.{AreMarksOf};
 
@@ -45,6 +45,13 @@ impl MarkedSet {
         ensures { result.now ≡ self.now }
     {
         &self.set
+    }
+
+    /// Its marks, where it has some.
+    pub fn marks(&self) -> Option<&DenseSet>
+        ensures { AreMarksOf self.now (option_map (λ marks. marks.now) result) }
+    {
+        self.marks.as_ref()
     }
 
     /// Whether it has a value.

@@ -7,13 +7,13 @@ ghost use Rattle.rule_query.specs.Meeting.{meets, meeting};
 ghost use Rattle.rule_query.specs.Resolved.{IsQueryOf};
 ghost use Rattle.rule_query.specs.Tests.{passes, rule_test, source_types, target_types};
 
-use crate::kinds::is_kind_asked;
 use crate::numbered_rule::NumberedRule;
 use crate::tests::Test;
 use pol_bitmap::Set;
 use pol_read::Policy;
 use pol_symbols::Symbols;
 use rule_order::RuleKeys;
+use rule_tests::is_kind_asked;
 use std::alloc::{AllocError, Global};
 
 /// Criteria that were looked up in a policy: the kinds of rules that are asked, and what meets each criterion, by sets of values.
@@ -83,8 +83,8 @@ impl Query {
     pub fn sorted(&self, alloc: Global, policy: &Policy<'_>) -> Result<Vec<u32>, AllocError>
         ensures { (criteria : Criteria) → IsQueryOf policy.now criteria self.now → IfOk result (λ numbers. numbers.items ≡ in_rule_order policy.now (meeting policy.now criteria)) }
     {
-        // room for all, since memory that nothing is written to is not used
-        let mut found = RuleKeys::with_capacity(alloc, policy, policy.rule_count() as usize)?;
+        // room for those of the table, where nearly all rules stand: memory that nothing is written to is not used
+        let mut found = RuleKeys::with_capacity(alloc, policy, policy.table().len() as usize)?;
         self.add_all(policy, &mut found)?;
         found.sorted(alloc)
     }

@@ -6,11 +6,10 @@ ghost use Rattle.rule_tests.specs.Numbers.{span_of};
 ghost use Rattle.rule_query.specs.Refusals.{is_end_missing, is_missing, is_pattern_word, is_permission, is_permission_of, may_be_pattern, refusal_of, refusal_of_names, refuse_if};
 
 use crate::given::{Aspect, GivenCriterion};
-use crate::kinds::is_any_asked;
 use pol_fields::TableKind;
 use pol_read::RuleKind;
 use pol_symbols::Symbols;
-use rule_tests::{elements, span_of};
+use rule_tests::{elements, is_any_asked, span_of};
 use std::alloc::{AllocError, Global};
 
 /// Why a criterion is refused.

@@ -7,3 +7,5 @@ pub mod ClassPermissions
 pub mod ClassesMade
 pub mod PermissionTests
 pub mod NumberTests
+pub mod KindMarks
+pub mod GatheredNumbers

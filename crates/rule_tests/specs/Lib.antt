@@ -1,3 +1,5 @@
 pub mod Permissions
 pub mod Numbers
 pub mod Tests
+pub mod AskedKinds
+pub mod Inner

@@ -1,16 +1,20 @@
-//! What a search asks of the permissions and the ioctl numbers of rules.
+//! What a search asks of the kinds, the permissions and the ioctl numbers of rules, and which access vectors of a table may be asked.
 //!
 //! A criterion lists names of permissions or numbers. They are looked up once, and what they mean is kept as bits and as spans of
 //! numbers, so that a rule is compared without its names ([`PermissionTest`], [`NumberTest`]).
 #![tactic(auto)]
 
+mod asked_vectors;
 mod class_bits;
+mod kinds;
 mod number_test;
 mod permission_test;
 mod spans;
 mod text_elements;
 mod text_numbers;
 
+pub use asked_vectors::AskedVectors;
+pub use kinds::{is_any_asked, is_kind_asked};
 pub use number_test::NumberTest;
 pub use permission_test::PermissionTest;
 pub use spans::Span;

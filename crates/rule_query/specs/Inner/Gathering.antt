@@ -1,16 +1,18 @@
 -- What was gathered on the way through the stored rules. It serves the code alone.
-use Rattle.std.specs.Prelude.{◌≡◌, ℕ, ◌+◌, ◌<◌, ◌≤◌, Bool, false, ◌||◌, Option, Some, None, List, [], ◌∷◌, length, slice_get, slice_index_or}
+use Rattle.std.specs.Prelude.{◌≡◌, ℕ, ◌+◌, ◌<◌, ◌≤◌, Bool, false, Option, Some, None, List, length, slice_get}
 use Rattle.std.specs.List.{filter, range_with_len}
+use Rattle.pol_cursor.specs.References.{Placed}
+use Rattle.pol_avtab.specs.declared.AvRec.{AvRec}
+use Rattle.pol_symbols.specs.declared.Symbols.{Symbols}
 use Rattle.pol_file.specs.declared.Parts.{Parts}
-use Rattle.pol_rules.specs.declared.RuleKind.{RuleKind}
-use Rattle.pol_rules.specs.declared.RuleKind.TheVariants.{AllowXperm, AuditallowXperm, DontauditXperm}
-use Rattle.pol_rules.specs.StoredRules.{StoredRule, rule_kind, stored_rules}
+use Rattle.pol_rules.specs.StoredRules.{StoredRule, av_rule, stored_rules}
 use Rattle.rule_criteria.specs.declared.Criteria.{Criteria}
 use Rattle.rule_order.specs.ListedOrder.{GatheredRules}
+use Rattle.rule_tests.specs.Inner.AskedVectors.{VectorMarks, may_be_asked}
 use Rattle.rule_query.specs.declared.query.Query.{Query}
-use Rattle.rule_query.specs.Meeting.{is_kind_asked, meets}
-use Rattle.rule_query.specs.Refusals.{is_any_asked}
+use Rattle.rule_query.specs.Meeting.{meets}
 use Rattle.rule_query.specs.Resolved.{IsQueryOf}
+use Rattle.rule_query.specs.Tests.{passes}
 
 -- those of the rules below a number that meet the criteria of a query, and no others
 pub record HasMet (policy : Parts) (query : Query) (below : ℕ) (found : GatheredRules) : Type 0 where
@@ -25,28 +27,15 @@ pub record StandFrom (policy : Parts) (first : ℕ) (rules : List StoredRule) : 
 
 -- ---- those of the table
 
--- the kinds of access vectors with ioctl numbers
-abbrev pub extended_kinds : List RuleKind
-extended_kinds = AllowXperm ∷ AuditallowXperm ∷ DontauditXperm ∷ []
+-- no access vector passes that the marks pass over
+pub record PassesOver (query : Query) (marks : VectorMarks) : Type 0 where
+  pub at : (symbols : Symbols) (av : Placed AvRec) → may_be_asked marks av.value ≡ false → passes symbols query (av_rule None av) ≡ false
 
--- an access vector may be of a kind that is asked, by the seven lowest bits of what it specifies
-abbrev pub may_be_asked : List Bool → ℕ → Bool
-may_be_asked kinds low = is_any_asked kinds extended_kinds || is_kind_asked kinds (rule_kind low)
+-- a rule passes, where there is one
+abbrev pub is_passing : Parts → Query → Option StoredRule → Bool
+is_passing policy query None = false
+is_passing policy query (Some rule) = passes policy.symbols query rule
 
--- the numbers of seven bits are marked so
-pub record AreMarked (kinds marks : List Bool) : Type 0 where
-  pub at : (low : ℕ) → low < 128 → slice_index_or marks low false ≡ may_be_asked kinds low
-
--- the kind of a rule is asked, where there is one
-abbrev pub is_asked : List Bool → Option StoredRule → Bool
-is_asked kinds None = false
-is_asked kinds (Some rule) = is_kind_asked kinds rule.kind
-
--- that of the stored rule of a number
-unfoldable pub is_asked_at : Parts → List Bool → ℕ → Bool
-is_asked_at policy kinds n = is_asked kinds (slice_get (stored_rules policy) n)
-
--- numbers rise from one up to another, and no other number between these two is wanted
-abbrev pub Gathers : (ℕ → Bool) → ℕ → List ℕ → ℕ → Type 0
-Gathers wanted from [] to = (from ≤ to) × ((n : ℕ) → from ≤ n → n < to → wanted n ≡ false)
-Gathers wanted from (number ∷ numbers) to = (from ≤ number) × ((n : ℕ) → from ≤ n → n < number → wanted n ≡ false) × Gathers wanted (number + 1) numbers to
+-- the stored rule of a number does
+unfoldable pub passes_at : Parts → Query → ℕ → Bool
+passes_at policy query n = is_passing policy query (slice_get (stored_rules policy) n)

@@ -1,10 +1,10 @@
 use Rattle.std.proofs.Common.{◌≡◌, ◌+◌, [], drop, get_or, take, arith}
 use Rattle.std.proofs.lemmas.List.{drop_all}
-use Rattle.rule_query.proofs.GatheredNumbers.{next_number, no_number}
+use Rattle.rule_query.proofs.PassedRules.{gathered_passing, next_number, no_number}
 use Rattle.rule_query.proofs.query.Query.add_block.Goals as goal
 
 pub loop-number-init : goal.loop-number-init
-loop-number-init c = record { from = c.args.from; met = c.requires.found; gathered = c.gather-count.ensures.all c.args.self.now.kinds c.requires.asked }
+loop-number-init c = record { from = c.args.from; met = c.requires.found; gathered = gathered_passing c.args.policy.now c.args.self.now c.args.asked.now c.args.from (take c.gather-count.result c.gather-count.new.numbers) c.args.to c.requires.asked c.requires.within (rw c.table-gather.ensures at c.gather-count.ensures.all) }
 
 pub add_vector-requires : goal.add_vector-requires
 add_vector-requires c =

@@ -1,5 +1,5 @@
 use Rattle.std.proofs.Common.{drop}
-use Rattle.rule_query.proofs.GatheredNumbers.{AreLeft}
+use Rattle.rule_query.proofs.PassedRules.{AreLeft}
 use Rattle.rule_query.proofs.query.Query.add_block.Given as goal
 
 abbrev pub invariant-loop-number : goal.invariant-loop-number

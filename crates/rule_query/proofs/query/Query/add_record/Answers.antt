@@ -1,6 +1,6 @@
 use Rattle.std.proofs.Common.{ap, sym, ◌∙◌}
 use Rattle.pol_rules.specs.Inner.RuleRecords.{rule_of}
-use Rattle.rule_query.specs.Meeting.{is_kind_asked}
+use Rattle.rule_tests.specs.AskedKinds.{is_kind_asked}
 use Rattle.rule_query.proofs.MetRules.{met_unasked}
 use Rattle.rule_query.proofs.query.Query.add_record.Goals as goal
 

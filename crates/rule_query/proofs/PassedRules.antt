@@ -1,0 +1,121 @@
+-- Rules of the table that are passed over, since their marks tell that they do not pass.
+use Rattle.std.proofs.Common.{◌≡◌, ⊎_elim, ℕ, zero, suc, ◌+◌, ◌-◌, ◌<◌, ◌≤◌, Bool, true, false, Ok, Some, None, List, [], ◌∷◌, length, get_or, drop, slice_get, refl, sym, ap, subst, ◌∙◌, arith}
+use Rattle.std.specs.Prelude.{◌%◌, ◌&&◌, slice_index_or}
+use Rattle.std.specs.List.{list_all}
+use Rattle.std.proofs.lemmas.Bool.{false≢true, false_from_ne_true}
+use Rattle.std.proofs.lemmas.Option.{slice_get_cases}
+use Rattle.std.proofs.Math.Seq.{drop-cons}
+use Rattle.pol_cursor.specs.References.{Placed}
+use Rattle.pol_avtab.specs.declared.AvRec.{AvRec}
+use Rattle.pol_avtab.specs.AvKeys.{kind_of}
+use Rattle.pol_bitmap.specs.declared.Node.{Node}
+use Rattle.pol_bitmap.specs.Nodes.{has_bit}
+use Rattle.pol_file.specs.declared.Parts.{Parts}
+use Rattle.pol_file.specs.Acceptance.{accept}
+use Rattle.pol_fields.specs.declared.TableKind.TheVariants.{Types}
+use Rattle.pol_rules.specs.RuleOrder.{source_table, target_table}
+use Rattle.pol_rules.specs.StoredRules.{StoredRule, av_rule, stored_rules}
+use Rattle.pol_rules.proofs.RuleSums.{section_sizes, table_first}
+use Rattle.pol_rules.proofs.RulesDeclared.{rule_is_declared, source_of, target_of}
+use Rattle.pol_symbols.specs.declared.Symbols.{Symbols}
+use Rattle.rule_order.specs.ListedOrder.{GatheredRules}
+use Rattle.rule_tests.specs.AskedKinds.{is_kind_asked}
+use Rattle.rule_tests.specs.Inner.AskedVectors.{AreMarked, Gathers, VectorMarks, is_asked_at, is_asked_if, is_value_asked, may_be_asked}
+use Rattle.rule_tests.proofs.GatheredNumbers.{fewer_wanted, gathers_up}
+use Rattle.rule_query.specs.declared.query.Query.{Query}
+use Rattle.rule_query.specs.declared.tests.Test.{Test}
+use Rattle.rule_query.specs.Inner.Gathering.{HasMet, PassesOver, is_passing, passes_at}
+use Rattle.rule_query.specs.Inner.MarkedSets.{AreMarksOf}
+use Rattle.rule_query.specs.Tests.{passes, rule_test}
+use Rattle.rule_query.proofs.MetRules.{met_failing}
+use Rattle.value_groups.specs.Marking.{MarkedValues}
+
+-- ---- ends
+
+-- no rule between types passes some tests whose source, or whose target, is not among the marks
+pub record AreEndMarks (tests : List Test) (marks : VectorMarks) : Type 0 where
+  pub sources : (symbols : Symbols) (rule : StoredRule) → source_table rule.kind ≡ Types → is_value_asked marks.sources rule.source ≡ false → list_all (rule_test symbols rule) tests ≡ false
+  pub targets : (symbols : Symbols) (rule : StoredRule) → target_table rule.kind ≡ Types → is_value_asked marks.targets rule.target ≡ false → list_all (rule_test symbols rule) tests ≡ false
+
+-- what the marks of a set pass over is not in the set
+pub unmarked_value : (set : List Node) (marks : Option MarkedValues) (value : ℕ) → AreMarksOf set marks → is_value_asked marks value ≡ false → has_bit set value ≡ false
+unmarked_value set None value are e = absurd (false≢true (sym e))
+unmarked_value set (Some marks) value are e = sym (are value) ∙ e
+
+-- ---- a rule of the table
+
+-- a mark is missing, and so the kind is not asked, or the tests are not passed
+one_missing : (kind source target asked passed : Bool) → (asked ≡ true → kind ≡ true) → (source ≡ false → passed ≡ false) → (target ≡ false → passed ≡ false) → ((kind && source) && target) ≡ false → (asked && passed) ≡ false
+one_missing kind source target false passed marked first second e = refl
+one_missing kind source target true false marked first second e = refl
+one_missing false source target true true marked first second e = sym (marked refl)
+one_missing true false target true true marked first second e = first refl
+one_missing true true false true true marked first second e = second refl
+one_missing true true true true true marked first second e = e
+
+pub passes_over : (query : Query) (marks : VectorMarks) → AreMarked query.kinds marks.kinds → AreEndMarks query.tests.items marks → PassesOver query marks
+passes_over query marks kinds ends = record {
+  at = λ symbols av e.
+      let rule : StoredRule = av_rule None av in
+      let kind = kind_of av.value.specified in
+      one_missing (slice_index_or marks.kinds (av.value.specified % 128) false) (is_value_asked marks.sources rule.source) (is_value_asked marks.targets rule.target)
+      (is_kind_asked query.kinds rule.kind) (list_all (rule_test symbols rule) query.tests.items)
+      (kinds.at av.value.specified) (ends.sources symbols rule (source_of kind)) (ends.targets symbols rule (target_of kind)) e;
+}
+
+-- ---- rules that are passed over
+
+module _ (policy : Parts) (query : Query) (bytes : List ℕ) (found : GatheredRules) (accepted : accept bytes ≡ Ok policy) where
+  one_passed : (n : ℕ) → n < length (stored_rules policy) → passes_at policy query n ≡ false → HasMet policy query n found → HasMet policy query (n + 1) found
+  unfolding passes_at
+  one_passed n lt e met =
+      ⊎_elim (λ some. met_failing policy query some.0 n some.2 found (rule_is_declared bytes policy n some.0 accepted some.2) (sym (ap (is_passing policy query) some.2) ∙ e) met) (λ past. absurd (omega (arith, past.0, lt))) (slice_get_cases (stored_rules policy) n).1
+
+  some_passed : (count from to : ℕ) → to ≡ from + count → to ≤ length (stored_rules policy) → ((n : ℕ) → from ≤ n → n < to → passes_at policy query n ≡ false) → HasMet policy query from found → HasMet policy query to found
+  some_passed zero from to e within none met = let same : from ≡ to = omega (arith, e) in subst (λ (n : ℕ). HasMet policy query n found) same met
+  some_passed (suc count) from to e within none met =
+      some_passed count (from + 1) to (omega (arith, e)) within (λ n le lt. none n (omega (arith, le)) lt) (one_passed from (omega (arith, e, within)) (none from (omega arith) (omega (arith, e))) met)
+
+  passed : (from to : ℕ) → from ≤ to → to ≤ length policy.rules.table → ((n : ℕ) → from ≤ n → n < to → passes_at policy query n ≡ false) → HasMet policy query from found → HasMet policy query to found
+  passed from to le within none met = some_passed (to - from) from to (omega (arith, le)) (omega (arith, within, section_sizes policy)) none met
+
+-- what the marks pass over does not pass
+pub passed_at : (policy : Parts) (query : Query) (marks : VectorMarks) (n : ℕ) → PassesOver query marks → n < length policy.rules.table → is_asked_at marks policy.rules.table n ≡ false → passes_at policy query n ≡ false
+unfolding (is_asked_at, passes_at)
+passed_at policy query marks n over lt e =
+    ⊎_elim
+    (λ some. ap (is_passing policy query) (table_first policy n some.0 some.2) ∙ over.at policy.symbols some.0 (sym (ap (is_asked_if marks) some.2) ∙ e))
+    (λ past. absurd (omega (arith, past.0, lt)))
+    (slice_get_cases policy.rules.table n).1
+
+pub gathered_passing : (policy : Parts) (query : Query) (marks : VectorMarks) (from : ℕ) (numbers : List ℕ) (to : ℕ) → PassesOver query marks → to ≤ length policy.rules.table → Gathers (is_asked_at marks policy.rules.table) from numbers to → Gathers (passes_at policy query) from numbers to
+gathered_passing policy query marks from numbers to over within gathers =
+    fewer_wanted (is_asked_at marks policy.rules.table) (passes_at policy query) from numbers to (λ n lt e. passed_at policy query marks n over (omega (arith, lt, within)) e) gathers
+
+-- numbers that are left, behind the rules that were gone through
+pub record AreLeft (policy : Parts) (query : Query) (found : GatheredRules) (numbers : List ℕ) (to : ℕ) : Type 0 where
+  pub from : ℕ
+  pub met : HasMet policy query from found
+  pub gathered : Gathers (passes_at policy query) from numbers to
+
+-- the first of them
+pub record IsNext (policy : Parts) (query : Query) (found : GatheredRules) (number : ℕ) (numbers : List ℕ) (to : ℕ) : Type 0 where
+  pub below : number < to
+  pub met : HasMet policy query number found
+  pub gathered : Gathers (passes_at policy query) (number + 1) numbers to
+
+module _ (policy : Parts) (query : Query) (bytes : List ℕ) (found : GatheredRules) (accepted : accept bytes ≡ Ok policy) (to : ℕ) (within : to ≤ length policy.rules.table) where
+  pub next_number : (numbers : List ℕ) (i : ℕ) (d : ℕ) → i < length numbers → AreLeft policy query found (drop i numbers) to → IsNext policy query found (get_or numbers i d) (drop (i + 1) numbers) to
+  next_number numbers i d lt left =
+      let number = get_or numbers i d in
+      let same : suc i ≡ i + 1 = omega arith in
+      let gathered : Gathers (passes_at policy query) left.from (number ∷ drop (i + 1) numbers) to = rw (drop-cons numbers i d lt ∙ ap (λ (n : ℕ). number ∷ drop n numbers) same) at left.gathered in
+      let below : number < to = omega (arith, gathers_up (passes_at policy query) (number + 1) (drop (i + 1) numbers) to gathered.2) in
+      record {
+        below = below;
+        met = passed policy query bytes found accepted left.from number gathered.0 (omega (arith, below, within)) gathered.1 left.met;
+        gathered = gathered.2;
+      }
+
+  pub no_number : AreLeft policy query found [] to → HasMet policy query to found
+  no_number left = passed policy query bytes found accepted left.from to left.gathered.0 within left.gathered.1 left.met
