@@ -48,14 +48,14 @@ impl<'s> AskedVectors<'s> {
 
     /// Asks for sources.
     pub fn ask_sources(&mut self, sources: Option<&'s DenseSet>)
-        ensures { self.new ≡ record { kinds = self.old.kinds; sources = option_map (λ set. set.now) sources; targets = self.old.targets } }
+        ensures { self.new ≡ record { kinds = self.old.kinds; sources = option_map (λ set. set.now) sources.entry; targets = self.old.targets } }
     {
         self.sources = sources;
     }
 
     /// Asks for targets.
     pub fn ask_targets(&mut self, targets: Option<&'s DenseSet>)
-        ensures { self.new ≡ record { kinds = self.old.kinds; sources = self.old.sources; targets = option_map (λ set. set.now) targets } }
+        ensures { self.new ≡ record { kinds = self.old.kinds; sources = self.old.sources; targets = option_map (λ set. set.now) targets.entry } }
     {
         self.targets = targets;
     }
@@ -63,13 +63,7 @@ impl<'s> AskedVectors<'s> {
     /// Puts the numbers of the rules of a table that may be asked, from one number up to another, at the front of other numbers, and
     /// tells how many they are. No branch waits for a rule.
     #[inline(never)]
-    pub fn gather(
-        &self,
-        table: &AvTable<'_>,
-        from: u32,
-        to: u32,
-        numbers: &mut [u32; 128],
-    ) -> usize
+    pub fn gather(&self, table: &AvTable<'_>, from: u32, to: u32, numbers: &mut [u32; 128]) -> usize
         requires rising { from ≤ to }
         requires within { to ≤ length table.now }
         requires few { to ≤ from + 128 }
@@ -98,7 +92,7 @@ impl<'s> AskedVectors<'s> {
 // Whether a value is asked, where some are.
 #[inline(always)]
 fn is_value_asked(asked: Option<&DenseSet>, value: u16) -> bool
-    ensures { result ≡ is_value_asked (option_map (λ set. set.now) asked) value }
+    ensures { result ≡ is_value_asked (option_map (λ set. set.now) asked.entry) value }
 {
     match asked {
         Some(set) => set.has(u32::from(value)),
