@@ -3,6 +3,7 @@ use Rattle.std.proofs.Common.{◌≡◌, ⊎_elim, ℕ, zero, suc, ◌+◌, ◌-
 use Rattle.std.specs.Prelude.{◌%◌, ◌&&◌, slice_index_or}
 use Rattle.std.specs.List.{list_all}
 use Rattle.std.proofs.lemmas.Bool.{false≢true, false_from_ne_true}
+use Rattle.std.proofs.lemmas.List.Folds.{list_all_at}
 use Rattle.std.proofs.lemmas.Option.{slice_get_cases}
 use Rattle.std.proofs.Math.Seq.{drop-cons}
 use Rattle.pol_cursor.specs.References.{Placed}
@@ -12,6 +13,7 @@ use Rattle.pol_bitmap.specs.declared.Node.{Node}
 use Rattle.pol_bitmap.specs.Nodes.{has_bit}
 use Rattle.pol_file.specs.declared.Parts.{Parts}
 use Rattle.pol_file.specs.Acceptance.{accept}
+use Rattle.pol_fields.specs.declared.TableKind.{TableKind}
 use Rattle.pol_fields.specs.declared.TableKind.TheVariants.{Types}
 use Rattle.pol_rules.specs.RuleOrder.{source_table, target_table}
 use Rattle.pol_rules.specs.StoredRules.{StoredRule, av_rule, stored_rules}
@@ -20,13 +22,15 @@ use Rattle.pol_rules.proofs.RulesDeclared.{rule_is_declared, source_of, target_o
 use Rattle.pol_symbols.specs.declared.Symbols.{Symbols}
 use Rattle.rule_order.specs.ListedOrder.{GatheredRules}
 use Rattle.rule_tests.specs.AskedKinds.{is_kind_asked}
-use Rattle.rule_tests.specs.Inner.AskedVectors.{AreMarked, Gathers, VectorMarks, is_asked_at, is_asked_if, is_value_asked, may_be_asked}
+use Rattle.rule_tests.specs.Inner.AskedVectors.{AreMarked, Gathers, VectorMarks, is_asked_at, is_asked_if, is_value_asked, may_be_asked, of_any_ends}
 use Rattle.rule_tests.proofs.GatheredNumbers.{fewer_wanted, gathers_up}
 use Rattle.rule_query.specs.declared.query.Query.{Query}
+use Rattle.rule_query.specs.declared.ends.Ends.{Ends}
 use Rattle.rule_query.specs.declared.tests.Test.{Test}
+use Rattle.rule_query.specs.declared.tests.Test.TheVariants as tests
 use Rattle.rule_query.specs.Inner.Gathering.{HasMet, PassesOver, is_passing, passes_at}
 use Rattle.rule_query.specs.Inner.MarkedSets.{AreMarksOf}
-use Rattle.rule_query.specs.Tests.{passes, rule_test}
+use Rattle.rule_query.specs.Tests.{has_end, passes, rule_test}
 use Rattle.rule_query.proofs.MetRules.{met_failing}
 use Rattle.value_groups.specs.Marking.{MarkedValues}
 
@@ -41,6 +45,22 @@ pub record AreEndMarks (tests : List Test) (marks : VectorMarks) : Type 0 where
 pub unmarked_value : (set : List Node) (marks : Option MarkedValues) (value : ℕ) → AreMarksOf set marks → is_value_asked marks value ≡ false → has_bit set value ≡ false
 unmarked_value set None value are e = absurd (false≢true (sym e))
 unmarked_value set (Some marks) value are e = sym (are value) ∙ e
+
+-- none of the ends is asked
+pub no_end_marks : (tests : List Test) (kinds : List Bool) → AreEndMarks tests (of_any_ends kinds)
+no_end_marks tests kinds = record { sources = λ symbols rule types e. absurd (false≢true (sym e)); targets = λ symbols rule types e. absurd (false≢true (sym e)) }
+
+-- those of a test that is there, and of the types that it asks for
+module _ (these : List Test) (i : ℕ) (d : Test) (ends : Ends) (marks : Option MarkedValues) (lt : i < length these) (are : AreMarksOf ends.types marks) (symbols : Symbols) (rule : StoredRule) where
+  pub source_marked : get_or these i d ≡ tests.Source ends → source_table rule.kind ≡ Types → is_value_asked marks rule.source ≡ false → list_all (rule_test symbols rule) these ≡ false
+  source_marked is types e =
+      list_all_at (rule_test symbols rule) these i d lt
+      (ap (rule_test symbols rule) is ∙ ap (λ (table : TableKind). has_end ends table rule.source) types ∙ unmarked_value ends.types marks rule.source are e)
+
+  pub target_marked : get_or these i d ≡ tests.Target ends → target_table rule.kind ≡ Types → is_value_asked marks rule.target ≡ false → list_all (rule_test symbols rule) these ≡ false
+  target_marked is types e =
+      list_all_at (rule_test symbols rule) these i d lt
+      (ap (rule_test symbols rule) is ∙ ap (λ (table : TableKind). has_end ends table rule.target) types ∙ unmarked_value ends.types marks rule.target are e)
 
 -- ---- a rule of the table
 
