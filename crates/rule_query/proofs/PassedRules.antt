@@ -1,13 +1,11 @@
 -- Rules of the table that are passed over, since their marks tell that they do not pass.
-use Rattle.std.proofs.Common.{◌≡◌, ⊎_elim, ℕ, zero, suc, ◌+◌, ◌-◌, ◌<◌, ◌≤◌, Bool, true, false, Ok, Some, None, List, [], ◌∷◌, length, get_or, drop, slice_get, refl, sym, ap, subst, ◌∙◌, arith}
+use Rattle.std.proofs.Common.{◌≡◌, ⊎_elim, ℕ, zero, suc, ◌+◌, ◌-◌, ◌<◌, ◌≤◌, Bool, true, false, Ok, Some, None, List, [], ◌∷◌, length, get_or, drop, refl, sym, ap, subst, ◌∙◌, arith}
 use Rattle.std.specs.Prelude.{◌%◌, ◌&&◌, slice_index_or}
 use Rattle.std.specs.List.{list_all}
-use Rattle.std.proofs.lemmas.Bool.{false≢true, false_from_ne_true}
+use Rattle.std.proofs.lemmas.Bool.{false≢true}
 use Rattle.std.proofs.lemmas.List.Folds.{list_all_at}
 use Rattle.std.proofs.lemmas.Option.{slice_get_cases}
 use Rattle.std.proofs.Math.Seq.{drop-cons}
-use Rattle.pol_cursor.specs.References.{Placed}
-use Rattle.pol_avtab.specs.declared.AvRec.{AvRec}
 use Rattle.pol_avtab.specs.AvKeys.{kind_of}
 use Rattle.pol_bitmap.specs.declared.Node.{Node}
 use Rattle.pol_bitmap.specs.Nodes.{has_bit}
@@ -22,7 +20,7 @@ use Rattle.pol_rules.proofs.RulesDeclared.{rule_is_declared, source_of, target_o
 use Rattle.pol_symbols.specs.declared.Symbols.{Symbols}
 use Rattle.rule_order.specs.ListedOrder.{GatheredRules}
 use Rattle.rule_tests.specs.AskedKinds.{is_kind_asked}
-use Rattle.rule_tests.specs.Inner.AskedVectors.{AreMarked, Gathers, VectorMarks, is_asked_at, is_asked_if, is_value_asked, may_be_asked, of_any_ends}
+use Rattle.rule_tests.specs.Inner.AskedVectors.{AreMarked, Gathers, VectorMarks, is_asked_at, is_asked_if, is_value_asked, of_any_ends}
 use Rattle.rule_tests.proofs.GatheredNumbers.{fewer_wanted, gathers_up}
 use Rattle.rule_query.specs.declared.query.Query.{Query}
 use Rattle.rule_query.specs.declared.ends.Ends.{Ends}
@@ -101,7 +99,7 @@ module _ (policy : Parts) (query : Query) (bytes : List ℕ) (found : GatheredRu
 
 -- what the marks pass over does not pass
 pub passed_at : (policy : Parts) (query : Query) (marks : VectorMarks) (n : ℕ) → PassesOver query marks → n < length policy.rules.table → is_asked_at marks policy.rules.table n ≡ false → passes_at policy query n ≡ false
-unfolding (is_asked_at, passes_at)
+unfolding is_asked_at passes_at
 passed_at policy query marks n over lt e =
     ⊎_elim
     (λ some. ap (is_passing policy query) (table_first policy n some.0 some.2) ∙ over.at policy.symbols some.0 (sym (ap (is_asked_if marks) some.2) ∙ e))

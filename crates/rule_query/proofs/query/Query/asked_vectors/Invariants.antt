@@ -1,4 +1,3 @@
-use Rattle.std.proofs.Common.{take}
 use Rattle.rule_tests.specs.Inner.AskedVectors.{AreMarked}
 use Rattle.rule_query.proofs.PassedRules.{AreEndMarks}
 use Rattle.rule_query.proofs.query.Query.asked_vectors.Given as goal

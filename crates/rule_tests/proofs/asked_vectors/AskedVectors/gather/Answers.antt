@@ -1,4 +1,4 @@
-use Rattle.std.proofs.Common.{◌≡◌, ◌+◌, ◌<◌, ◌≤◌, ◌∙◌, Bool, true, false, ap, length, length-set, sym, arith}
+use Rattle.std.proofs.Common.{◌<◌, ◌≤◌, ◌∙◌, Bool, true, false, ap, length, length-set, sym, arith}
 use Rattle.std.specs.Int.{from_bool}
 use Rattle.rule_tests.specs.Inner.AskedVectors.{is_asked_at, is_asked_if}
 use Rattle.rule_tests.proofs.GatheredNumbers.{gathered_next}
