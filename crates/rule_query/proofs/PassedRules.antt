@@ -1,5 +1,5 @@
 -- Rules of the table that are passed over, since their marks tell that they do not pass.
-use Rattle.std.proofs.Common.{◌≡◌, ⊎_elim, ℕ, zero, suc, ◌+◌, ◌-◌, ◌<◌, ◌≤◌, Bool, true, false, Ok, Some, None, List, [], ◌∷◌, length, get_or, drop, refl, sym, ap, subst, ◌∙◌, arith}
+use Rattle.std.proofs.Common.{◌≡◌, ⊎_elim, ℕ, zero, suc, ◌+◌, ◌-◌, ◌<◌, ◌≤◌, Bool, true, false, Ok, Option, Some, None, List, [], ◌∷◌, length, get_or, drop, refl, sym, ap, subst, ◌∙◌, arith}
 use Rattle.std.specs.Prelude.{◌%◌, ◌&&◌, slice_index_or}
 use Rattle.std.specs.List.{list_all}
 use Rattle.std.proofs.lemmas.Bool.{false≢true}
@@ -50,15 +50,23 @@ no_end_marks tests kinds = record { sources = λ symbols rule types e. absurd (f
 
 -- those of a test that is there, and of the types that it asks for
 module _ (these : List Test) (i : ℕ) (d : Test) (ends : Ends) (marks : Option MarkedValues) (lt : i < length these) (are : AreMarksOf ends.types marks) (symbols : Symbols) (rule : StoredRule) where
-  pub source_marked : get_or these i d ≡ tests.Source ends → source_table rule.kind ≡ Types → is_value_asked marks rule.source ≡ false → list_all (rule_test symbols rule) these ≡ false
+  source_marked : get_or these i d ≡ tests.Source ends → source_table rule.kind ≡ Types → is_value_asked marks rule.source ≡ false → list_all (rule_test symbols rule) these ≡ false
   source_marked is types e =
       list_all_at (rule_test symbols rule) these i d lt
       (ap (rule_test symbols rule) is ∙ ap (λ (table : TableKind). has_end ends table rule.source) types ∙ unmarked_value ends.types marks rule.source are e)
 
-  pub target_marked : get_or these i d ≡ tests.Target ends → target_table rule.kind ≡ Types → is_value_asked marks rule.target ≡ false → list_all (rule_test symbols rule) these ≡ false
+  target_marked : get_or these i d ≡ tests.Target ends → target_table rule.kind ≡ Types → is_value_asked marks rule.target ≡ false → list_all (rule_test symbols rule) these ≡ false
   target_marked is types e =
       list_all_at (rule_test symbols rule) these i d lt
       (ap (rule_test symbols rule) is ∙ ap (λ (table : TableKind). has_end ends table rule.target) types ∙ unmarked_value ends.types marks rule.target are e)
+
+-- what a test asks of its end is asked, and what was asked stays
+module _ (these : List Test) (i : ℕ) (d : Test) (ends : Ends) (marks : Option MarkedValues) (old new : VectorMarks) (lt : i < length these) (are : AreMarksOf ends.types marks) (asked : AreEndMarks these old) where
+  pub asked_sources : get_or these i d ≡ tests.Source ends → new ≡ record { kinds = old.kinds; sources = marks; targets = old.targets } → AreEndMarks these new
+  asked_sources is e = subst (AreEndMarks these) (sym e) (record { sources = λ symbols rule types none. source_marked these i d ends marks lt are symbols rule is types none; targets = asked.targets })
+
+  pub asked_targets : get_or these i d ≡ tests.Target ends → new ≡ record { kinds = old.kinds; sources = old.sources; targets = marks } → AreEndMarks these new
+  asked_targets is e = subst (AreEndMarks these) (sym e) (record { sources = asked.sources; targets = λ symbols rule types none. target_marked these i d ends marks lt are symbols rule is types none })
 
 -- ---- a rule of the table
 
