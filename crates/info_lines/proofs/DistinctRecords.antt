@@ -7,8 +7,8 @@ use Rattle.pol_cursor.specs.Parts.{list_of}
 use Rattle.pol_cursor.specs.Contexts.{records_after}
 use Rattle.pol_cursor.specs.References.{Placed, placed}
 use Rattle.pol_cursor.proofs.Laws.{and_then_got}
-use Rattle.pol_symtab.specs.Claims.{Claims}
-use Rattle.pol_symtab.specs.Inner.Freshness.{Gives, IsFresh, claims_after}
+use Rattle.pol_symtab.specs.Claims.{Claims, claims_after}
+use Rattle.pol_symtab.specs.Inner.Freshness.{Gives, IsFresh}
 use Rattle.pol_symtab.specs.SymbolTables.{table_head_at, table_records_at, table_at}
 use Rattle.pol_symtab.proofs.FreshRecords.{Gives-part, Gives-any, Gives-done}
 use Rattle.pol_symtab.proofs.FreshTables.{AreFresh, records_fresh, distinct_names, distinct_values}

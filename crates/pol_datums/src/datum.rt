@@ -158,7 +158,7 @@ impl<'a, R: Datum> RecordView<'a> for DatumKind<R> {
 }
 
 impl<'a, R: Datum> ReadAfter<'a> for DatumKind<R> {
-    ghost use Rattle.pol_symtab.specs.Inner.Freshness.{claims_after};
+    ghost use Rattle.pol_symtab.specs.Claims.{claims_after};
 
     type Context = TableContext<'a>;
 

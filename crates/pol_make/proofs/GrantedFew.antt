@@ -8,8 +8,7 @@ use Rattle.pol_fields.specs.declared.fields.TheConstants.{PERMISSION_LEN, PERMIS
 use Rattle.pol_cursor.specs.Outcome.{Reader}
 use Rattle.pol_bitmap.specs.Bitmap.{bitmap_at, spell_bitmap, BitmapFits}
 use Rattle.pol_symtab.specs.declared.TableContext.{TableContext}
-use Rattle.pol_symtab.specs.Claims.{Claims}
-use Rattle.pol_symtab.specs.Inner.Freshness.{claims_after}
+use Rattle.pol_symtab.specs.Claims.{Claims, claims_after}
 use Rattle.pol_symtab.specs.SymbolTables.{table_at, table_start, spell_table, TableFits}
 use Rattle.pol_commons.specs.declared.PermissionRec.{PermissionRec}
 use Rattle.pol_commons.specs.declared.CommonRec.{CommonRec}

@@ -6,7 +6,7 @@ use Rattle.std.proofs.lemmas.Bool.{ne_eqb}
 use Rattle.std.proofs.lemmas.List.{length-append, length-map}
 use Rattle.std.proofs.lemmas.List.FromFn.{length-range_with_len}
 use Rattle.pol_symtab.specs.declared.TableContext.{TableContext}
-use Rattle.pol_symtab.specs.Inner.Freshness.{claims_after}
+use Rattle.pol_symtab.specs.Claims.{claims_after}
 use Rattle.pol_symtab.specs.SymbolTables.{table_at, table_start, spell_table, TableFits}
 use Rattle.pol_datums.specs.declared.TypeRec.{TypeRec}
 use Rattle.pol_datums.specs.declared.CategoryRec.{CategoryRec}

@@ -8,8 +8,7 @@ use Rattle.pol_bitmap.specs.Bitmap.{bitmap_at, spell_bitmap}
 use Rattle.pol_mls.specs.LevelRecord.{level_at, spell_level, LevelFits}
 use Rattle.pol_mls.specs.RangeRecord.{range_at, spell_range, RangeFits}
 use Rattle.pol_symtab.specs.declared.TableContext.{TableContext}
-use Rattle.pol_symtab.specs.Claims.{Claims}
-use Rattle.pol_symtab.specs.Inner.Freshness.{claims_after}
+use Rattle.pol_symtab.specs.Claims.{Claims, claims_after}
 use Rattle.pol_symtab.specs.SymbolTables.{table_at, table_start, spell_table, TableFits}
 use Rattle.pol_symbols.specs.declared.UserRec.{UserRec}
 use Rattle.pol_symbols.specs.UserRecord.{user_at, spell_user, UserFits}

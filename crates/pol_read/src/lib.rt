@@ -7,6 +7,8 @@ mod rules_from;
 mod sorting;
 
 pub use pol_file::{TypeMap, TypeMapRow};
-pub use pol_rules::{Condition, Rule, RuleEnds, RuleKey, RuleKind, RulePart, RuleRecord};
+pub use pol_rules::{
+    Condition, Rule, RuleEnds, RuleKey, RuleKind, RulePart, RuleRecord, rule_kind,
+};
 pub use policy::{Policy, read};
 pub use rules_from::Rules;

@@ -167,9 +167,10 @@ pub fn vector_ends(key: AvKey) -> RuleEnds
     }
 }
 
-// The kind of rule that it specifies, without the mark.
+/// The kind of rule that an access vector is which specifies this, without the mark of one that is off. What is specified by no other
+/// kind is that of dontaudit rules with ioctl numbers.
 #[inline(always)]
-fn rule_kind(kind: u16) -> RuleKind
+pub fn rule_kind(kind: u16) -> RuleKind
     ensures { result ≡ rule_kind kind }
 {
     match kind {

@@ -1,11 +1,11 @@
 -- The eight symbol tables of a policy in the order of the file (libsepol's policydb_read), and searches through their records.
-use Rattle.std.specs.Prelude.{ℕ, Bool, true, Option, Some, None, List, [], ◌++◌, length, option_map, if◌then◌else◌}
+use Rattle.std.specs.Prelude.{ℕ, Bool, true, Option, Some, None, List, [], ◌++◌, length, option_map}
 use Rattle.std.specs.List.{find}
 use Rattle.pol_fields.specs.declared.TableKind.{TableKind}
 use Rattle.pol_fields.specs.declared.TableKind.TheVariants.{Commons, Classes, Roles, Types, Users, Booleans, Levels, Categories}
 use Rattle.pol_cursor.specs.Outcome.{Reader, ◌>>=◌, done}
 use Rattle.pol_cursor.specs.References.{Placed}
-use Rattle.pol_symtab.specs.Claims.{Claims, with_claim}
+use Rattle.pol_symtab.specs.Claims.{Claims, claims_after}
 use Rattle.pol_symtab.specs.SymbolTables.{Table, table_at, table_start, declares, value_named, primary_index, primary_name, rank_of}
 use Rattle.pol_commons.specs.declared.PermissionRec.{PermissionRec}
 use Rattle.pol_commons.specs.CommonTable.{commons_at, inherited_from}
@@ -35,7 +35,7 @@ use Rattle.pol_symbols.specs.UserRecord.{user_at}
 -- a table whose records are read under nprim and what the ones before them have taken
 abbrev pub table_of : {A : Type 0} → (Claims → ℕ → Reader A) → (A → List ℕ) → (A → Bool) → (A → ℕ) → Reader (Table A)
 table_of record_at name_of is_primary value_of =
-    table_at (λ context. record_at context.taken context.nprim) (λ context x. record context { taken = with_claim context.taken (name_of x) (if is_primary x then Some (value_of x) else None) }) table_start
+    table_at (λ context. record_at context.taken context.nprim) (λ context x. record context { taken = claims_after context.taken (name_of x) (is_primary x) (value_of x) }) table_start
 
 unfoldable pub roles_at : Reader (Table RoleRec)
 roles_at = table_of role_at (λ role. role.name) (λ role. true) (λ role. role.value)

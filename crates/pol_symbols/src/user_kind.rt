@@ -29,7 +29,7 @@ impl<'a> RecordView<'a> for User {
 
 impl<'a> ReadAfter<'a> for User {
     ghost use Rattle.std.specs.Prelude.{true};
-    ghost use Rattle.pol_symtab.specs.Inner.Freshness.{claims_after};
+    ghost use Rattle.pol_symtab.specs.Claims.{claims_after};
     ghost use Rattle.pol_symbols.specs.UserRecord.{user_at};
 
     type Context = TableContext<'a>;

@@ -10,8 +10,8 @@ use Rattle.pol_cursor.specs.Parts.{list_of}
 use Rattle.pol_cursor.specs.References.{Placed, placed}
 use Rattle.pol_cursor.specs.Contexts.{records_after}
 use Rattle.pol_cursor.proofs.Laws.{and_then_got}
-use Rattle.pol_symtab.specs.Claims.{Claims, has_name, has_value, with_member}
-use Rattle.pol_symtab.specs.Inner.Freshness.{Gives, IsFresh, claims_after}
+use Rattle.pol_symtab.specs.Claims.{Claims, has_name, has_value, with_member, claims_after}
+use Rattle.pol_symtab.specs.Inner.Freshness.{Gives, IsFresh}
 use Rattle.pol_symtab.specs.Inner.TableIndex.{HaveDistinctNames, HaveDistinctValues}
 use Rattle.pol_symtab.proofs.ByteOrder.{same_name, name_itself}
 use Rattle.pol_symtab.proofs.Searches.{not_true}

@@ -26,3 +26,7 @@ with_member same members x = if list_any (same x) members then members else memb
 abbrev pub with_claim : Claims → List ℕ → Option ℕ → Claims
 with_claim claims name None = record { names = with_member bytes_eq claims.names name; values = claims.values }
 with_claim claims name (Some value) = record { names = with_member bytes_eq claims.names name; values = with_member nat_eq claims.values value }
+
+-- the claims after a record: its name, and its value where it is primary
+abbrev pub claims_after : Claims → List ℕ → Bool → ℕ → Claims
+claims_after claims name primary value = with_claim claims name (if primary then Some value else None)

@@ -1,6 +1,6 @@
 ghost use Rattle.std.specs.Prelude.{◌≡◌, ℕ, Bool, List};
-ghost use Rattle.pol_symtab.specs.Claims.{Claims};
-ghost use Rattle.pol_symtab.specs.Inner.Freshness.{Gives, IsFresh, claims_after};
+ghost use Rattle.pol_symtab.specs.Claims.{Claims, claims_after};
+ghost use Rattle.pol_symtab.specs.Inner.Freshness.{Gives, IsFresh};
 
 use pol_cursor::{ReadAfter, Record, RecordView};
 

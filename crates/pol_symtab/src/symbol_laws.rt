@@ -1,5 +1,6 @@
 ghost use Rattle.std.specs.Prelude.{◌≡◌};
-ghost use Rattle.pol_symtab.specs.Inner.Freshness.{Gives, IsFresh, claims_after};
+ghost use Rattle.pol_symtab.specs.Claims.{claims_after};
+ghost use Rattle.pol_symtab.specs.Inner.Freshness.{Gives, IsFresh};
 
 use crate::symbol::Symbol;
 

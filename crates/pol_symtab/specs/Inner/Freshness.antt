@@ -1,7 +1,7 @@
 -- What reading a symbol record says of it, and what the next record of its table is read under.
-use Rattle.std.specs.Prelude.{◌≡◌, ℕ, ◌≤◌, Bool, true, false, Some, None, List, if◌then◌else◌}
+use Rattle.std.specs.Prelude.{◌≡◌, ℕ, ◌≤◌, Bool, true, false, List}
 use Rattle.pol_cursor.specs.Outcome.{Reader, Got}
-use Rattle.pol_symtab.specs.Claims.{Claims, has_name, has_value, with_claim}
+use Rattle.pol_symtab.specs.Claims.{Claims, has_name, has_value}
 
 -- the fact holds of each value that is read
 pub record Gives {A : Type 0} (r : Reader A) (P : A → Type 0) : Type 0 where
@@ -12,7 +12,3 @@ pub record Gives {A : Type 0} (r : Reader A) (P : A → Type 0) : Type 0 where
 pub record IsFresh (nprim : ℕ) (claims : Claims) (name : List ℕ) (primary : Bool) (value : ℕ) : Type 0 where
   pub name_is_new : has_name claims name ≡ false
   pub value_is_new : primary ≡ true → (1 ≤ value) × (value ≤ nprim) × (has_value claims value ≡ false)
-
--- the claims after a record: its name, and its value where it is primary
-abbrev pub claims_after : Claims → List ℕ → Bool → ℕ → Claims
-claims_after claims name primary value = with_claim claims name (if primary then Some value else None)
