@@ -1,13 +1,14 @@
--- What specifies a kind is marked by its seven lowest bits.
+-- What specifies a kind that is asked is marked by its seven lowest bits.
 use Rattle.std.proofs.Common.{◌≡◌, ⊎_elim, ℕ, ◌%◌, ◌<◌, ◌≤◌, Bool, true, false, List, get_or, refl, sym, ap, ◌∙◌, arith}
-use Rattle.std.specs.Prelude.{◌==◌, if◌then◌else◌}
+use Rattle.std.specs.Prelude.{◌==◌, if◌then◌else◌, slice_index_or}
 use Rattle.std.proofs.lemmas.Bool.{cases_lt, ne_eqb, or_right, or_left}
 use Rattle.std.proofs.lemmas.Grind.{and_numeral}
+use Rattle.std.proofs.lemmas.List.FromFn.{get_or-map-range_with_len}
 use Rattle.pol_avtab.specs.AvKeys.{kind_of}
 use Rattle.pol_rules.specs.declared.RuleKind.TheVariants.{AllowXperm, AuditallowXperm, DontauditXperm}
 use Rattle.pol_rules.specs.StoredRules.{rule_kind}
 use Rattle.rule_tests.specs.AskedKinds.{is_any_asked, is_kind_asked}
-use Rattle.rule_tests.specs.Inner.AskedVectors.{AreMarked, extended_kinds, is_low_asked}
+use Rattle.rule_tests.specs.Inner.AskedVectors.{extended_kinds, is_low_asked, low_marks}
 
 -- a number that is none of those of the other kinds is that of a kind with ioctl numbers
 extended_asked : (kinds : List Bool) (a b : Bool) → is_kind_asked kinds (if a then AllowXperm else if b then AuditallowXperm else DontauditXperm) ≡ true → is_any_asked kinds extended_kinds ≡ true
@@ -32,6 +33,5 @@ kind_low kinds specified asked =
     or_left _ _ (extended_asked kinds (kind == 0x100) (kind == 0x200) (sym (ap (is_kind_asked kinds) (large_kind kind large)) ∙ asked)))
     (cases_lt kind 128)
 
--- all numbers of seven bits are marked
-pub all_marked : (kinds marks : List Bool) → ((low : ℕ) → low < 128 → get_or marks low false ≡ is_low_asked kinds low) → AreMarked kinds marks
-all_marked kinds marks each = record { at = λ specified asked. each (specified % 128) (omega arith) ∙ kind_low kinds specified asked }
+pub kind_marked : (kinds : List Bool) (specified : ℕ) → is_kind_asked kinds (rule_kind (kind_of specified)) ≡ true → slice_index_or (low_marks kinds) (specified % 128) false ≡ true
+kind_marked kinds specified asked = get_or-map-range_with_len (is_low_asked kinds) 0 128 (specified % 128) (specified % 128) false (omega arith) (omega arith) ∙ kind_low kinds specified asked

@@ -1,11 +1,12 @@
 // Which access vectors may be asked, told without a branch.
-ghost use Rattle.std.specs.Prelude.{◌≡◌, ◌+◌, ◌<◌, ◌≤◌, ◌%◌, Some, None, false, length, option_map, slice_index_or, take};
-ghost use Rattle.pol_rules.specs.StoredRules.{rule_kind};
-ghost use Rattle.rule_tests.specs.Inner.AskedVectors.{AreMarked, Gathers, is_asked_at, is_low_asked, is_value_asked, may_be_asked, of_any_ends};
+ghost use Rattle.std.specs.Prelude.{◌≡◌, ◌+◌, ◌-◌, ◌<◌, ◌≤◌, Bool, length, option_map, take};
+ghost use Rattle.std.specs.List.{filter, range_with_len};
+ghost use Rattle.pol_avtab.specs.declared.AvRec.{AvRec};
+ghost use Rattle.rule_tests.specs.Inner.AskedVectors.{VectorMarks, is_asked_at, is_kind_marked, is_low_asked, is_value_asked, low_marks, may_be_asked, standing_at};
 
 use crate::kinds::{is_any_asked, is_kind_asked};
 use pol_avtab::{AvTable, AvView};
-use pol_read::RuleKind;
+use pol_read::{RuleKind, rule_kind};
 use std::marker::Model;
 use value_groups::DenseSet;
 
@@ -14,50 +15,32 @@ use value_groups::DenseSet;
 /// see the marks.
 #[derive(Drop)]
 pub struct AskedVectors<'s> {
-    kinds: [bool; 128],
+    kinds: KindMarks,
     sources: Option<&'s DenseSet>,
     targets: Option<&'s DenseSet>,
 }
 
 impl<'s> Model for AskedVectors<'s> {
-    ghost use Rattle.std.specs.Prelude.{option_map};
-    ghost use Rattle.rule_tests.specs.Inner.AskedVectors.{VectorMarks};
-
     ghost Value = { VectorMarks };
 
-    ghost view = { λ asked. record { kinds = asked.kinds; sources = option_map (λ set. set.now) asked.sources; targets = option_map (λ set. set.now) asked.targets } };
+    ghost view = { λ asked. record { kinds = asked.kinds.marks; sources = option_map (λ set. set.now) asked.sources; targets = option_map (λ set. set.now) asked.targets } };
 }
 
 impl<'s> AskedVectors<'s> {
-    /// Those of some kinds, whatever their ends.
-    #[tactic(auto, using(crate::proofs::KindMarks::all_marked))]
-    pub fn of(kinds: &[bool; 12]) -> AskedVectors<'s>
-        ensures kinds { AreMarked kinds.now result.kinds }
-        ensures ends { result ≡ of_any_ends result.kinds }
+    /// Those of some kinds, from some sources and to some targets.
+    pub fn new(
+        kinds: &[bool; 12],
+        sources: Option<&'s DenseSet>,
+        targets: Option<&'s DenseSet>,
+    ) -> AskedVectors<'s>
+        ensures { result ≡ record { kinds = low_marks kinds.now; sources = option_map (λ set. set.now) sources.entry; targets = option_map (λ set. set.now) targets.entry } }
     {
-        let mut marks = [false; 128];
-        for low in 0..128 {
-            marks[low as usize] = is_low_asked(kinds, low);
-        }
+        let kinds = KindMarks::of(kinds);
         AskedVectors {
-            kinds: marks,
-            sources: None,
-            targets: None,
+            kinds,
+            sources,
+            targets,
         }
-    }
-
-    /// Asks for sources.
-    pub fn ask_sources(&mut self, sources: Option<&'s DenseSet>)
-        ensures { self.new ≡ record { kinds = self.old.kinds; sources = option_map (λ set. set.now) sources.entry; targets = self.old.targets } }
-    {
-        self.sources = sources;
-    }
-
-    /// Asks for targets.
-    pub fn ask_targets(&mut self, targets: Option<&'s DenseSet>)
-        ensures { self.new ≡ record { kinds = self.old.kinds; sources = self.old.sources; targets = option_map (λ set. set.now) targets.entry } }
-    {
-        self.targets = targets;
     }
 
     /// Puts the numbers of the rules of a table that may be asked, from one number up to another, at the front of other numbers, and
@@ -68,24 +51,62 @@ impl<'s> AskedVectors<'s> {
         requires within { to ≤ length table.now }
         requires few { to ≤ from + 128 }
         ensures few { result ≤ 128 }
-        ensures all { Gathers (is_asked_at self.now table.now) from (take result numbers.new) to }
+        ensures all { take result numbers.new ≡ filter (is_asked_at self.now table.now) (range_with_len from (to - from)) }
     {
-        let mut count = 0;
-        for number in from..to {
-            numbers[count] = number;
-            count += usize::from(self.may_be_asked(&table.view(number)));
+        match (self.sources, self.targets) {
+            (None, None) => gather(&self.kinds, table, from, to, numbers),
+            _ => gather(self, table, from, to, numbers),
         }
-        count
     }
+}
 
-    // Whether an access vector may be asked.
-    #[inline(always)]
-    fn may_be_asked(&self, view: &AvView<'_>) -> bool
-        ensures { result ≡ may_be_asked self.now view.now.value }
+// ---- marks
+
+// What tells which access vectors may be asked.
+trait Marks {
+    ghost is_marked: { Self → AvRec → Bool };
+
+    // Whether an access vector may be.
+    fn has(&self, view: &AvView<'_>) -> bool
+        ensures { result ≡ is_marked self.now view.now.value };
+}
+
+// The kinds that may be asked, by the seven lowest bits of what is specified.
+#[derive(Drop)]
+struct KindMarks {
+    marks: [bool; 128],
+}
+
+impl KindMarks {
+    // Those of some kinds.
+    fn of(kinds: &[bool; 12]) -> KindMarks
+        ensures { result.marks ≡ low_marks kinds.now }
     {
-        self.kinds[(view.specified() % 128) as usize]
-            & is_value_asked(self.sources, view.source())
+        let mut marks = [false; 128];
+        for low in 0..128 {
+            marks[low as usize] = is_low_asked(kinds, low);
+        }
+        KindMarks { marks }
+    }
+}
+
+impl Marks for KindMarks {
+    ghost is_marked = { λ kinds av. is_kind_marked kinds.marks av };
+
+    #[inline(always)]
+    fn has(&self, view: &AvView<'_>) -> bool {
+        self.marks[(view.specified() % 128) as usize]
+    }
+}
+
+impl<'s> Marks for AskedVectors<'s> {
+    ghost is_marked = { λ asked av. may_be_asked asked av };
+
+    #[inline(always)]
+    fn has(&self, view: &AvView<'_>) -> bool {
+        is_value_asked(self.sources, view.source())
             & is_value_asked(self.targets, view.target())
+            & self.kinds.has(view)
     }
 }
 
@@ -102,7 +123,6 @@ fn is_value_asked(asked: Option<&DenseSet>, value: u16) -> bool
 
 // Whether access vectors whose seven lowest bits are these may be of a kind that is asked.
 fn is_low_asked(kinds: &[bool; 12], low: u16) -> bool
-    requires { low < 128 }
     ensures { result ≡ is_low_asked kinds.now low }
 {
     let extended = [
@@ -110,21 +130,29 @@ fn is_low_asked(kinds: &[bool; 12], low: u16) -> bool
         RuleKind::AuditallowXperm,
         RuleKind::DontauditXperm,
     ];
-    is_any_asked(kinds, &extended) || is_kind_asked(kinds, kind_of(low))
+    is_any_asked(kinds, &extended) || is_kind_asked(kinds, rule_kind(low))
 }
 
-// The kind of rule that a number of seven bits specifies.
-fn kind_of(low: u16) -> RuleKind
-    requires { low < 128 }
-    ensures { result ≡ rule_kind low }
+// Puts the numbers of the rules of a table that have marks, from one number up to another, at the front of other numbers, and tells how
+// many they are.
+#[inline(always)]
+fn gather<M: Marks>(
+    marks: &M,
+    table: &AvTable<'_>,
+    from: u32,
+    to: u32,
+    numbers: &mut [u32; 128],
+) -> usize
+    requires rising { from ≤ to }
+    requires within { to ≤ length table.now }
+    requires few { to ≤ from + 128 }
+    ensures few { result ≤ 128 }
+    ensures all { take result numbers.new ≡ filter (standing_at (M.is_marked marks.now) table.now) (range_with_len from (to - from)) }
 {
-    match low {
-        0x1 => RuleKind::Allow,
-        0x2 => RuleKind::Auditallow,
-        0x4 => RuleKind::Dontaudit,
-        0x10 => RuleKind::TypeTransition,
-        0x20 => RuleKind::TypeMember,
-        0x40 => RuleKind::TypeChange,
-        _ => RuleKind::DontauditXperm,
+    let mut count = 0;
+    for number in from..to {
+        numbers[count] = number;
+        count += usize::from(marks.has(&table.view(number)));
     }
+    count
 }
