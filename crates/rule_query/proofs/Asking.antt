@@ -10,7 +10,8 @@ use Rattle.rule_query.specs.declared.resolving.QueryError.{QueryError}
 use Rattle.rule_query.specs.declared.resolving.QueryError.TheVariants.{UnknownName, BadNumber, BadPattern, Memory}
 use Rattle.rule_query.specs.Given.{Given}
 use Rattle.rule_query.specs.Refusals.{is_pattern_word, refusal_of, pattern_texts}
-use Rattle.rule_query.specs.Resolving.{AskedFor, Asks, AskEnds, BuildsWord, BuildEnds}
+use Rattle.rule_query.specs.AskedPatterns.{AskedFor}
+use Rattle.rule_query.specs.Inner.Resolving.{Asks, AskEnds, BuildsWord, BuildEnds}
 use Rattle.rule_query.proofs.Resolvings.{asked_none}
 
 noted : (old new : Option (List (List ℕ))) (text : List ℕ) → Notes old new text → AskedFor old new (text ∷ [])

@@ -19,7 +19,7 @@ use Rattle.rule_query.specs.Given.{Given}
 use Rattle.rule_query.specs.Ends.{is_meant}
 use Rattle.rule_query.specs.Listed.{is_listed}
 use Rattle.rule_query.specs.Refusals.{may_be_pattern}
-use Rattle.rule_query.specs.Tests.{HasPattern, HasPatternWord, is_asked_name, is_asked_type}
+use Rattle.rule_query.specs.Inner.Tests.{HasPattern, HasPatternWord, is_asked_name, is_asked_type}
 
 -- ---- a set of values where the criterion is a pattern, and where it is none
 

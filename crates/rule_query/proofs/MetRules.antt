@@ -17,7 +17,7 @@ use Rattle.rule_query.specs.declared.query.Query.{Query}
 use Rattle.rule_query.specs.Inner.Gathering.{HasMet, StandFrom}
 use Rattle.rule_query.specs.Meeting.{meets}
 use Rattle.rule_tests.specs.AskedKinds.{is_kind_asked}
-use Rattle.rule_query.specs.Tests.{passes, rule_test}
+use Rattle.rule_query.specs.Inner.Tests.{passes, rule_test}
 use Rattle.rule_query.proofs.Passing.{kept_next, meets_at}
 
 -- ---- one rule more

@@ -1,8 +1,8 @@
 -- Rules of the table that are passed over, since their marks tell that they do not pass.
-use Rattle.std.proofs.Common.{◌≡◌, ⊎_elim, ℕ, zero, suc, ◌+◌, ◌-◌, ◌<◌, ◌≤◌, Bool, true, false, Ok, Option, Some, None, List, [], ◌∷◌, length, get_or, drop, refl, sym, ap, subst, ◌∙◌, arith}
-use Rattle.std.specs.Prelude.{◌%◌, ◌&&◌, slice_index_or}
-use Rattle.std.specs.List.{list_all}
-use Rattle.std.proofs.lemmas.Bool.{false≢true}
+use Rattle.std.proofs.Common.{◌≡◌, ⊎_elim, ℕ, zero, suc, ◌+◌, ◌-◌, ◌<◌, ◌≤◌, Bool, true, false, Ok, Option, Some, None, List, [], ◌∷◌, length, get_or, drop, cond, refl, sym, ap, subst, ◌∙◌, arith}
+use Rattle.std.specs.Prelude.{◌&&◌}
+use Rattle.std.specs.List.{filter, list_all, range_with_len}
+use Rattle.std.proofs.lemmas.Bool.{cases_lt, false≢true}
 use Rattle.std.proofs.lemmas.List.Folds.{list_all_at}
 use Rattle.std.proofs.lemmas.Option.{slice_get_cases}
 use Rattle.std.proofs.Math.Seq.{drop-cons}
@@ -20,74 +20,92 @@ use Rattle.pol_rules.proofs.RulesDeclared.{rule_is_declared, source_of, target_o
 use Rattle.pol_symbols.specs.declared.Symbols.{Symbols}
 use Rattle.rule_order.specs.ListedOrder.{GatheredRules}
 use Rattle.rule_tests.specs.AskedKinds.{is_kind_asked}
-use Rattle.rule_tests.specs.Inner.AskedVectors.{AreMarked, Gathers, VectorMarks, is_asked_at, is_asked_if, is_value_asked, of_any_ends}
-use Rattle.rule_tests.proofs.GatheredNumbers.{fewer_wanted, gathers_up}
+use Rattle.rule_tests.specs.Inner.AskedVectors.{VectorMarks, is_asked_at, is_kind_marked, is_standing, is_value_asked, low_marks, may_be_asked, standing_at}
+use Rattle.rule_tests.proofs.KindMarks.{kind_marked}
 use Rattle.rule_query.specs.declared.query.Query.{Query}
 use Rattle.rule_query.specs.declared.ends.Ends.{Ends}
 use Rattle.rule_query.specs.declared.tests.Test.{Test}
 use Rattle.rule_query.specs.declared.tests.Test.TheVariants as tests
-use Rattle.rule_query.specs.Inner.Gathering.{HasMet, PassesOver, is_passing, passes_at}
+use Rattle.rule_query.specs.Inner.Gathering.{Gathers, HasMet, PassesOver, is_passing, passes_at}
 use Rattle.rule_query.specs.Inner.MarkedSets.{AreMarksOf}
-use Rattle.rule_query.specs.Tests.{has_end, passes, rule_test}
+use Rattle.rule_query.specs.Inner.Tests.{has_end, passes, rule_test}
 use Rattle.rule_query.proofs.MetRules.{met_failing}
 use Rattle.value_groups.specs.Marking.{MarkedValues}
 
 -- ---- ends
 
 -- no rule between types passes some tests whose source, or whose target, is not among the marks
-pub record AreEndMarks (tests : List Test) (marks : VectorMarks) : Type 0 where
-  pub sources : (symbols : Symbols) (rule : StoredRule) → source_table rule.kind ≡ Types → is_value_asked marks.sources rule.source ≡ false → list_all (rule_test symbols rule) tests ≡ false
-  pub targets : (symbols : Symbols) (rule : StoredRule) → target_table rule.kind ≡ Types → is_value_asked marks.targets rule.target ≡ false → list_all (rule_test symbols rule) tests ≡ false
+abbrev pub AreSources : List Test → Option MarkedValues → Type 0
+AreSources tests marks = (symbols : Symbols) (rule : StoredRule) → source_table rule.kind ≡ Types → is_value_asked marks rule.source ≡ false → list_all (rule_test symbols rule) tests ≡ false
+
+abbrev pub AreTargets : List Test → Option MarkedValues → Type 0
+AreTargets tests marks = (symbols : Symbols) (rule : StoredRule) → target_table rule.kind ≡ Types → is_value_asked marks rule.target ≡ false → list_all (rule_test symbols rule) tests ≡ false
 
 -- what the marks of a set pass over is not in the set
 pub unmarked_value : (set : List Node) (marks : Option MarkedValues) (value : ℕ) → AreMarksOf set marks → is_value_asked marks value ≡ false → has_bit set value ≡ false
 unmarked_value set None value are e = absurd (false≢true (sym e))
 unmarked_value set (Some marks) value are e = sym (are value) ∙ e
 
--- none of the ends is asked
-pub no_end_marks : (tests : List Test) (kinds : List Bool) → AreEndMarks tests (of_any_ends kinds)
-no_end_marks tests kinds = record { sources = λ symbols rule types e. absurd (false≢true (sym e)); targets = λ symbols rule types e. absurd (false≢true (sym e)) }
-
 -- those of a test that is there, and of the types that it asks for
-module _ (these : List Test) (i : ℕ) (d : Test) (ends : Ends) (marks : Option MarkedValues) (lt : i < length these) (are : AreMarksOf ends.types marks) (symbols : Symbols) (rule : StoredRule) where
-  source_marked : get_or these i d ≡ tests.Source ends → source_table rule.kind ≡ Types → is_value_asked marks rule.source ≡ false → list_all (rule_test symbols rule) these ≡ false
-  source_marked is types e =
+module _ (these : List Test) (i : ℕ) (d : Test) (ends : Ends) (marks : Option MarkedValues) (lt : i < length these) (are : AreMarksOf ends.types marks) where
+  pub source_marks : get_or these i d ≡ tests.Source ends → AreSources these marks
+  source_marks is symbols rule types e =
       list_all_at (rule_test symbols rule) these i d lt
       (ap (rule_test symbols rule) is ∙ ap (λ (table : TableKind). has_end ends table rule.source) types ∙ unmarked_value ends.types marks rule.source are e)
 
-  target_marked : get_or these i d ≡ tests.Target ends → target_table rule.kind ≡ Types → is_value_asked marks rule.target ≡ false → list_all (rule_test symbols rule) these ≡ false
-  target_marked is types e =
+  pub target_marks : get_or these i d ≡ tests.Target ends → AreTargets these marks
+  target_marks is symbols rule types e =
       list_all_at (rule_test symbols rule) these i d lt
       (ap (rule_test symbols rule) is ∙ ap (λ (table : TableKind). has_end ends table rule.target) types ∙ unmarked_value ends.types marks rule.target are e)
-
--- what a test asks of its end is asked, and what was asked stays
-module _ (these : List Test) (i : ℕ) (d : Test) (ends : Ends) (marks : Option MarkedValues) (old new : VectorMarks) (lt : i < length these) (are : AreMarksOf ends.types marks) (asked : AreEndMarks these old) where
-  pub asked_sources : get_or these i d ≡ tests.Source ends → new ≡ record { kinds = old.kinds; sources = marks; targets = old.targets } → AreEndMarks these new
-  asked_sources is e = subst (AreEndMarks these) (sym e) (record { sources = λ symbols rule types none. source_marked these i d ends marks lt are symbols rule is types none; targets = asked.targets })
-
-  pub asked_targets : get_or these i d ≡ tests.Target ends → new ≡ record { kinds = old.kinds; sources = old.sources; targets = marks } → AreEndMarks these new
-  asked_targets is e = subst (AreEndMarks these) (sym e) (record { sources = asked.sources; targets = λ symbols rule types none. target_marked these i d ends marks lt are symbols rule is types none })
 
 -- ---- a rule of the table
 
 -- a mark is missing, and so the kind is not asked, or the tests are not passed
-one_missing : (kind source target asked passed : Bool) → (asked ≡ true → kind ≡ true) → (source ≡ false → passed ≡ false) → (target ≡ false → passed ≡ false) → ((kind && source) && target) ≡ false → (asked && passed) ≡ false
+one_missing : (kind source target asked passed : Bool) → (asked ≡ true → kind ≡ true) → (source ≡ false → passed ≡ false) → (target ≡ false → passed ≡ false) → ((source && target) && kind) ≡ false → (asked && passed) ≡ false
 one_missing kind source target false passed marked first second e = refl
 one_missing kind source target true false marked first second e = refl
-one_missing false source target true true marked first second e = sym (marked refl)
-one_missing true false target true true marked first second e = first refl
-one_missing true true false true true marked first second e = second refl
-one_missing true true true true true marked first second e = e
+one_missing kind false target true true marked first second e = first refl
+one_missing kind true false true true marked first second e = second refl
+one_missing kind true true true true marked first second e = sym (sym e ∙ marked refl)
 
-pub passes_over : (query : Query) (marks : VectorMarks) → AreMarked query.kinds marks.kinds → AreEndMarks query.tests.items marks → PassesOver query marks
-passes_over query marks kinds ends = record {
+pub passes_over : (query : Query) (sources targets : Option MarkedValues) → AreSources query.tests.items sources → AreTargets query.tests.items targets → PassesOver query (record { kinds = low_marks query.kinds; sources = sources; targets = targets })
+passes_over query sources targets are_sources are_targets = record {
   at = λ symbols av e.
       let rule : StoredRule = av_rule None av in
       let kind = kind_of av.value.specified in
-      one_missing (slice_index_or marks.kinds (av.value.specified % 128) false) (is_value_asked marks.sources rule.source) (is_value_asked marks.targets rule.target)
+      one_missing (is_kind_marked (low_marks query.kinds) av.value) (is_value_asked sources rule.source) (is_value_asked targets rule.target)
       (is_kind_asked query.kinds rule.kind) (list_all (rule_test symbols rule) query.tests.items)
-      (kinds.at av.value.specified) (ends.sources symbols rule (source_of kind)) (ends.targets symbols rule (target_of kind)) e;
+      (kind_marked query.kinds av.value.specified) (are_sources symbols rule (source_of kind)) (are_targets symbols rule (target_of kind)) e;
 }
+
+-- ---- numbers that are gathered
+
+-- none is behind the last
+gathers_up : (wanted : ℕ → Bool) (from : ℕ) (numbers : List ℕ) (to : ℕ) → Gathers wanted from numbers to → from ≤ to
+gathers_up wanted from [] to gathers = gathers.0
+gathers_up wanted from (number ∷ numbers) to gathers = omega (arith, gathers.0, gathers_up wanted (number + 1) numbers to gathers.2)
+
+module _ (wanted : ℕ → Bool) (from : ℕ) where
+  -- one more is not wanted, before those that are not
+  none_before : (to : ℕ) → wanted from ≡ false → ((n : ℕ) → from + 1 ≤ n → n < to → wanted n ≡ false) → (n : ℕ) → from ≤ n → n < to → wanted n ≡ false
+  none_before to first none n le lt = ⊎_elim (λ (behind : from < n). none n (omega (arith, behind)) lt) (λ (here : n ≤ from). let same : from ≡ n = omega (arith, le, here) in rw (← same) first) (cases_lt from n)
+
+  passed_over : (numbers : List ℕ) (to : ℕ) → wanted from ≡ false → Gathers wanted (from + 1) numbers to → Gathers wanted from numbers to
+  passed_over [] to first gathers = (omega (arith, gathers.0), none_before to first gathers.1)
+  passed_over (number ∷ numbers) to first gathers = (omega (arith, gathers.0), none_before number first gathers.1, gathers.2)
+
+  -- one that is put before the others if it is asked, as all are that are wanted
+  one_before : (numbers : List ℕ) (to : ℕ) (asked : Bool) → (asked ≡ false → wanted from ≡ false) → Gathers wanted (from + 1) numbers to → Gathers wanted from (cond asked (from ∷ numbers) numbers) to
+  one_before numbers to true first gathers = (omega arith, λ n le lt. absurd (omega (arith, le, lt)), gathers)
+  one_before numbers to false first gathers = passed_over numbers to (first refl) gathers
+
+-- those that are asked, of so many numbers from one on, are gathered for what only they meet
+gathered : (asked wanted : ℕ → Bool) (count from : ℕ) → ((n : ℕ) → n < from + count → asked n ≡ false → wanted n ≡ false) → Gathers wanted from (filter asked (range_with_len from count)) (from + count)
+gathered asked wanted zero from only = (omega arith, λ n le lt. absurd (omega (arith, le, lt)))
+gathered asked wanted (suc count) from only =
+    let same : from + 1 + count ≡ from + suc count = omega arith in
+    one_before wanted from (filter asked (range_with_len (from + 1) count)) (from + suc count) (asked from) (only from (omega arith))
+    (rw same at (gathered asked wanted count (from + 1) (λ n lt. only n (omega (arith, lt)))))
 
 -- ---- rules that are passed over
 
@@ -106,17 +124,18 @@ module _ (policy : Parts) (query : Query) (bytes : List ℕ) (found : GatheredRu
   passed from to le within none met = some_passed (to - from) from to (omega (arith, le)) (omega (arith, within, section_sizes policy)) none met
 
 -- what the marks pass over does not pass
-pub passed_at : (policy : Parts) (query : Query) (marks : VectorMarks) (n : ℕ) → PassesOver query marks → n < length policy.rules.table → is_asked_at marks policy.rules.table n ≡ false → passes_at policy query n ≡ false
-unfolding is_asked_at passes_at
+passed_at : (policy : Parts) (query : Query) (marks : VectorMarks) (n : ℕ) → PassesOver query marks → n < length policy.rules.table → is_asked_at marks policy.rules.table n ≡ false → passes_at policy query n ≡ false
+unfolding standing_at passes_at
 passed_at policy query marks n over lt e =
     ⊎_elim
-    (λ some. ap (is_passing policy query) (table_first policy n some.0 some.2) ∙ over.at policy.symbols some.0 (sym (ap (is_asked_if marks) some.2) ∙ e))
+    (λ some. ap (is_passing policy query) (table_first policy n some.0 some.2) ∙ over.at policy.symbols some.0 (sym (ap (is_standing (may_be_asked marks)) some.2) ∙ e))
     (λ past. absurd (omega (arith, past.0, lt)))
     (slice_get_cases policy.rules.table n).1
 
-pub gathered_passing : (policy : Parts) (query : Query) (marks : VectorMarks) (from : ℕ) (numbers : List ℕ) (to : ℕ) → PassesOver query marks → to ≤ length policy.rules.table → Gathers (is_asked_at marks policy.rules.table) from numbers to → Gathers (passes_at policy query) from numbers to
-gathered_passing policy query marks from numbers to over within gathers =
-    fewer_wanted (is_asked_at marks policy.rules.table) (passes_at policy query) from numbers to (λ n lt e. passed_at policy query marks n over (omega (arith, lt, within)) e) gathers
+pub gathered_passing : (policy : Parts) (query : Query) (marks : VectorMarks) (from to : ℕ) → PassesOver query marks → from ≤ to → to ≤ length policy.rules.table → Gathers (passes_at policy query) from (filter (is_asked_at marks policy.rules.table) (range_with_len from (to - from))) to
+gathered_passing policy query marks from to over rises within =
+    let behind : from + (to - from) ≡ to = omega (arith, rises) in
+    rw behind at (gathered (is_asked_at marks policy.rules.table) (passes_at policy query) (to - from) from (λ n lt e. passed_at policy query marks n over (omega (arith, lt, behind, within)) e))
 
 -- numbers that are left, behind the rules that were gone through
 pub record AreLeft (policy : Parts) (query : Query) (found : GatheredRules) (numbers : List ℕ) (to : ℕ) : Type 0 where

@@ -16,8 +16,9 @@ use Rattle.rule_query.specs.declared.given.GivenCriterion.{GivenCriterion}
 use Rattle.rule_query.specs.Given.{Given, in_word_order, shown}
 use Rattle.rule_tests.proofs.ClassPermissions.{take_get}
 use Rattle.rule_query.specs.Refusals.{is_pattern_word, pattern_texts}
-use Rattle.rule_query.specs.Resolved.{AreSameTests, Gains}
-use Rattle.rule_query.specs.Resolving.{Passes, Stops, AskedFor, IsFaulty, Ends, Resolves, AskEnds, Asks}
+use Rattle.rule_query.specs.Inner.Resolved.{AreSameTests, Gains}
+use Rattle.rule_query.specs.AskedPatterns.{AskedFor, IsFaulty}
+use Rattle.rule_query.specs.Inner.Resolving.{Passes, Stops, Ends, Resolves, AskEnds, Asks}
 use Rattle.rule_query.proofs.Passing.{PassAlike, no_tests, one_test, put_alike, query_is}
 
 -- ---- texts that are asked for

@@ -15,7 +15,7 @@ use Rattle.pol_rules.specs.RuleOrder.{source_table, target_table}
 use Rattle.rule_criteria.specs.declared.Criterion.{Criterion}
 use Rattle.rule_tests.specs.declared.NumberTest.{NumberTest}
 use Rattle.rule_tests.specs.declared.PermissionTest.{PermissionTest}
-use Rattle.rule_tests.specs.Tests.{IsNumberTest, IsPermissionTest}
+use Rattle.rule_tests.specs.Inner.Tests.{IsNumberTest, IsPermissionTest}
 use Rattle.rule_tests.proofs.NumberTests.{numbers_are}
 use Rattle.rule_tests.proofs.PermissionTests.{permissions_are}
 use Rattle.rule_query.specs.declared.given.Aspect.TheVariants as aspects
@@ -23,8 +23,8 @@ use Rattle.rule_query.specs.declared.ends.Ends.{Ends}
 use Rattle.rule_query.specs.declared.tests.Test.TheVariants as tests
 use Rattle.rule_query.specs.Ends.{is_meant, meets_end}
 use Rattle.rule_query.specs.Listed.{is_listed, meets_class, meets_default, meets_node, meets_condition}
-use Rattle.rule_query.specs.Tests.{has_end, AreEnds, AreMeant, class_test, default_test, condition_test}
-use Rattle.rule_query.specs.Resolved.{IsTestOf}
+use Rattle.rule_query.specs.Inner.Tests.{has_end, AreEnds, AreMeant, class_test, default_test, condition_test}
+use Rattle.rule_query.specs.Inner.Resolved.{IsTestOf}
 
 -- ---- ends
 

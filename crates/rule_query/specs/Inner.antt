@@ -1,3 +1,6 @@
 pub mod Gathering
 pub mod MarkedSets
 pub mod NumberedRules
+pub mod Tests
+pub mod Resolved
+pub mod Resolving

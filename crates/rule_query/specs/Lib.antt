@@ -3,7 +3,5 @@ pub mod Ends
 pub mod Listed
 pub mod Meeting
 pub mod Refusals
-pub mod Tests
-pub mod Resolved
-pub mod Resolving
+pub mod AskedPatterns
 pub mod Inner

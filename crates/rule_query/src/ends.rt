@@ -6,7 +6,7 @@ ghost use Rattle.pol_file.specs.Inner.TypeValues.{IsTypeValue};
 ghost use Rattle.pol_expand.specs.PolicyMap.{IsPolicyMap, expand};
 ghost use Rattle.pol_rules.specs.DeclaredRules.{IsDeclaredIn};
 ghost use Rattle.rule_query.specs.Ends.{is_meant, meets_type, expands_to};
-ghost use Rattle.rule_query.specs.Tests.{AreEnds, AreMeant, HasPattern, IsMapIfMade, is_asked_name, is_asked_type};
+ghost use Rattle.rule_query.specs.Inner.Tests.{AreEnds, AreMeant, HasPattern, IsMapIfMade, is_asked_name, is_asked_type};
 
 use crate::marked_set::MarkedSet;
 use named_values::{values_found, values_named};
@@ -27,7 +27,7 @@ pub struct Ends {
 }
 
 impl Ends {
-    ghost use Rattle.rule_query.specs.Tests.{has_end};
+    ghost use Rattle.rule_query.specs.Inner.Tests.{has_end};
 
     /// Whether a value of a table is one of them.
     pub fn has(&self, table: TableKind, value: u32) -> bool

@@ -53,15 +53,16 @@ impl Query {
     fn asked_vectors(&self) -> AskedVectors<'_>
         ensures { PassesOver self.now result }
     {
-        let mut asked = AskedVectors::of(&self.kinds);
+        let mut sources = None;
+        let mut targets = None;
         for test in &self.tests {
             match test {
-                Test::Source(ends) => asked.ask_sources(ends.types.marks()),
-                Test::Target(ends) => asked.ask_targets(ends.types.marks()),
+                Test::Source(ends) => sources = ends.types.marks(),
+                Test::Target(ends) => targets = ends.types.marks(),
                 _ => (),
             }
         }
-        asked
+        AskedVectors::new(&self.kinds, sources, targets)
     }
 
     // Adds those from one number up to another. The numbers of those that may be asked are put together first, and only these rules are

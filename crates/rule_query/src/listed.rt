@@ -5,7 +5,7 @@ ghost use Rattle.pol_fields.specs.declared.TableKind.TheVariants.{Booleans};
 ghost use Rattle.pol_bitmap.specs.Nodes.{bits_of, has_bit};
 ghost use Rattle.pol_bitmap.specs.Sets.{ContainsEach};
 ghost use Rattle.rule_query.specs.Listed.{is_listed, meets_node};
-ghost use Rattle.rule_query.specs.Tests.{HasPattern};
+ghost use Rattle.rule_query.specs.Inner.Tests.{HasPattern};
 
 use named_values::{values_found, values_named};
 use pol_bitmap::Set;

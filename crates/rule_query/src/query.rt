@@ -4,8 +4,8 @@ ghost use Rattle.pol_rules.specs.StoredRules.{stored_rules};
 ghost use Rattle.rule_order.specs.ListedOrder.{in_rule_order};
 ghost use Rattle.rule_criteria.specs.declared.Criteria.{Criteria};
 ghost use Rattle.rule_query.specs.Meeting.{meets, meeting};
-ghost use Rattle.rule_query.specs.Resolved.{IsQueryOf};
-ghost use Rattle.rule_query.specs.Tests.{passes, rule_test, source_types, target_types};
+ghost use Rattle.rule_query.specs.Inner.Resolved.{IsQueryOf};
+ghost use Rattle.rule_query.specs.Inner.Tests.{passes, rule_test, source_types, target_types};
 
 use crate::numbered_rule::NumberedRule;
 use crate::tests::Test;

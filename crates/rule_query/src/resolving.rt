@@ -1,8 +1,8 @@
 ghost use Rattle.std.specs.Prelude.{◌≡◌, OnOk};
 ghost use Rattle.rule_query.specs.Given.{shown};
-ghost use Rattle.rule_query.specs.Resolved.{AreSameTests, Gains};
-ghost use Rattle.rule_query.specs.Resolving.{Asks, BuildsWord, Resolves};
-ghost use Rattle.rule_query.specs.Tests.{HasPatternWord, IsMapIfMade};
+ghost use Rattle.rule_query.specs.Inner.Resolved.{AreSameTests, Gains};
+ghost use Rattle.rule_query.specs.Inner.Resolving.{Asks, BuildsWord, Resolves};
+ghost use Rattle.rule_query.specs.Inner.Tests.{HasPatternWord, IsMapIfMade};
 
 use crate::given::{GivenCriterion, in_word_order};
 use crate::query::Query;

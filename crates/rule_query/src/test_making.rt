@@ -1,8 +1,8 @@
 // The test of a criterion.
 ghost use Rattle.std.specs.Prelude.{IfOk};
 ghost use Rattle.rule_query.specs.Given.{shown};
-ghost use Rattle.rule_query.specs.Tests.{HasPatternWord, IsMapIfMade};
-ghost use Rattle.rule_query.specs.Resolved.{IsTestOf};
+ghost use Rattle.rule_query.specs.Inner.Tests.{HasPatternWord, IsMapIfMade};
+ghost use Rattle.rule_query.specs.Inner.Resolved.{IsTestOf};
 
 use crate::ends::{defaults, ends_of};
 use crate::given::{Aspect, GivenCriterion};

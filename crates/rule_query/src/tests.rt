@@ -1,7 +1,7 @@
 // What a rule is compared with, criterion by criterion.
 ghost use Rattle.std.specs.Prelude.{◌≡◌};
 ghost use Rattle.pol_rules.specs.DeclaredRules.{default_table};
-ghost use Rattle.rule_query.specs.Tests.{class_test, condition_test, default_test, reads_rule, rule_test};
+ghost use Rattle.rule_query.specs.Inner.Tests.{class_test, condition_test, default_test, reads_rule, rule_test};
 
 use crate::ends::Ends;
 use crate::marked_set::has_value;

@@ -3,7 +3,7 @@ ghost use Rattle.pol_expand.specs.PolicyMap.{IsPolicyMap};
 ghost use Rattle.pol_rules.specs.StoredRules.{stored_rules};
 ghost use Rattle.rule_order.specs.ListedOrder.{AreRules};
 ghost use Rattle.rule_criteria.specs.declared.Criteria.{Criteria};
-ghost use Rattle.rule_query.specs.Resolved.{IsQueryOf};
+ghost use Rattle.rule_query.specs.Inner.Resolved.{IsQueryOf};
 ghost use Rattle.rule_singles.specs.Inner.EndSets.{AreAsked, AreSetsOf, Grows, IsEntryOf};
 ghost use Rattle.rule_singles.specs.Singles.{ends_of_rule};
 

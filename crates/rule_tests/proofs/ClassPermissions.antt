@@ -12,7 +12,7 @@ use Rattle.rule_tests.specs.declared.class_bits.ClassBits.{ClassBits}
 use Rattle.rule_criteria.specs.declared.Mode.{Mode}
 use Rattle.rule_criteria.specs.declared.Mode.TheVariants.{Plain, Direct, Pattern, PatternDirect, Equal, Subset}
 use Rattle.rule_tests.specs.Permissions.{is_among, compare_names}
-use Rattle.rule_tests.specs.Tests.{bits_behind, bits_named, IsClassBits}
+use Rattle.rule_tests.specs.Inner.Tests.{bits_behind, bits_named, IsClassBits}
 
 pub together : (test : PermissionRec → Bool) (own inherited : List PermissionRec) → bits_behind (bits_behind 0 (filter test own)) (filter test inherited) ≡ bits_behind 0 (filter test (own ++ inherited))
 together test own inherited =

@@ -14,7 +14,7 @@ use Rattle.rule_criteria.specs.declared.Mode.{Mode}
 use Rattle.rule_criteria.specs.declared.Mode.TheVariants.{Plain, Direct, Pattern, PatternDirect, Equal, Subset}
 use Rattle.rule_tests.specs.declared.class_bits.ClassBits.{ClassBits}
 use Rattle.rule_tests.specs.Permissions.{has_permission, compare_names, is_among}
-use Rattle.rule_tests.specs.Tests.{shares_bit, bits_behind, bits_named, bits_of_others, IsClassBits, meets_bits}
+use Rattle.rule_tests.specs.Inner.Tests.{shares_bit, bits_behind, bits_named, bits_of_others, IsClassBits, meets_bits}
 
 -- ---- one bit
 

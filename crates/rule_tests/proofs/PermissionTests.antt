@@ -19,7 +19,7 @@ use Rattle.rule_criteria.specs.declared.Mode.TheVariants.{Plain, Direct, Pattern
 use Rattle.rule_tests.specs.declared.class_bits.ClassBits.{ClassBits}
 use Rattle.rule_tests.specs.declared.permission_test.PermissionTest.{PermissionTest}
 use Rattle.rule_tests.specs.Permissions.{compare_names, is_among, meets_permissions, names_in_mask}
-use Rattle.rule_tests.specs.Tests.{bits_found, IsPermissionTest, meets_bits, meets_bits_found, meets_mask, permissions_test}
+use Rattle.rule_tests.specs.Inner.Tests.{bits_found, IsPermissionTest, meets_bits, meets_bits_found, meets_mask, permissions_test}
 use Rattle.rule_tests.proofs.PermissionBits.{compared, names_of}
 
 -- ---- no permissions

@@ -1,1 +1,2 @@
 pub mod AskedVectors
+pub mod Tests

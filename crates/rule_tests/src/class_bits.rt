@@ -3,7 +3,7 @@ ghost use Rattle.std.specs.Prelude.{◌≡◌, IfOk, map, not};
 ghost use Rattle.std.specs.Str.{bytes_eq};
 ghost use Rattle.std.specs.List.{filter, list_all, list_any};
 ghost use Rattle.pol_symbols.specs.PolicySymbols.{permissions_of};
-ghost use Rattle.rule_tests.specs.Tests.{IsClassBits, bits_named, bits_behind, shares_bit, meets_bits};
+ghost use Rattle.rule_tests.specs.Inner.Tests.{IsClassBits, bits_named, bits_behind, shares_bit, meets_bits};
 
 use pol_classes::ClassView;
 use pol_commons::{PermissionList, inherited_from};

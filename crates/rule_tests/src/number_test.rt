@@ -4,7 +4,7 @@ ghost use Rattle.std.specs.List.{filter_map, list_all, list_any};
 ghost use Rattle.pol_avtab.specs.XPerms.{numbers_of};
 ghost use Rattle.rule_criteria.specs.Elements.{elements_of};
 ghost use Rattle.rule_tests.specs.Numbers.{compare_numbers, holds_span, is_asked, is_within, span_of, spans_of};
-ghost use Rattle.rule_tests.specs.Tests.{numbers_test, IsNumberTest};
+ghost use Rattle.rule_tests.specs.Inner.Tests.{numbers_test, IsNumberTest};
 
 use crate::spans::Span;
 use crate::text_elements::elements;

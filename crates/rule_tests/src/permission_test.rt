@@ -2,7 +2,7 @@
 ghost use Rattle.std.specs.Prelude.{◌≡◌, ◌∷◌, [], IfOk, codes, map};
 ghost use Rattle.std.specs.List.{list_all, list_any};
 ghost use Rattle.rule_tests.specs.Permissions.{compare_names, is_among};
-ghost use Rattle.rule_tests.specs.Tests.{meets_mask, permissions_test, IsPermissionTest, AreClassBits};
+ghost use Rattle.rule_tests.specs.Inner.Tests.{meets_mask, permissions_test, IsPermissionTest, AreClassBits};
 
 use crate::class_bits::{ClassBits, is_among};
 use crate::text_elements::elements;

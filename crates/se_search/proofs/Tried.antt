@@ -12,7 +12,7 @@ use Rattle.rule_query.specs.declared.Refusal.{Refusal}
 use Rattle.rule_query.specs.declared.Refusal.TheVariants.{NotThere, NoNumber}
 use Rattle.rule_query.specs.Given.{Given, in_word_order}
 use Rattle.rule_query.specs.Refusals.{first_refused, is_pattern_word}
-use Rattle.rule_query.specs.Resolving.{AllPass, AsksSome, Ends, HasBadPattern, IsRefused}
+use Rattle.rule_query.specs.Inner.Resolving.{AllPass, AsksSome, Ends, HasBadPattern, IsRefused}
 use Rattle.se_items.proofs.Gains.{gains-none}
 use Rattle.se_status.specs.declared.Status.{Status}
 use Rattle.se_status.specs.declared.Status.TheVariants.{Done, Usage, ReadFault, TooLarge, BadPolicy, BadMap, UnknownName, BadNumber, BadPattern, WriteFault, Memory}

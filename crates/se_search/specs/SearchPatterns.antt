@@ -8,7 +8,7 @@ use Rattle.rule_query.specs.declared.QueryError.{QueryError}
 use Rattle.rule_query.specs.declared.QueryError.TheVariants as errors
 use Rattle.rule_query.specs.Given.{Given, in_word_order}
 use Rattle.rule_query.specs.Refusals.{is_pattern_word}
-use Rattle.rule_query.specs.Resolving.{AskedFor, IsFaulty}
+use Rattle.rule_query.specs.AskedPatterns.{AskedFor, IsFaulty}
 use Rattle.se_status.specs.declared.Status.{Status}
 use Rattle.se_status.specs.declared.Status.TheVariants.{Done, UnknownName, BadNumber, BadPattern, WriteFault, Memory}
 

@@ -1,7 +1,7 @@
 // The answer of sesearch about a policy.
 ghost use Rattle.std.specs.Prelude.{◌≡◌, IfOk, map};
 ghost use Rattle.rule_criteria.specs.declared.Criteria.{Criteria};
-ghost use Rattle.rule_query.specs.Resolved.{IsQueryOf};
+ghost use Rattle.rule_query.specs.Inner.Resolved.{IsQueryOf};
 ghost use Rattle.se_status.specs.Meeting.{Concludes, IsWritten, done};
 ghost use Rattle.se_words.specs.SearchRequest.{search_view};
 ghost use Rattle.se_items.specs.Writing.{Sends};

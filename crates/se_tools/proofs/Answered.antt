@@ -5,7 +5,7 @@ use Rattle.std.specs.Prelude.{IsOk, MatchOption}
 use Rattle.std.proofs.lemmas.Bool.{ltb-true}
 use Rattle.pol_file.specs.Acceptance.{accept}
 use Rattle.rule_query.specs.Given.{Given}
-use Rattle.rule_query.specs.Resolving.{AskedFor}
+use Rattle.rule_query.specs.AskedPatterns.{AskedFor}
 use Rattle.se_outside.specs.Outside.{IsAsked, NoneAsked, Rose, SlotState, World, told}
 use Rattle.se_outside.specs.declared.Slot.{Slot}
 use Rattle.se_outside.specs.declared.Slot.TheVariants.{Policy, Map}

@@ -1,5 +1,5 @@
 -- What was gathered on the way through the stored rules. It serves the code alone.
-use Rattle.std.specs.Prelude.{◌≡◌, ℕ, ◌+◌, ◌<◌, ◌≤◌, Bool, false, Option, Some, None, List, length, slice_get}
+use Rattle.std.specs.Prelude.{◌≡◌, ℕ, ◌+◌, ◌<◌, ◌≤◌, Bool, false, Option, Some, None, List, [], ◌∷◌, length, slice_get}
 use Rattle.std.specs.List.{filter, range_with_len}
 use Rattle.pol_cursor.specs.References.{Placed}
 use Rattle.pol_avtab.specs.declared.AvRec.{AvRec}
@@ -11,8 +11,8 @@ use Rattle.rule_order.specs.ListedOrder.{GatheredRules}
 use Rattle.rule_tests.specs.Inner.AskedVectors.{VectorMarks, may_be_asked}
 use Rattle.rule_query.specs.declared.query.Query.{Query}
 use Rattle.rule_query.specs.Meeting.{meets}
-use Rattle.rule_query.specs.Resolved.{IsQueryOf}
-use Rattle.rule_query.specs.Tests.{passes}
+use Rattle.rule_query.specs.Inner.Resolved.{IsQueryOf}
+use Rattle.rule_query.specs.Inner.Tests.{passes}
 
 -- those of the rules below a number that meet the criteria of a query, and no others
 pub record HasMet (policy : Parts) (query : Query) (below : ℕ) (found : GatheredRules) : Type 0 where
@@ -39,3 +39,8 @@ is_passing policy query (Some rule) = passes policy.symbols query rule
 -- the stored rule of a number does
 unfoldable pub passes_at : Parts → Query → ℕ → Bool
 passes_at policy query n = is_passing policy query (slice_get (stored_rules policy) n)
+
+-- numbers rise from one up to another, and no other number between these two is wanted
+abbrev pub Gathers : (ℕ → Bool) → ℕ → List ℕ → ℕ → Type 0
+Gathers wanted from [] to = (from ≤ to) × ((n : ℕ) → from ≤ n → n < to → wanted n ≡ false)
+Gathers wanted from (number ∷ numbers) to = (from ≤ number) × ((n : ℕ) → from ≤ n → n < number → wanted n ≡ false) × Gathers wanted (number + 1) numbers to

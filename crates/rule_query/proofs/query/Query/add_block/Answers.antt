@@ -4,7 +4,7 @@ use Rattle.rule_query.proofs.PassedRules.{gathered_passing, next_number, no_numb
 use Rattle.rule_query.proofs.query.Query.add_block.Goals as goal
 
 pub loop-number-init : goal.loop-number-init
-loop-number-init c = record { from = c.args.from; met = c.requires.found; gathered = gathered_passing c.args.policy.now c.args.self.now c.args.asked.now c.args.from (take c.gather-count.result c.gather-count.new.numbers) c.args.to c.requires.asked c.requires.within (rw c.table.ensures at c.gather-count.ensures.all) }
+loop-number-init c = record { from = c.args.from; met = c.requires.found; gathered = rw (rw c.table.ensures at c.gather-count.ensures.all) (gathered_passing c.args.policy.now c.args.self.now c.args.asked.now c.args.from c.args.to c.requires.asked c.requires.rising c.requires.within) }
 
 pub add_vector-requires : goal.add_vector-requires
 add_vector-requires c =

@@ -1,5 +1,5 @@
 use Rattle.std.proofs.Common.{◌≡◌, drop}
-use Rattle.rule_query.specs.Tests.{first_of, targets_of}
+use Rattle.rule_query.specs.Inner.Tests.{first_of, targets_of}
 use Rattle.rule_query.proofs.query.Query.targets.Given as goal
 
 abbrev pub invariant-loop-test : goal.invariant-loop-test

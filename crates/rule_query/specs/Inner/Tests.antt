@@ -31,7 +31,7 @@ use Rattle.rule_query.specs.declared.query.Query.{Query}
 use Rattle.rule_query.specs.Given.{Given}
 use Rattle.rule_query.specs.Ends.{is_meant, meets_type}
 use Rattle.rule_tests.specs.AskedKinds.{is_kind_asked}
-use Rattle.rule_tests.specs.Tests.{numbers_test, permissions_test}
+use Rattle.rule_tests.specs.Inner.Tests.{numbers_test, permissions_test}
 use Rattle.rule_query.specs.Refusals.{is_pattern_word}
 
 -- ---- patterns

@@ -1,23 +1,22 @@
--- What looking criteria up in a policy answers, and which patterns it asks for.
-use Rattle.std.specs.Prelude.{◌≡◌, ℕ, ◌≤◌, Bool, true, ⊤, Option, Some, None, List, [], ◌∷◌, ◌++◌, IfOk, IfErr, MatchResult}
+-- What looking criteria up in a policy answers. It serves the code alone.
+use Rattle.std.specs.Prelude.{◌≡◌, ℕ, ◌≤◌, Bool, true, Option, Some, None, List, [], ◌∷◌, ◌++◌, IfOk, IfErr, MatchResult}
 use Rattle.std.specs.List.{All}
 use Rattle.std.specs.declared.result.Result.{Result}
 use Rattle.pol_file.specs.declared.Parts.{Parts}
 use Rattle.pol_symbols.specs.declared.Symbols.{Symbols}
 use Rattle.regex.specs.declared.string.regex.Regex.{Regex}
-use Rattle.se_outside.specs.Outside.{Rose}
 use Rattle.se_outside.specs.Patterns.{IsBuiltFrom, IsPatternText}
 use Rattle.se_outside.specs.declared.PatternKind.{PatternKind}
-use Rattle.se_outside.specs.declared.PatternKind.TheVariants.{Syntax, Refused}
 use Rattle.rule_criteria.specs.declared.Criteria.{Criteria}
 use Rattle.rule_query.specs.declared.refusing.Refusal.{Refusal}
 use Rattle.rule_query.specs.declared.refusing.Refusal.TheVariants.{NotThere, NoNumber}
 use Rattle.rule_query.specs.declared.resolving.QueryError.{QueryError}
 use Rattle.rule_query.specs.declared.resolving.QueryError.TheVariants.{UnknownName, BadNumber, BadPattern, Memory}
 use Rattle.rule_query.specs.declared.query.Query.{Query}
+use Rattle.rule_query.specs.AskedPatterns.{AskedFor, IsFaulty}
 use Rattle.rule_query.specs.Given.{Given, in_word_order}
-use Rattle.rule_query.specs.Resolved.{IsQueryOf}
-use Rattle.rule_query.specs.Tests.{HasPatternWord}
+use Rattle.rule_query.specs.Inner.Resolved.{IsQueryOf}
+use Rattle.rule_query.specs.Inner.Tests.{HasPatternWord}
 use Rattle.rule_query.specs.Refusals.{is_pattern_word, refusal_of, pattern_texts}
 
 -- ---- words
@@ -34,11 +33,6 @@ pub record Stops (policy : Parts) (criteria : Criteria) (before : List Given) (g
   pub passed : All (Passes policy criteria) before
   pub word_is : given.criterion.word ≡ word
 
--- the texts that were asked for, where they are told
-abbrev pub AskedFor : Option (List (List ℕ)) → Option (List (List ℕ)) → List (List ℕ) → Type 0
-AskedFor None new texts = ⊤
-AskedFor (Some had) new texts = new ≡ Some (had ++ texts)
-
 -- ---- how it ends
 
 -- no word is refused, and all patterns were asked for, each once
@@ -53,11 +47,6 @@ pub record IsRefused (policy : Parts) (criteria : Criteria) (old new : Option (L
   pub stops : Stops policy criteria before given word
   pub refused : refusal_of policy.symbols criteria.kinds given ≡ Some refusal
   pub asked : AskedFor old new (pattern_texts before)
-
--- why a pattern was not built
-abbrev pub IsFaulty : ℕ → ℕ → List ℕ → PatternKind → Type 0
-IsFaulty past now text Syntax = IsPatternText text → ⊥
-IsFaulty past now text Refused = Rose past now
 
 -- A pattern was not built, which was the last that was asked for.
 pub record HasBadPattern (policy : Parts) (criteria : Criteria) (old new : Option (List (List ℕ))) (past now word : ℕ) (kind : PatternKind) : Type 0 where

@@ -1,4 +1,4 @@
--- What criteria were looked up to, in a policy.
+-- What criteria were looked up to, in a policy. It serves the code alone.
 use Rattle.std.specs.Prelude.{◌≡◌, ℕ, Bool, Option, Some, None, List, [], ◌∷◌, ◌++◌}
 use Rattle.std.specs.List.{list_all}
 use Rattle.pol_fields.specs.declared.TableKind.TheVariants.{Types}
@@ -14,7 +14,7 @@ use Rattle.rule_query.specs.declared.query.Query.{Query}
 use Rattle.rule_query.specs.Given.{Given, source_given, target_given}
 use Rattle.rule_query.specs.Ends.{meets_type}
 use Rattle.rule_query.specs.Meeting.{meets_given, meets_rule}
-use Rattle.rule_query.specs.Tests.{first_of, passes, rule_test, source_types, sources_of, target_types, targets_of}
+use Rattle.rule_query.specs.Inner.Tests.{first_of, passes, rule_test, source_types, sources_of, target_types, targets_of}
 
 -- Where a criterion of an end is given there is a set, and of the types and attributes that the policy declares it has those that meet it.
 abbrev pub AreTypesOf : Parts → Option Criterion → Option (List Node) → Type 0
