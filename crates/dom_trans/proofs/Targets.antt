@@ -8,7 +8,7 @@ use Rattle.pol_bitmap.specs.Nodes.{bits_of}
 use Rattle.pol_bitmap.specs.Sets.{IsUnion, IsCommon}
 use Rattle.pol_bitmap.proofs.Elements.{kept, keeps, contains_range}
 use Rattle.pol_file.specs.declared.Parts.{Parts}
-use Rattle.value_groups.specs.Marking.{is_among}
+use Rattle.value_groups.specs.Among.{is_among}
 use Rattle.rule_ends.specs.ChosenRules.{any_joins, rules_between, targets_from, sources_to_any}
 use Rattle.rule_ends.specs.PlainTypes.{are_two_types, is_type_value}
 use Rattle.rule_ends.proofs.Anys.{any_gives, any_from, among_contains, contains_among}

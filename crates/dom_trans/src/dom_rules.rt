@@ -5,7 +5,7 @@ ghost use Rattle.pol_bitmap.specs.Sets.{IsCommon};
 ghost use Rattle.pol_expand.specs.PolicyMap.{IsPolicyMap};
 ghost use Rattle.rule_ends.specs.ChosenRules.{rules_between, targets_from, sources_to};
 ghost use Rattle.pol_rules.specs.StoredRules.{stored_rules};
-ghost use Rattle.value_groups.specs.Marking.{is_among};
+ghost use Rattle.value_groups.specs.Among.{is_among};
 ghost use Rattle.dom_trans.specs.Inner.Targets.{AreEntered, AreTargets, AreEntering, AreSources, is_default_at, is_found, may_enter};
 ghost use Rattle.dom_trans.specs.Grants.{granting_rules, grants, default_rules, process, dyntransition, setcurrent, file, entrypoint};
 ghost use Rattle.dom_trans.specs.Transitions.{is_default, entries, is_standard, is_dynamic, defaults_between};

@@ -167,8 +167,8 @@ pub fn vector_ends(key: AvKey) -> RuleEnds
     }
 }
 
-/// The kind of rule that an access vector is which specifies this, without the mark of one that is off. What is specified by no other
-/// kind is that of dontaudit rules with ioctl numbers.
+/// The kind of rule that an access vector is which specifies this, without the mark 0x8000, which has no meaning in a file. What no
+/// other kind specifies is that of dontaudit rules with ioctl numbers.
 #[inline(always)]
 pub fn rule_kind(kind: u16) -> RuleKind
     ensures { result ≡ rule_kind kind }

@@ -17,7 +17,8 @@ use Rattle.pol_expand.specs.Expansion.{Expansions, IsTouching}
 use Rattle.pol_expand.specs.PolicyMap.{IsPolicyMap}
 use Rattle.pol_expand.proofs.Values.{same_tests}
 use Rattle.rule_order.specs.ListedOrder.{AreRules, in_rule_order}
-use Rattle.value_groups.specs.Marking.{is_among, AreApart}
+use Rattle.value_groups.specs.Among.{is_among}
+use Rattle.value_groups.specs.Inner.Marking.{AreApart}
 use Rattle.value_groups.specs.Inner.Grouping.{is_value_at, places_of, group_of, AreGroupsOf}
 use Rattle.rule_ends.specs.ChosenRules.{passes, holds_type, joins, is_rule_from_to, any_joins, rules_between, targets_from, sources_to, sources_to_any}
 use Rattle.rule_ends.specs.Inner.EndTables.{IsEnd, has_places, holds_any, AreEndsOf, IsTableOf, has_ends, places_to, rules_at, rules_found, any_found, is_other_end}

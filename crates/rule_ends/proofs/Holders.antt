@@ -20,7 +20,8 @@ use Rattle.pol_expand.specs.Flavours.{is_flavour}
 use Rattle.pol_expand.specs.PolicyMap.{IsPolicyMap, has_flavour, row_found, row_in, expand, values_of_flavour}
 use Rattle.pol_expand.proofs.PolicyMaps.{declared_in}
 use Rattle.pol_expand.proofs.Values.{same_tests}
-use Rattle.value_groups.specs.Marking.{is_among, with_value}
+use Rattle.value_groups.specs.Among.{is_among}
+use Rattle.value_groups.specs.Inner.Marking.{with_value}
 use Rattle.value_groups.proofs.Words.{among_bits, nodes_pass}
 use Rattle.rule_ends.specs.ChosenRules.{holds_type}
 use Rattle.rule_ends.specs.Inner.EndTables.{IsEnd, has_places, holds_any, is_attribute_bit}

@@ -5,7 +5,8 @@ use Rattle.std.specs.List.{filter, flat_map, list_any}
 use Rattle.std.proofs.lemmas.List.{take_more, map-append}
 use Rattle.std.proofs.lemmas.List.Elements.{filter-append}
 use Rattle.std.proofs.lemmas.List.Concat.{flat_map-append}
-use Rattle.value_groups.specs.Marking.{is_among, with_value}
+use Rattle.value_groups.specs.Among.{is_among}
+use Rattle.value_groups.specs.Inner.Marking.{with_value}
 use Rattle.value_groups.proofs.Marks.{among_with}
 use Rattle.rule_ends.specs.Inner.EndTables.{places_to, rules_at, rules_found}
 use Rattle.rule_ends.proofs.Anys.{any_more, or_assoc, or_false}

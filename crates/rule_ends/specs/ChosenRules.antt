@@ -6,7 +6,7 @@ use Rattle.pol_rules.specs.declared.RuleKind.{RuleKind}
 use Rattle.pol_rules.specs.declared.RuleKind.TheVariants.{RoleAllow, RoleTransition}
 use Rattle.pol_rules.specs.StoredRules.{StoredRule, stored_rules}
 use Rattle.pol_expand.specs.PolicyMap.{expand}
-use Rattle.value_groups.specs.Marking.{is_among}
+use Rattle.value_groups.specs.Among.{is_among}
 use Rattle.rule_order.specs.ListedOrder.{in_rule_order}
 
 -- What a caller sees: a policy, and the numbers of the rules of it that were chosen.

@@ -3,7 +3,7 @@ ghost use Rattle.std.specs.Prelude.{◌≡◌, ◌+◌, ◌≤◌, ◌||◌, ℕ
 ghost use Rattle.std.specs.List.{All, filter, list_any, range_with_len};
 ghost use Rattle.pol_bitmap.specs.Nodes.{bits_of};
 ghost use Rattle.pol_expand.specs.PolicyMap.{row_in, IsPolicyMap};
-ghost use Rattle.value_groups.specs.Marking.{is_among};
+ghost use Rattle.value_groups.specs.Among.{is_among};
 ghost use Rattle.rule_ends.specs.ChosenRules.{holds_type};
 ghost use Rattle.rule_ends.specs.Inner.EndTables.{IsEnd, has_places, is_attribute_bit};
 

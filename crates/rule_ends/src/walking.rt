@@ -1,7 +1,7 @@
 // The rules of an end table that have ends among given ones.
 ghost use Rattle.std.specs.Prelude.{◌≡◌, ◌<◌, ◌≤◌, ◌++◌, ◌||◌, ◌==◌, ℕ, true, IfOk, OnOk, length, slice_index};
 ghost use Rattle.std.specs.List.{All, list_any};
-ghost use Rattle.value_groups.specs.Marking.{is_among};
+ghost use Rattle.value_groups.specs.Among.{is_among};
 ghost use Rattle.value_groups.specs.Inner.Grouping.{group_of};
 ghost use Rattle.rule_ends.specs.Inner.EndTables.{places_to, rules_at, rules_found, any_found, is_other_end};
 

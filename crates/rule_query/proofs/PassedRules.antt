@@ -30,7 +30,7 @@ use Rattle.rule_query.specs.Inner.Gathering.{Gathers, HasMet, PassesOver, is_pas
 use Rattle.rule_query.specs.Inner.MarkedSets.{AreMarksOf}
 use Rattle.rule_query.specs.Inner.Tests.{has_end, passes, rule_test}
 use Rattle.rule_query.proofs.MetRules.{met_failing}
-use Rattle.value_groups.specs.Marking.{MarkedValues}
+use Rattle.value_groups.specs.Inner.Marking.{MarkedValues}
 
 -- ---- ends
 

@@ -1,9 +1,9 @@
 -- A query of tests, one for each criterion.
-use Rattle.std.proofs.Common.{◌≡◌, ℕ, zero, suc, ◌+◌, ◌-◌, ◌<◌, ◌≤◌, Bool, true, false, cond, Some, None, List, [], ◌∷◌, ◌++◌, refl, sym, ap, ◌∙◌, add-zero, append-nil, arith}
+use Rattle.std.proofs.Common.{◌≡◌, ℕ, suc, ◌+◌, ◌-◌, ◌<◌, ◌≤◌, Bool, true, false, cond, Some, None, List, [], ◌∷◌, ◌++◌, refl, sym, ap, ◌∙◌, zero-add, append-nil, arith}
 use Rattle.std.specs.Prelude.{slice_get}
 use Rattle.std.specs.List.{find, filter, list_all, range_with_len}
-use Rattle.std.proofs.lemmas.List.Elements.{filter-append}
 use Rattle.std.proofs.lemmas.List.Folds.{list_all-append}
+use Rattle.value_groups.proofs.Ranges.{filter_range_one}
 use Rattle.pol_file.specs.declared.Parts.{Parts}
 use Rattle.pol_rules.specs.DeclaredRules.{IsDeclaredRule}
 use Rattle.pol_rules.specs.StoredRules.{StoredRule, stored_rules}
@@ -72,15 +72,8 @@ pub none_left : (p : ℕ → Bool) (n count : ℕ) → count ≤ n → find p (r
 none_left p n count le = let s : count - n ≡ 0 = omega arith in rw s refl
 
 -- one number more
-range_more : (a n : ℕ) → range_with_len a (n + 1) ≡ range_with_len a n ++ (a + n) ∷ []
-range_more a zero = rw add-zero refl
-range_more a (suc n) = let e : a + 1 + n ≡ a + suc n = omega arith in
-    let s : suc n + 1 ≡ suc (n + 1) = omega arith in
-    rw s (ap (λ (xs : List ℕ). a ∷ xs) (range_more (a + 1) n ∙ ap (λ (x : ℕ). range_with_len (a + 1) n ++ x ∷ []) e))
-
 pub kept_more : (p : ℕ → Bool) (n : ℕ) → filter p (range_with_len 0 (n + 1)) ≡ filter p (range_with_len 0 n) ++ cond (p n) (n ∷ []) []
-kept_more p n = let e : 0 + n ≡ n = omega arith in
-    ap (filter p) (range_more 0 n) ∙ filter-append p (range_with_len 0 n) ((0 + n) ∷ []) ∙ ap (λ (x : ℕ). filter p (range_with_len 0 n) ++ cond (p x) (x ∷ []) []) e
+kept_more p n = filter_range_one p 0 n n (zero-add n)
 
 pub kept_next : (p : ℕ → Bool) (n : ℕ) (had has : List ℕ) (b : Bool) → had ≡ filter p (range_with_len 0 n) → has ≡ had ++ cond b (n ∷ []) [] → b ≡ p n → has ≡ filter p (range_with_len 0 (n + 1))
 kept_next p n had has b so_far added is = added ∙ ap (λ (xs : List ℕ). xs ++ cond b (n ∷ []) []) so_far ∙ ap (λ (c : Bool). filter p (range_with_len 0 n) ++ cond c (n ∷ []) []) is ∙ sym (kept_more p n)

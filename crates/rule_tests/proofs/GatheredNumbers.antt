@@ -1,23 +1,16 @@
 -- Numbers that are gathered on the way through a table: one number more.
-use Rattle.std.proofs.Common.{◌≡◌, refl, ℕ, zero, suc, ◌+◌, ◌-◌, ◌<◌, ◌≤◌, Bool, true, false, List, [], ◌∷◌, ◌++◌, length, take, set, sym, ap, cond, append-nil, add-zero, ◌∙◌, arith}
+use Rattle.std.proofs.Common.{◌≡◌, refl, ℕ, ◌+◌, ◌-◌, ◌<◌, ◌≤◌, Bool, true, false, List, [], ◌∷◌, ◌++◌, length, take, set, sym, ap, cond, append-nil, ◌∙◌, arith}
 use Rattle.std.specs.Int.{from_bool}
 use Rattle.std.specs.List.{filter, range_with_len}
 use Rattle.std.proofs.lemmas.List.{take-set-le, take_more_set}
-use Rattle.std.proofs.lemmas.List.Elements.{filter-append}
-
-range_more : (a n : ℕ) → range_with_len a (n + 1) ≡ range_with_len a n ++ (a + n) ∷ []
-range_more a zero = rw add-zero refl
-range_more a (suc n) =
-    let same : a + 1 + n ≡ a + suc n = omega arith in
-    let more : suc n + 1 ≡ suc (n + 1) = omega arith in
-    rw more (ap (λ (rest : List ℕ). a ∷ rest) (range_more (a + 1) n ∙ ap (λ (k : ℕ). range_with_len (a + 1) n ++ k ∷ []) same))
+use Rattle.value_groups.proofs.Ranges.{filter_range_one}
 
 module _ (wanted : ℕ → Bool) (from : ℕ) where
   one_more : (to : ℕ) → from ≤ to → filter wanted (range_with_len from (to + 1 - from)) ≡ filter wanted (range_with_len from (to - from)) ++ cond (wanted to) (to ∷ []) []
   one_more to le =
       let count : to + 1 - from ≡ to - from + 1 = omega (arith, le) in
       let behind : from + (to - from) ≡ to = omega (arith, le) in
-      ap (λ (n : ℕ). filter wanted (range_with_len from n)) count ∙ ap (filter wanted) (range_more from (to - from) ∙ ap (λ (n : ℕ). range_with_len from (to - from) ++ n ∷ []) behind) ∙ filter-append wanted (range_with_len from (to - from)) (to ∷ [])
+      ap (λ (n : ℕ). filter wanted (range_with_len from n)) count ∙ filter_range_one wanted from (to - from) to behind
 
   -- one that is put behind the others, which are so many, and stays there if it is wanted
   pub gathered_next : (to : ℕ) (numbers : List ℕ) (count : ℕ) (mark : Bool) → from ≤ to → count < length numbers → mark ≡ wanted to → take count numbers ≡ filter wanted (range_with_len from (to - from))

@@ -5,7 +5,8 @@ use Rattle.std.specs.List.{All}
 use Rattle.std.proofs.lemmas.List.Elements.{All-nil, All-push}
 use Rattle.std.proofs.lemmas.Bool.{cases_eq, cases_Bool, cond-true, cond-false, ne_eqb, eqb-false, or_parts, or_from, or_left}
 use Rattle.std.proofs.lemmas.List.Folds.{list_any-append}
-use Rattle.value_groups.specs.Marking.{MarkedValues, is_among, with_value, AreApart, AreMarked}
+use Rattle.value_groups.specs.Among.{is_among}
+use Rattle.value_groups.specs.Inner.Marking.{MarkedValues, with_value, AreApart, AreMarked}
 
 or_false : (b : Bool) → (b || false) ≡ b
 or_false true = refl

@@ -20,7 +20,7 @@ use Rattle.pol_bitmap.proofs.Merging.{IsRisingTo, made-more, made-end, fits-more
 use Rattle.pol_bitmap.proofs.NodeBits.{rising_start}
 use Rattle.pol_bitmap.proofs.SetMaking.{map_of, gains_node, starts_below}
 use Rattle.value_groups.proofs.Ranges.{filter_none}
-use Rattle.value_groups.specs.Marking.{is_among}
+use Rattle.value_groups.specs.Among.{is_among}
 use Rattle.value_groups.specs.Inner.Dense.{word_has, values_in, IsDense}
 
 -- ---- one word

@@ -1,2 +1,3 @@
 pub mod Dense
 pub mod Grouping
+pub mod Marking

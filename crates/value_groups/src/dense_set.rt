@@ -2,7 +2,7 @@ ghost use Rattle.std.specs.Prelude.{◌≡◌, ◌<◌, ◌≤◌, ◌+◌, ◌*
 ghost use Rattle.std.specs.List.{All};
 ghost use Rattle.pol_bitmap.specs.Nodes.{bits_of, has_bit};
 ghost use Rattle.pol_bitmap.specs.Sets.{IsSet};
-ghost use Rattle.value_groups.specs.Marking.{is_among};
+ghost use Rattle.value_groups.specs.Among.{is_among};
 ghost use Rattle.value_groups.specs.Inner.Dense.{word_has};
 
 use pol_bitmap::{Node, Set};
@@ -17,7 +17,7 @@ pub struct DenseSet {
 }
 
 impl Model for DenseSet {
-    ghost use Rattle.value_groups.specs.Marking.{MarkedValues};
+    ghost use Rattle.value_groups.specs.Inner.Marking.{MarkedValues};
     ghost use Rattle.value_groups.specs.Inner.Dense.{IsDense, values_in};
 
     ghost Value = { MarkedValues };

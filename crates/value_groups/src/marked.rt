@@ -1,6 +1,7 @@
 ghost use Rattle.std.specs.Prelude.{◌≡◌, ◌<◌, ◌≤◌, [], IfOk, OnOk, OnErr};
 ghost use Rattle.std.specs.List.{All};
-ghost use Rattle.value_groups.specs.Marking.{is_among, with_value, AreApart};
+ghost use Rattle.value_groups.specs.Among.{is_among};
+ghost use Rattle.value_groups.specs.Inner.Marking.{with_value, AreApart};
 
 use crate::dense_set::DenseSet;
 use std::alloc::{AllocError, Global};
@@ -14,7 +15,7 @@ pub struct Marked {
 }
 
 impl Model for Marked {
-    ghost use Rattle.value_groups.specs.Marking.{MarkedValues, AreMarked};
+    ghost use Rattle.value_groups.specs.Inner.Marking.{MarkedValues, AreMarked};
 
     ghost Value = { MarkedValues };
 

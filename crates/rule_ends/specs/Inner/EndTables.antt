@@ -7,7 +7,7 @@ use Rattle.pol_file.specs.declared.Parts.{Parts}
 use Rattle.pol_file.specs.Inner.TypeValues.{IsTypeValue}
 use Rattle.pol_rules.specs.StoredRules.{StoredRule}
 use Rattle.pol_expand.specs.PolicyMap.{has_flavour}
-use Rattle.value_groups.specs.Marking.{is_among}
+use Rattle.value_groups.specs.Among.{is_among}
 use Rattle.value_groups.specs.Inner.Grouping.{AreGroupsOf, group_of}
 use Rattle.rule_ends.specs.ChosenRules.{holds_type, rule_passes}
 

@@ -7,7 +7,8 @@ use Rattle.pol_rules.specs.declared.RuleKind.{RuleKind}
 use Rattle.pol_rules.specs.declared.RuleKind.TheVariants.{AllowXperm, AuditallowXperm, DontauditXperm}
 use Rattle.pol_rules.specs.StoredRules.{rule_kind}
 use Rattle.rule_tests.specs.AskedKinds.{is_any_asked, is_kind_asked}
-use Rattle.value_groups.specs.Marking.{MarkedValues, is_among}
+use Rattle.value_groups.specs.Among.{is_among}
+use Rattle.value_groups.specs.Inner.Marking.{MarkedValues}
 
 -- ---- kinds
 

@@ -3,7 +3,7 @@ use Rattle.std.specs.Prelude.{◌||◌}
 use Rattle.std.proofs.lemmas.List.Elements.{All-same, All-weaker}
 use Rattle.pol_bitmap.specs.Nodes.{bits_of}
 use Rattle.pol_expand.specs.PolicyMap.{expand}
-use Rattle.value_groups.specs.Marking.{is_among}
+use Rattle.value_groups.specs.Among.{is_among}
 use Rattle.rule_ends.specs.PlainTypes.{is_type_value}
 use Rattle.rule_ends.proofs.Holders.{end_declared, expands_within, held_alone, held_among}
 use Rattle.rule_ends.proofs.TypesOutside.{type_within}

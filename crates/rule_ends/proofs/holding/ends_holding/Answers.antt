@@ -1,5 +1,6 @@
 use Rattle.std.proofs.Common.{◌≡◌, true, false, [], ap, sym, ◌∙◌, arith}
-use Rattle.value_groups.specs.Marking.{MarkedValues, is_among, with_value}
+use Rattle.value_groups.specs.Among.{is_among}
+use Rattle.value_groups.specs.Inner.Marking.{MarkedValues, with_value}
 use Rattle.rule_ends.specs.PlainTypes.{is_type_value}
 use Rattle.rule_ends.proofs.Holders.{held_by_none, held_by_ends}
 use Rattle.rule_ends.proofs.holding.ends_holding.Goals as goal

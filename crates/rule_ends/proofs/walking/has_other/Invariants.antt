@@ -1,7 +1,7 @@
 use Rattle.std.proofs.Common.{◌≡◌, false, take}
 use Rattle.std.specs.Prelude.{slice_index}
 use Rattle.std.specs.List.{list_any}
-use Rattle.value_groups.specs.Marking.{is_among}
+use Rattle.value_groups.specs.Among.{is_among}
 use Rattle.rule_ends.proofs.walking.has_other.Given as goal
 
 abbrev pub invariant-loop-place : goal.invariant-loop-place

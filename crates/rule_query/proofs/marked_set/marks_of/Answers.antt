@@ -1,7 +1,8 @@
 use Rattle.std.proofs.Common.{◌∙◌, ap}
 use Rattle.std.specs.Prelude.{◌||◌}
 use Rattle.pol_bitmap.specs.Nodes.{bits_of}
-use Rattle.value_groups.specs.Marking.{MarkedValues, is_among}
+use Rattle.value_groups.specs.Among.{is_among}
+use Rattle.value_groups.specs.Inner.Marking.{MarkedValues}
 use Rattle.value_groups.proofs.Words.{among_bits}
 use Rattle.rule_query.proofs.marked_set.marks_of.Goals as goal
 

@@ -5,7 +5,7 @@ use Rattle.std.proofs.lemmas.List.{take_all}
 use Rattle.std.proofs.lemmas.List.Elements.{All-get_or}
 use Rattle.pol_rules.specs.StoredRules.{stored_rules}
 use Rattle.rule_order.specs.ListedOrder.{AreRules}
-use Rattle.value_groups.specs.Marking.{is_among}
+use Rattle.value_groups.specs.Among.{is_among}
 use Rattle.rule_ends.specs.ChosenRules.{ChosenRules, rules_between}
 use Rattle.rule_ends.proofs.Anys.{any_more, or_assoc, or_false}
 use Rattle.dom_trans.specs.Grants.{default_rules}

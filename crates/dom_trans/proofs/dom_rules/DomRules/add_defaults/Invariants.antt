@@ -1,7 +1,7 @@
 use Rattle.std.proofs.Common.{◌≡◌, ℕ, take}
 use Rattle.std.specs.Prelude.{◌||◌}
 use Rattle.std.specs.List.{list_any}
-use Rattle.value_groups.specs.Marking.{is_among}
+use Rattle.value_groups.specs.Among.{is_among}
 use Rattle.dom_trans.specs.Inner.Targets.{is_default_at}
 use Rattle.dom_trans.proofs.dom_rules.DomRules.add_defaults.Given as goal
 

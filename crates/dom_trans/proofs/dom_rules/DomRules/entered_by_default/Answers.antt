@@ -5,7 +5,8 @@ use Rattle.std.proofs.lemmas.Result.{IfOk-weaker}
 use Rattle.pol_bitmap.specs.declared.Node.{Node}
 use Rattle.pol_bitmap.specs.Nodes.{bits_of}
 use Rattle.pol_file.specs.declared.Parts.{Parts}
-use Rattle.value_groups.specs.Marking.{MarkedValues, is_among}
+use Rattle.value_groups.specs.Among.{is_among}
+use Rattle.value_groups.specs.Inner.Marking.{MarkedValues}
 use Rattle.rule_ends.proofs.Anys.{or_assoc, or_false}
 use Rattle.dom_trans.specs.Inner.Targets.{AreEntered}
 use Rattle.dom_trans.proofs.Targets.{default_from, entered_by_defaults}

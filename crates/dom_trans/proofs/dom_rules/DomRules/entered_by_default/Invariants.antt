@@ -1,7 +1,7 @@
 use Rattle.std.proofs.Common.{◌≡◌, ℕ, ◌+◌}
 use Rattle.std.specs.Prelude.{◌||◌}
 use Rattle.std.specs.List.{list_any}
-use Rattle.value_groups.specs.Marking.{is_among}
+use Rattle.value_groups.specs.Among.{is_among}
 use Rattle.dom_trans.proofs.Targets.{default_from}
 use Rattle.dom_trans.proofs.dom_rules.DomRules.entered_by_default.Given as goal
 

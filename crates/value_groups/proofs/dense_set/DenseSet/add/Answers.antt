@@ -1,7 +1,8 @@
 use Rattle.std.proofs.Common.{◌≡◌, ℕ, ◌*◌, ◌/◌, ◌%◌, ◌^◌, ◌<◌, ◌||◌, ◌==◌, Bool, length, get_or, set, bit_or, sym, ap, ◌∙◌, arith}
 use Rattle.std.proofs.lemmas.Bool.{eqb-true}
 use Rattle.std.proofs.lemmas.List.{length-set, get_or_default}
-use Rattle.value_groups.specs.Marking.{MarkedValues, is_among}
+use Rattle.value_groups.specs.Among.{is_among}
+use Rattle.value_groups.specs.Inner.Marking.{MarkedValues}
 use Rattle.value_groups.specs.Inner.Dense.{word_has}
 use Rattle.value_groups.proofs.Words.{among_values, dense_more, word_add}
 use Rattle.value_groups.proofs.dense_set.DenseSet.add.Goals as goal

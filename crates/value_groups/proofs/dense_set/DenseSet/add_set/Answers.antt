@@ -3,7 +3,8 @@ use Rattle.std.proofs.lemmas.List.Elements.{All-contains}
 use Rattle.pol_bitmap.specs.declared.Node.{Node}
 use Rattle.pol_bitmap.specs.Nodes.{bits_of, has_bit}
 use Rattle.pol_bitmap.proofs.BitLists.{bits-from_has_bit}
-use Rattle.value_groups.specs.Marking.{MarkedValues, is_among}
+use Rattle.value_groups.specs.Among.{is_among}
+use Rattle.value_groups.specs.Inner.Marking.{MarkedValues}
 use Rattle.value_groups.specs.Inner.Dense.{word_has}
 use Rattle.value_groups.proofs.Words.{among_bits, among_values, dense_more}
 use Rattle.value_groups.proofs.dense_set.DenseSet.add_set.Goals as goal

@@ -2,7 +2,8 @@ use Rattle.std.proofs.Common.{ℕ, ◌/◌, ◌%◌, ◌<◌, ◌==◌, length, 
 use Rattle.std.specs.Int.{bit_at}
 use Rattle.std.proofs.lemmas.Bool.{le-ltb, false_from_ne_true}
 use Rattle.std.proofs.lemmas.List.{get_or_default}
-use Rattle.value_groups.specs.Marking.{MarkedValues, is_among}
+use Rattle.value_groups.specs.Among.{is_among}
+use Rattle.value_groups.specs.Inner.Marking.{MarkedValues}
 use Rattle.value_groups.specs.Inner.Dense.{word_has}
 use Rattle.value_groups.proofs.Words.{among_values}
 use Rattle.value_groups.proofs.dense_set.DenseSet.has.Goals as goal

@@ -1,5 +1,5 @@
 use Rattle.std.proofs.Common.{ℕ, List, ap, ◌∙◌, arith}
-use Rattle.value_groups.specs.Marking.{MarkedValues}
+use Rattle.value_groups.specs.Inner.Marking.{MarkedValues}
 use Rattle.value_groups.specs.Inner.Dense.{values_in}
 use Rattle.value_groups.proofs.Words.{dense_none, no_values}
 use Rattle.value_groups.proofs.dense_set.DenseSet.new.Goals as goal

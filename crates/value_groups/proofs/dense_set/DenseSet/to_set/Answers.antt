@@ -2,7 +2,7 @@ use Rattle.std.proofs.Common.{◌≡◌, ℕ, List, ap, ◌∙◌, arith}
 use Rattle.std.proofs.lemmas.Result.{IfOk-weaker}
 use Rattle.pol_bitmap.specs.declared.Node.{Node}
 use Rattle.pol_bitmap.specs.Nodes.{bits_of}
-use Rattle.value_groups.specs.Marking.{MarkedValues}
+use Rattle.value_groups.specs.Inner.Marking.{MarkedValues}
 use Rattle.value_groups.specs.Inner.Dense.{word_has, values_in}
 use Rattle.value_groups.proofs.Words.{nodes_pass}
 use Rattle.value_groups.proofs.dense_set.DenseSet.to_set.Goals as goal

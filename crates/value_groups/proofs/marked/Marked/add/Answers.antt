@@ -1,5 +1,5 @@
 use Rattle.std.proofs.Common.{◌<◌, sym, ap, ◌∙◌, arith}
-use Rattle.value_groups.specs.Marking.{MarkedValues}
+use Rattle.value_groups.specs.Inner.Marking.{MarkedValues}
 use Rattle.value_groups.proofs.Marks.{marks_more}
 use Rattle.value_groups.proofs.marked.Marked.add.Goals as goal
 

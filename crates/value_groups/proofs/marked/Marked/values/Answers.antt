@@ -1,6 +1,6 @@
 use Rattle.std.proofs.Common.{◌<◌, subst}
 use Rattle.std.specs.List.{All}
-use Rattle.value_groups.specs.Marking.{MarkedValues}
+use Rattle.value_groups.specs.Inner.Marking.{MarkedValues}
 use Rattle.value_groups.proofs.marked.Marked.values.Goals as goal
 
 pub returns-clause-within : goal.returns-clause-within

@@ -1,10 +1,7 @@
--- Values that are gathered with a mark for each. It serves the code alone.
-use Rattle.std.specs.Prelude.{◌≡◌, ℕ, ◌<◌, Bool, false, ◌==◌, List, [], ◌∷◌, ◌++◌, if◌then◌else◌}
-use Rattle.std.specs.List.{All, list_any}
-
--- a number is among some numbers
-abbrev pub is_among : List ℕ → ℕ → Bool
-is_among numbers number = list_any (λ other. other == number) numbers
+-- Values that are gathered with a mark for each.
+use Rattle.std.specs.Prelude.{◌≡◌, ℕ, ◌<◌, false, List, [], ◌∷◌, ◌++◌, if◌then◌else◌}
+use Rattle.std.specs.List.{All}
+use Rattle.value_groups.specs.Among.{is_among}
 
 -- What a caller sees: the values, and the number that they are below.
 pub record MarkedValues : Type 0 where
