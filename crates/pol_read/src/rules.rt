@@ -1,12 +1,11 @@
 // The stored rules of a policy.
 ghost use Rattle.std.specs.Prelude.{◌≡◌, ◌<◌, ◌≤◌, Some, drop, length, option_map, slice_get};
 ghost use Rattle.pol_rules.specs.StoredRules.{stored, ends_of, stored_rules};
-ghost use Rattle.pol_rules.specs.Inner.RuleRecords.{rule_of};
 ghost use Rattle.pol_rules.specs.DeclaredRules.{IsDeclaredRule, AreDeclaredEnds};
 
 use crate::policy::Policy;
 use crate::rules_from::Rules;
-use pol_rules::{Rule, RuleEnds, RuleRecord, ends_at, record_of, rule_at};
+use pol_rules::{Rule, RuleEnds, ends_at, rule_at};
 
 impl<'a> Policy<'a> {
     /// How many stored rules there are, at most 400,000,000.
@@ -42,18 +41,6 @@ impl<'a> Policy<'a> {
         ensures declared { AreDeclaredEnds self.now result }
     {
         ends_at(&self.parts, &self.index, n)
-    }
-
-    /// What the stored rule of that number is read from. It is found in the same way, and nothing of it is read.
-    ///
-    /// What the rule names is declared.
-    #[inline(always)]
-    pub fn rule_record(&self, n: u32) -> RuleRecord<'a>
-        requires { n < length (stored_rules self.now) }
-        ensures is { slice_get (stored_rules self.now) n ≡ Some (rule_of result) }
-        ensures declared { IsDeclaredRule self.now (rule_of result) }
-    {
-        record_of(&self.parts, &self.index, n)
     }
 
     /// The stored rules in file order, from the one of that number on, and none where there is no such rule. Each is found as

@@ -136,7 +136,7 @@ fn rule_with<'a>(
 
 // ---- access vectors
 
-/// The rule that an access vector is.
+/// The rule that an access vector is, which stands under a condition or under none.
 #[inline(always)]
 pub fn vector_rule<'a>(view: &AvView<'a>, condition: Option<Condition>) -> Rule<'a>
     ensures { stored result ≡ av_rule condition view.now }

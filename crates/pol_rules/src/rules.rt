@@ -47,20 +47,6 @@ fn found_rule<'a>(parts: &Parts<'a>, index: &RuleIndex, n: u32) -> Rule<'a>
     record_at(parts, index, n).rule()
 }
 
-/// What that rule is read from. It is found in the same way, and nothing of it is read.
-#[inline(always)]
-pub fn record_of<'a>(parts: &Parts<'a>, index: &RuleIndex, n: u32) -> RuleRecord<'a>
-    requires index { IsIndexOf parts.now index.now }
-    requires rule { n < length (stored_rules parts.now) }
-    ensures { slice_get (stored_rules parts.now) n ≡ Some (rule_of result) }
-{
-    if n < parts.rules.table.len() {
-        RuleRecord::Vector(vector_at(parts, n), None)
-    } else {
-        record_at(parts, index, n)
-    }
-}
-
 /// The ends of that rule. They are found in the same way, and nothing else of the rule is read.
 #[inline(always)]
 pub fn ends_at(parts: &Parts<'_>, index: &RuleIndex, n: u32) -> RuleEnds
