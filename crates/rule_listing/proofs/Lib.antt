@@ -1,2 +1,3 @@
 pub mod KeptSlots
+pub mod PlainTexts
 pub mod ReadAhead

@@ -1,6 +1,7 @@
 //! What stands before the targets of the rules of a kind and a source.
 
-ghost use Rattle.std.specs.Prelude.{◌≡◌, ◌++◌, OnOk, IfOk};
+ghost use Rattle.std.specs.Prelude.{◌≡◌, ◌++◌, Some, OnOk};
+ghost use Rattle.pol_symbols.specs.declared.Symbols.{Symbols};
 ghost use Rattle.rule_text.specs.Inner.RuleFrames.{head_text};
 ghost use Rattle.rule_listing.specs.Inner.KeptTexts.{IsHead};
 
@@ -9,36 +10,30 @@ use pol_symbols::Symbols;
 use rule_text::push_head;
 use std::alloc::{AllocError, Global};
 
+// A kind of rules, and a source.
+#[derive(Clone, Copy, PartialEq, Eq)]
+struct HeadKey {
+    kind: RuleKind,
+    source: u32,
+}
+
 /// The text that stands before the targets of the rules of a kind and a source.
 #[derive(Drop)]
 pub(crate) struct KeptHead {
-    pub(crate) kind: RuleKind,
-    pub(crate) source: u32,
-    pub(crate) text: Vec<u8>,
+    // whose text it is, where one was made
+    key: Option<HeadKey>,
+    text: Vec<u8>,
 }
 
 impl KeptHead {
-    /// Of a source with no name.
-    pub(crate) fn none(alloc: Global, symbols: &Symbols<'_>) -> Result<KeptHead, AllocError>
-        ensures { IfOk result (IsHead symbols.now) }
+    /// None is made yet.
+    pub(crate) fn none(alloc: Global) -> KeptHead
+        ensures { (symbols : Symbols) → IsHead symbols result }
     {
-        KeptHead::of(alloc, symbols, RuleKind::Allow, 0)
-    }
-
-    // Of a kind and a source.
-    fn of(
-        alloc: Global,
-        symbols: &Symbols<'_>,
-        kind: RuleKind,
-        source: u32,
-    ) -> Result<KeptHead, AllocError>
-        ensures head { IfOk result (IsHead symbols.now) }
-        ensures kind { IfOk result (λ head. head.kind ≡ kind) }
-        ensures source { IfOk result (λ head. head.source ≡ source) }
-    {
-        let mut text = Vec::new(alloc);
-        push_head(&mut text, symbols, kind, source)?;
-        Ok(KeptHead { kind, source, text })
+        KeptHead {
+            key: None,
+            text: Vec::new(alloc),
+        }
     }
 
     /// Adds the text of a kind and a source, and keeps it.
@@ -53,9 +48,22 @@ impl KeptHead {
         ensures head { IsHead symbols.now self.new }
         ensures text { OnOk result (buffer.new.items ≡ buffer.old.items ++ head_text symbols.now kind source) }
     {
-        if self.kind != kind || self.source != source {
-            *self = KeptHead::of(*buffer.allocator(), symbols, kind, source)?;
+        let key = HeadKey { kind, source };
+        if self.key != Some(key) {
+            self.make(symbols, key)?;
         }
         buffer.extend_from_slice(&self.text)
+    }
+
+    // Makes the text of a kind and a source, in place of the one that was kept.
+    fn make(&mut self, symbols: &Symbols<'_>, key: HeadKey) -> Result<(), AllocError>
+        ensures head { IsHead symbols.now self.new }
+        ensures key { OnOk result (self.new.key ≡ Some key) }
+    {
+        self.key = None;
+        self.text.clear();
+        push_head(&mut self.text, symbols, key.kind, key.source)?;
+        self.key = Some(key);
+        Ok(())
     }
 }

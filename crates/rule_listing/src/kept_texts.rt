@@ -6,7 +6,7 @@ ghost use Rattle.pol_rules.specs.DeclaredRules.{StandsUnder};
 ghost use Rattle.pol_file.specs.declared.Parts.{Parts};
 ghost use Rattle.rule_text.specs.ConditionTexts.{condition_text};
 ghost use Rattle.rule_text.specs.Inner.RuleFrames.{given_text};
-ghost use Rattle.rule_listing.specs.Inner.KeptTexts.{AreKept, IsKept, text_of};
+ghost use Rattle.rule_listing.specs.Inner.KeptTexts.{AreKept, IsGivenBy, IsKept, text_of};
 
 use pol_read::{Condition, Policy, Rule, RuleKind, RulePart};
 use rule_text::{RuleTexts, push_condition};
@@ -19,28 +19,29 @@ const SLOTS: usize = 2048;
 // How long a text may be that is kept.
 const LONGEST: usize = 4096;
 
-// What a text is of that rules have in common.
+/// What a text is of that rules have in common.
 #[derive(Clone, Copy, PartialEq, Eq)]
-enum TextKey {
-    // A class and permissions of it by a mask, as the rules of a kind give them.
+pub(crate) enum TextKey {
+    /// A class and permissions of it by a mask, as the rules of a kind give them.
     Perms {
         kind: RuleKind,
         class: u32,
         mask: u32,
     },
-    // A class and a default by its value, as the rules of a kind give it.
+    /// A class and a default by its value, as the rules of a kind give it.
     Default {
         kind: RuleKind,
         class: u32,
         value: u32,
     },
-    // A condition that rules stand under.
+    /// A condition that rules stand under.
     Under(Condition),
 }
 
 impl TextKey {
-    // What a rule gives, where it does so by one number.
-    fn given(rule: &Rule<'_>) -> Option<TextKey>
+    /// What a rule gives, where it does so by one number.
+    #[inline(always)]
+    pub(crate) fn given(rule: &Rule<'_>) -> Option<TextKey>
         ensures { (policy : Parts) → IfSome result (λ key. text_of policy key ≡ given_text policy.symbols rule.now.kind rule.now.class rule.now.part) }
     {
         let kind = rule.kind;
@@ -129,6 +130,24 @@ impl<'p, 'a> KeptTexts<'p, 'a> {
         let start = buffer.len();
         self.texts.push_given(buffer, rule)?;
         self.keep(key, &buffer[start..])
+    }
+
+    /// Adds the text of a key, which is what the stored rule of that number gives.
+    pub(crate) fn push_by_key(
+        &mut self,
+        key: TextKey,
+        number: u32,
+        buffer: &mut Vec<u8>,
+    ) -> Result<(), AllocError>
+        requires { IsGivenBy self.old number key }
+        ensures policy { self.new ≡ self.old }
+        ensures text { OnOk result (buffer.new.items ≡ buffer.old.items ++ text_of self.old key) }
+    {
+        if let Some(text) = self.text(key) {
+            return buffer.extend_from_slice(text);
+        }
+        let rule = self.policy().rule(number);
+        self.push_given(&rule, buffer)
     }
 
     /// Adds the condition behind a rule, or nothing where it stands under none.

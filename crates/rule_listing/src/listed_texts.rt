@@ -3,12 +3,13 @@
 ghost use Rattle.std.specs.Prelude.{◌≡◌, ◌++◌, OnOk, IfOk};
 ghost use Rattle.pol_rules.specs.StoredRules.{stored};
 ghost use Rattle.pol_rules.specs.DeclaredRules.{StandsUnder};
-ghost use Rattle.rule_listing.specs.Inner.ReadRules.{IsStored};
+ghost use Rattle.rule_listing.specs.Inner.KeptTexts.{IsGivenBy};
+ghost use Rattle.rule_listing.specs.Inner.ReadRules.{IsStored, plain_rest_text, rest_of_number};
 ghost use Rattle.rule_text.specs.RuleTexts.{rest_text, text_of_rule};
 
 use crate::kept_head::KeptHead;
 use crate::kept_texts::KeptTexts;
-use crate::listed_rule::ListedRule;
+use crate::listed_rule::{ListedRule, PlainRest};
 use pol_read::{Policy, Rule};
 use rule_text::{RuleTexts, TypeNames, push_end};
 use std::alloc::{AllocError, Global};
@@ -16,7 +17,7 @@ use std::marker::Model;
 
 /// The texts of whole rules of a policy, where many are written one after the other: what stands before the targets of a source is
 /// made once where its rules come together, and so is most of what stands behind the ends of rules that give the same permissions or the
-/// same default, and of those that stand under the same condition. The names of targets are looked up once. Contracts see the policy.
+/// same default, and of those that stand under the same condition. The name of each type that is a target is looked up once. Contracts see the policy.
 #[derive(Drop)]
 pub struct ListedTexts<'p, 'a> {
     texts: KeptTexts<'p, 'a>,
@@ -44,7 +45,7 @@ impl<'p, 'a> ListedTexts<'p, 'a> {
         let symbols = policy.symbols();
         Ok(ListedTexts {
             texts: KeptTexts::none(alloc, RuleTexts::new(alloc, policy)?)?,
-            head: KeptHead::none(alloc, symbols)?,
+            head: KeptHead::none(alloc),
             names: TypeNames::new(alloc, symbols)?,
         })
     }
@@ -65,12 +66,46 @@ impl<'p, 'a> ListedTexts<'p, 'a> {
     {
         let policy = self.texts.policy();
         let symbols = policy.symbols();
-        let kind = rule.kind;
-        let rule = policy.rule(rule.number);
-        self.head.push(symbols, kind, rule.source, buffer)?;
-        self.names.push_target(symbols, kind, rule.target, buffer)?;
-        push_rest(&mut self.texts, &rule, buffer)
+        let ends = rule.ends;
+        self.head.push(symbols, ends.kind, ends.source, buffer)?;
+        self.names
+            .push_target(symbols, ends.kind, ends.target, buffer)?;
+        push_rest_of(&mut self.texts, &rule, buffer)
     }
+}
+
+// Adds what stands behind the ends of a listed rule.
+fn push_rest_of(
+    texts: &mut KeptTexts<'_, '_>,
+    rule: &ListedRule,
+    buffer: &mut Vec<u8>,
+) -> Result<(), AllocError>
+    requires { IsStored texts.old rule.now }
+    ensures policy { texts.new ≡ texts.old }
+    ensures text { OnOk result (buffer.new.items ≡ buffer.old.items ++ rest_of_number texts.old rule.now.number) }
+{
+    let policy = texts.policy();
+    match rule.rest(policy) {
+        Some(rest) => push_plain(texts, rule.number, rest, buffer),
+        None => push_rest(texts, &policy.rule(rule.number), buffer),
+    }
+}
+
+// Adds what stands behind the ends of the stored rule of that number, which is plain.
+fn push_plain(
+    texts: &mut KeptTexts<'_, '_>,
+    number: u32,
+    rest: PlainRest,
+    buffer: &mut Vec<u8>,
+) -> Result<(), AllocError>
+    requires given { IsGivenBy texts.old number rest.given }
+    requires under { StandsUnder texts.old.rules.conditionals rest.condition }
+    ensures policy { texts.new ≡ texts.old }
+    ensures text { OnOk result (buffer.new.items ≡ buffer.old.items ++ plain_rest_text texts.old rest) }
+{
+    texts.push_by_key(rest.given, number, buffer)?;
+    buffer.push(b';')?;
+    texts.push_condition(rest.condition, buffer)
 }
 
 // Adds what stands behind the ends of a rule.

@@ -93,6 +93,7 @@ impl Query {
     }
 
     // Adds the rule of that number, which stands in the table, if it meets the criteria.
+    #[tactic(auto, using(pol_rules::proofs::RuleSums::section_sizes))]
     #[inline(always)]
     fn add_vector(
         &self,
@@ -104,8 +105,7 @@ impl Query {
         requires found { HasMet policy.now self.now number found.old }
         ensures { OnOk result (HasMet policy.now self.now (number + 1) found.new) }
     {
-        let record = RuleRecord::Vector(policy.table().view(number), None);
-        self.add_record(policy, number, &record, found)
+        self.add_met(policy, number, policy.rule_ends(number), found)
     }
 
     // Adds those under conditions, node by node, and tells the number of the rule behind them.

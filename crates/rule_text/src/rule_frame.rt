@@ -31,12 +31,13 @@ impl<'p, 'a> RuleFrame<'p, 'a> {
     #[tactic(auto, unfolding(crate::specs::Inner::RuleFrames::frame_target))]
     pub fn push_target(
         &self,
-        names: &TypeNames<'_>,
+        names: &mut TypeNames<'a>,
         target: u32,
         buffer: &mut Vec<u8>,
     ) -> Result<(), AllocError>
-        requires { AreNamesOf self.now.symbols.now names.now }
-        ensures { OnOk result (buffer.new.items ≡ buffer.old.items ++ frame_target self.now target) }
+        requires { AreNamesOf self.now.symbols.now names.old }
+        ensures names { AreNamesOf self.now.symbols.now names.new }
+        ensures text { OnOk result (buffer.new.items ≡ buffer.old.items ++ frame_target self.now target) }
     {
         names.push_target(self.symbols, self.kind, target, buffer)
     }

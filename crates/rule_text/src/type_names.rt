@@ -9,62 +9,72 @@ ghost use Rattle.rule_text.specs.Inner.TypeNames.{AreNamesOf};
 
 use crate::rule_parts::push_target;
 use pol_fields::TableKind;
-use pol_mls::push_name;
 use pol_read::RuleKind;
 use pol_symbols::Symbols;
 use std::alloc::{AllocError, Global};
 
-/// The names of the types of a policy, where many are written: each is looked up once.
+/// The names of the types of a policy, where many are written: each is looked up once, when it is first asked for.
 #[derive(Drop)]
 pub struct TypeNames<'a> {
-    // by value
-    pub(crate) names: Vec<&'a [u8]>,
+    // by value, where it was looked up
+    pub(crate) names: Vec<Option<&'a [u8]>>,
 }
 
 impl<'a> TypeNames<'a> {
-    /// Those of all types.
+    /// Those of all types. None is looked up yet.
     pub fn new(alloc: Global, symbols: &Symbols<'a>) -> Result<TypeNames<'a>, AllocError>
         ensures { IfOk result (AreNamesOf symbols.now) }
     {
         let count = symbols.prims(TableKind::Types).saturating_add(1);
         let mut names = Vec::with_capacity(alloc, count as usize)?;
-        for value in 0..count {
-            names.push(name_of(symbols, value))?;
+        for _value in 0..count {
+            names.push(None)?;
         }
         Ok(TypeNames { names })
     }
 
     /// Adds the name of a target of a rule of a kind. The tables of the policy are handed in.
     pub fn push_target(
-        &self,
-        symbols: &Symbols<'_>,
+        &mut self,
+        symbols: &Symbols<'a>,
         kind: RuleKind,
         target: u32,
         buffer: &mut Vec<u8>,
     ) -> Result<(), AllocError>
-        requires { AreNamesOf symbols.now self.now }
-        ensures { OnOk result (buffer.new.items ≡ buffer.old.items ++ name_of (name_in symbols.now) (target_table kind) target) }
+        requires { AreNamesOf symbols.now self.old }
+        ensures names { AreNamesOf symbols.now self.new }
+        ensures text { OnOk result (buffer.new.items ≡ buffer.old.items ++ name_of (name_in symbols.now) (target_table kind) target) }
     {
         match kind {
             RuleKind::RoleAllow => push_target(buffer, symbols, kind, target),
-            _ => self.push(symbols, target, buffer),
+            _ => buffer.extend_from_slice(self.name(symbols, target)),
         }
     }
 
-    // Adds the name of a type.
-    fn push(
-        &self,
-        symbols: &Symbols<'_>,
-        value: u32,
-        buffer: &mut Vec<u8>,
-    ) -> Result<(), AllocError>
-        requires { AreNamesOf symbols.now self.now }
-        ensures { OnOk result (buffer.new.items ≡ buffer.old.items ++ name_of (name_in symbols.now) Types value) }
+    // The name of a type.
+    fn name(&mut self, symbols: &Symbols<'a>, value: u32) -> &'a [u8]
+        requires { AreNamesOf symbols.now self.old }
+        ensures names { AreNamesOf symbols.now self.new }
+        ensures name { result.now ≡ name_of (name_in symbols.now) Types value }
     {
-        match self.names.get(value as usize) {
-            Some(name) => buffer.extend_from_slice(name),
-            None => push_name(buffer, TableKind::Types, value, symbols),
+        if let Some(Some(name)) = self.names.get(value as usize) {
+            return name;
         }
+        self.look_up(symbols, value)
+    }
+
+    // The same, which is looked up, and held where the policy has such a type.
+    #[inline(never)]
+    fn look_up(&mut self, symbols: &Symbols<'a>, value: u32) -> &'a [u8]
+        requires { AreNamesOf symbols.now self.old }
+        ensures names { AreNamesOf symbols.now self.new }
+        ensures name { result.now ≡ name_of (name_in symbols.now) Types value }
+    {
+        let name = name_of(symbols, value);
+        if let Some(held) = self.names.get_mut(value as usize) {
+            *held = Some(name);
+        }
+        name
     }
 }
 

@@ -96,17 +96,18 @@ fn with_source<'p, 'a>(
 }
 
 /// Adds the lines of the targets of a row, at most so many, and answers how many.
-pub fn push_targets(
-    frame: &SourceFrame<'_, '_>,
-    names: &TypeNames<'_>,
+pub fn push_targets<'a>(
+    frame: &SourceFrame<'_, 'a>,
+    names: &mut TypeNames<'a>,
     targets: &mut SetBits<'_>,
     most: u64,
     buffer: &mut Vec<u8>,
 ) -> Result<u64, AllocError>
-    requires names { AreNamesOf frame.now.frame.symbols.now names.now }
+    requires names { AreNamesOf frame.now.frame.symbols.now names.old }
     requires between { frame.now.between.items ≡ frame.now.frame.rest.items ++ frame.now.head.items }
     requires some { 0 < most }
-    ensures { IfOk result (PushesTargets (λ target. frame.now.head.items ++ frame_target frame.now.frame target ++ frame.now.frame.rest.items) most targets.old targets.new buffer.old.items buffer.new.items) }
+    ensures names { AreNamesOf frame.now.frame.symbols.now names.new }
+    ensures targets { IfOk result (PushesTargets (λ target. frame.now.head.items ++ frame_target frame.now.frame target ++ frame.now.frame.rest.items) most targets.old targets.new buffer.old.items buffer.new.items) }
 {
     let Some(first) = targets.next() else {
         return Ok(0);
@@ -126,16 +127,17 @@ pub fn push_targets(
 }
 
 // Adds the names of further targets, at most so many, each behind what stands between two, and answers how many.
-fn push_others(
-    frame: &RuleFrame<'_, '_>,
-    names: &TypeNames<'_>,
+fn push_others<'a>(
+    frame: &RuleFrame<'_, 'a>,
+    names: &mut TypeNames<'a>,
     between: &[u8],
     targets: &mut SetBits<'_>,
     most: u64,
     buffer: &mut Vec<u8>,
 ) -> Result<u64, AllocError>
-    requires { AreNamesOf frame.now.symbols.now names.now }
-    ensures { IfOk result (PushesTargets (λ target. between.now ++ frame_target frame.now target) most targets.old targets.new buffer.old.items buffer.new.items) }
+    requires { AreNamesOf frame.now.symbols.now names.old }
+    ensures names { AreNamesOf frame.now.symbols.now names.new }
+    ensures targets { IfOk result (PushesTargets (λ target. between.now ++ frame_target frame.now target) most targets.old targets.new buffer.old.items buffer.new.items) }
 {
     'others: for count in 0..most {
         let Some(target) = targets.next() else {

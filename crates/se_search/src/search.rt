@@ -123,7 +123,7 @@ fn write_singles<S: Sink>(
     let Ok(names) = TypeNames::new(alloc, policy.symbols()) else {
         return Err(WriteEnd::Memory);
     };
-    let mut lines = SingleLines::new(&texts, &names, rules.places(), asks.from, asks.limit);
+    let mut lines = SingleLines::new(&texts, names, rules.places(), asks.from, asks.limit);
     write_lines(alloc, &mut lines, out)
 }
 

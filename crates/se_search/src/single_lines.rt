@@ -23,7 +23,7 @@ const MOST_LINES: u64 = 64;
 #[derive(Drop)]
 pub struct SingleLines<'s, 'p, 'a> {
     texts: &'s RuleTexts<'p, 'a>,
-    names: &'s TypeNames<'a>,
+    names: TypeNames<'a>,
     places: Places<'s>,
     // so many members are before the next line, and before the end
     passed: u64,
@@ -38,13 +38,13 @@ impl<'s, 'p, 'a> SingleLines<'s, 'p, 'a> {
     /// entry.
     pub fn new(
         texts: &'s RuleTexts<'p, 'a>,
-        names: &'s TypeNames<'a>,
+        names: TypeNames<'a>,
         places: Places<'s>,
         from: u64,
         limit: Option<u64>,
     ) -> SingleLines<'s, 'p, 'a>
         requires rules { AreOfRules texts.now places }
-        requires names { AreNamesOf texts.now.symbols names.now }
+        requires names { AreNamesOf texts.now.symbols names }
         ensures stands { StandsIn result }
         ensures lines { lines_left result ≡ page from limit (map (single_line texts.now) (members places.entry)) }
     {
@@ -76,7 +76,7 @@ impl<'s, 'p, 'a> SingleLines<'s, 'p, 'a> {
         };
         let RowLines { mut row, frame } = lines;
         let most = MOST_LINES.min(self.end - self.passed);
-        let count = push_targets(&frame, self.names, &mut row.targets, most, buffer)?;
+        let count = push_targets(&frame, &mut self.names, &mut row.targets, most, buffer)?;
         if count == 0 {
             self.begin_row(*buffer.allocator(), Some(frame))?;
             return Ok(true);

@@ -1,10 +1,12 @@
 -- Texts that are kept from line to line: what serves the code alone.
-use Rattle.std.specs.Prelude.{◌≡◌, ℕ, List, Option, Some, None, ⊤, length}
+use Rattle.std.specs.Prelude.{◌≡◌, ℕ, List, Option, Some, None, ⊤, length, slice_get}
 use Rattle.std.specs.List.{All}
 use Rattle.pol_symbols.specs.PolicySymbols.{name_in}
 use Rattle.pol_symbols.specs.declared.Symbols.{Symbols}
 use Rattle.pol_file.specs.declared.Parts.{Parts}
+use Rattle.pol_rules.specs.StoredRules.{StoredRule, stored_rules}
 use Rattle.pol_rules.specs.declared.rule.RulePart.TheVariants as parts
+use Rattle.rule_listing.specs.declared.kept_head.HeadKey.{HeadKey}
 use Rattle.rule_listing.specs.declared.kept_head.KeptHead.{KeptHead}
 use Rattle.rule_listing.specs.declared.kept_texts.KeptText.{KeptText}
 use Rattle.rule_listing.specs.declared.kept_texts.TextKey.{TextKey}
@@ -12,15 +14,27 @@ use Rattle.rule_listing.specs.declared.kept_texts.TextKey.TheVariants.{Perms, De
 use Rattle.rule_text.specs.Inner.RuleFrames.{head_text, given_text}
 use Rattle.rule_text.specs.ConditionTexts.{condition_text}
 
--- A kept head is that of its kind and source.
+-- A kept text is the head of its kind and source.
+abbrev pub IsHeadOf : Symbols → List ℕ → Option HeadKey → Type 0
+IsHeadOf symbols text None = ⊤
+IsHeadOf symbols text (Some key) = text ≡ head_text symbols key.kind key.source
+
 abbrev pub IsHead : Symbols → KeptHead → Type 0
-IsHead symbols head = head.text.items ≡ head_text symbols head.kind head.source
+IsHead symbols head = IsHeadOf symbols head.text.items head.key
 
 -- the text of what a key stands for
 abbrev pub text_of : Parts → TextKey → List ℕ
 text_of policy (Perms kind class mask) = given_text policy.symbols kind class (parts.Perms mask)
 text_of policy (Default kind class value) = given_text policy.symbols kind class (parts.Default value)
 text_of policy (Under condition) = condition_text (name_in policy.symbols) policy.rules.conditionals (Some condition)
+
+-- The text of a key is what the stored rule of a number gives.
+abbrev pub Gives : Parts → TextKey → Option StoredRule → Type 0
+Gives policy key None = ⊥
+Gives policy key (Some rule) = text_of policy key ≡ given_text policy.symbols rule.kind rule.class rule.part
+
+abbrev pub IsGivenBy : Parts → ℕ → TextKey → Type 0
+IsGivenBy policy number key = Gives policy key (slice_get (stored_rules policy) number)
 
 -- What a slot keeps, if it does, is the text of its key.
 abbrev pub IsKept : Parts → Option KeptText → Type 0

@@ -8,4 +8,4 @@ use Rattle.rule_text.specs.declared.type_names.TypeNames.{TypeNames}
 
 -- the names that are held are those of their values
 abbrev pub AreNamesOf : Symbols → TypeNames → Type 0
-AreNamesOf symbols types = (value : ℕ) → IfSome (slice_get types.names.items value) (λ name. name.now ≡ name_of (name_in symbols) Types value)
+AreNamesOf symbols types = (value : ℕ) → IfSome (slice_get types.names.items value) (λ held. IfSome held (λ name. name.now ≡ name_of (name_in symbols) Types value))
