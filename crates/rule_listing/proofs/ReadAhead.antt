@@ -40,10 +40,6 @@ next_ahead policy numbers rules i rule ahead there =
     first_left (x ∷ xs) zero n e = cc e
     first_left (x ∷ xs) (suc j) n e = first_left xs j n e
 
--- none was read
-pub none_ahead : (policy : Parts) (numbers : List ℕ) → AreAhead policy numbers []
-none_ahead policy numbers = record { are_of = refl; stored = All-nil (IsStored policy) }
-
 -- one more rule was read
 pub read_more : (policy : Parts) (numbers : List ℕ) (i : ℕ) (rules : List ListedRule) (rule : ListedRule) → i < length numbers → length rules ≡ i → AreAhead policy numbers rules → rule.number ≡ get_or numbers i 0 → IsStored policy rule
     → AreAhead policy numbers (rules ++ rule ∷ [])

@@ -17,7 +17,8 @@ use std::marker::Model;
 
 /// The texts of whole rules of a policy, where many are written one after the other: what stands before the targets of a source is
 /// made once where its rules come together, and so is most of what stands behind the ends of rules that give the same permissions or the
-/// same default, and of those that stand under the same condition. The name of each type that is a target is looked up once. Contracts see the policy.
+/// same default, and of those that stand under the same condition. The name of each type that is a target is looked up once. Contracts
+/// see the policy.
 #[derive(Drop)]
 pub struct ListedTexts<'p, 'a> {
     texts: KeptTexts<'p, 'a>,

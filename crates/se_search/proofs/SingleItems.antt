@@ -1,7 +1,7 @@
 -- The rules between single types that are listed, and the lines of those that are asked for.
 use Rattle.std.proofs.Common.{◌≡◌, ◌∙◌, ◌<◌, ℕ, List, [], ◌∷◌, Option, Some, None, length, map, refl, ap, arith}
 use Rattle.std.specs.Prelude.{slice_get}
-use Rattle.std.specs.List.{All, concat}
+use Rattle.std.specs.List.{concat}
 use Rattle.std.proofs.lemmas.List.Elements.{All-cons, All-head, All-nil, All-tail}
 use Rattle.pol_file.specs.declared.Parts.{Parts}
 use Rattle.pol_places.specs.Members.{Product, members}

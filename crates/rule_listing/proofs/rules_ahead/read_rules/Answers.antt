@@ -1,5 +1,5 @@
 use Rattle.std.proofs.Common.{arith}
-use Rattle.rule_listing.proofs.ReadAhead.{none_ahead, read_more}
+use Rattle.rule_listing.proofs.ReadAhead.{read_more}
 use Rattle.rule_listing.proofs.rules_ahead.read_rules.Goals as goal
 
 pub loop-number-preserved : goal.loop-number-preserved
