@@ -1,6 +1,6 @@
 -- What the searches through the records of a table find.
 use Rattle.std.proofs.Common.{inl, inr, ◌⊎◌, ◌≡◌, ℕ, zero, suc, ◌<◌, ◌≤◌, Bool, true, false, cond, List, [], ◌∷◌, Option, Some, None, length, get_or, slice_get, refl, sym, ap, subst, ◌∙◌, ltb, arith}
-use Rattle.std.specs.Prelude.{is_some, option_map}
+use Rattle.std.specs.Prelude.{is_some, map, option_map}
 use Rattle.std.specs.List.{find, position, position_or_len}
 use Rattle.std.proofs.lemmas.Bool.{ltb-true, ltb-false, lt-ltb, le-ltb, cases_order}
 use Rattle.std.proofs.lemmas.Option.{cond_some, slice_get_past, get_or_from_slice_get, slice_get_within, slice_get-get_or, slice_get-map}
@@ -8,7 +8,7 @@ use Rattle.std.proofs.lemmas.List.Folds.{find_at}
 use Rattle.std.proofs.lemmas.List.Sums.{position_or_len_is}
 use Rattle.pol_cursor.specs.References.{Placed}
 use Rattle.pol_symtab.specs.SymbolTables.{index_named, value_named, primary_index, primary_name, rank_of, has_the_name, declares, names_below}
-use Rattle.pol_symtab.specs.Inner.TableIndex.{names_of, name_at, HasRanks}
+use Rattle.pol_symtab.specs.Inner.TableIndex.{names_of, name_at, HasRanks, IsRankIndex, IsValueIndex, joined, ranked}
 
 -- ---- by cases
 
@@ -104,11 +104,6 @@ module _ {A : Type 0} (name_of : A → List ℕ) (is_primary : A → Bool) (valu
   primary_declared value = declared_so value (primary_index is_primary value_of records value) refl
 
   -- the rank of a value, in the list of ranks by record
-  pub rank_within : (ranks : List ℕ) → HasRanks name_of is_primary records ranks → (value : ℕ) (i : ℕ) → primary_index is_primary value_of records value ≡ Some i → i < length ranks
-  rank_within ranks h value i e =
-      let at = place_of records i (primary_within value i e) in
-      slice_get_within ranks i (names_below name_of is_primary records (name_of at.0.value)) (h i at.0 at.1)
-
   pub rank_at : (ranks : List ℕ) → HasRanks name_of is_primary records ranks → (value : ℕ) (i : ℕ) → primary_index is_primary value_of records value ≡ Some i → rank_of name_of is_primary value_of records value ≡ slice_get ranks i
   unfolding rank_of
   rank_at ranks h value i e =
@@ -118,3 +113,16 @@ module _ {A : Type 0} (name_of : A → List ℕ) (is_primary : A → Bool) (valu
   pub rank_none : (value : ℕ) → primary_index is_primary value_of records value ≡ None → rank_of name_of is_primary value_of records value ≡ None
   unfolding rank_of
   rank_none value e = ap (option_map (names_below name_of is_primary records)) (primary_name_none value e)
+
+  pub values_ranked : (ranks : List ℕ) → HasRanks name_of is_primary records ranks → (by_value : List (Option ℕ)) → IsValueIndex is_primary value_of records by_value → IsRankIndex name_of is_primary value_of records (map (ranked ranks) by_value)
+  values_ranked ranks h by_value index value =
+      ap joined (slice_get-map (ranked ranks) by_value value) ∙ joined_ranked (slice_get by_value value)
+      ∙ ap (ranked ranks) (index value) ∙ ranked_so (primary_index is_primary value_of records value) refl
+    where
+      joined_ranked : (entry : Option (Option ℕ)) → joined (option_map (ranked ranks) entry) ≡ ranked ranks (joined entry)
+      joined_ranked None = refl
+      joined_ranked (Some entry) = refl
+
+      ranked_so : (place : Option ℕ) → primary_index is_primary value_of records value ≡ place → ranked ranks place ≡ rank_of name_of is_primary value_of records value
+      ranked_so (Some i) e = sym (rank_at ranks h value i e)
+      ranked_so None e = sym (rank_none value e)

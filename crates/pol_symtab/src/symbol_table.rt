@@ -11,7 +11,7 @@ use crate::symbol::{Symbol, SymbolKind};
 use crate::symbol_laws::symbol_laws;
 use crate::table_head::{TableHead, read_table_head};
 use crate::taken::{TableContext, Taken};
-use crate::value_index::index_values;
+use crate::value_index::{index_values, rank_values};
 use pol_cursor::{
     Copied, Cursor, Names, OwnedList, ReadError, Records, Referring, check_records,
     read_records_after,
@@ -29,8 +29,8 @@ pub struct SymbolTable<'a, K: SymbolKind + Drop> {
     by_value: Vec<Option<u32>>,
     // The numbers of the records, in the order of their names.
     by_name: Vec<u32>,
-    // By the number of a record: how many primary names are below its own.
-    ranks: Vec<u32>,
+    // By value: how many primary names are below the name of its primary record.
+    ranks: Vec<Option<u32>>,
 }
 
 impl<'a, K: SymbolKind + Drop> Model for SymbolTable<'a, K> {
@@ -61,7 +61,8 @@ where
         let by_value = index_values(alloc, nprim, &records)?;
         let entries = sorted_entries(alloc, &records)?;
         let by_name = numbers_of(alloc, &entries)?;
-        let ranks = rank_names(alloc, &entries)?;
+        let by_number = rank_names(alloc, &entries)?;
+        let ranks = rank_values(alloc, &by_value, &by_number)?;
         Ok(SymbolTable {
             nprim,
             records,
@@ -142,12 +143,11 @@ where
 
     /// How many primary names of the table are below the name of that value, in the order of their bytes. `None` exactly where
     /// no primary record declares the value.
-    #[tactic(auto, using(crate::proofs::Searches::rank_none))]
     pub fn rank(&self, value: u32) -> Option<u32>
         ensures { result ≡ rank_of K.name_of K.is_primary K.value_of self.now.records value }
     {
-        match self.by_value(value) {
-            Some(i) => Some(self.ranks[i as usize]),
+        match self.ranks.get(value as usize) {
+            Some(rank) => *rank,
             None => None,
         }
     }

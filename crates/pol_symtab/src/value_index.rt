@@ -1,7 +1,7 @@
-//! Where the primary record of a value stands.
+//! Where the primary record of a value stands, and the rank of its name.
 
-ghost use Rattle.std.specs.Prelude.{◌≡◌, ◌<◌, IfOk, length};
-ghost use Rattle.pol_symtab.specs.Inner.TableIndex.{HaveDistinctValues, IsValueIndex, declared_at};
+ghost use Rattle.std.specs.Prelude.{◌≡◌, ◌<◌, IfOk, length, map};
+ghost use Rattle.pol_symtab.specs.Inner.TableIndex.{HaveDistinctValues, IsValueIndex, declared_at, ranked};
 
 use crate::symbol::Symbol;
 use pol_cursor::Records;
@@ -41,5 +41,29 @@ where
         Some(K::value(&record))
     } else {
         None
+    }
+}
+
+/// By value: the rank of its primary record, of the ranks by the numbers of records.
+pub(crate) fn rank_values(
+    alloc: Global,
+    by_value: &[Option<u32>],
+    by_number: &[u32],
+) -> Result<Vec<Option<u32>>, AllocError>
+    ensures { IfOk result (λ ranks. ranks.items ≡ map (ranked by_number.now) by_value.now) }
+{
+    by_value
+        .iter()
+        .map(|entry| ranked(by_number, *entry))
+        .collect(alloc)
+}
+
+// The rank of the record of a number, where there is one.
+fn ranked(by_number: &[u32], entry: Option<u32>) -> Option<u32>
+    ensures { result ≡ ranked by_number.now entry }
+{
+    match entry {
+        Some(number) => by_number.get(number as usize).copied(),
+        None => None,
     }
 }

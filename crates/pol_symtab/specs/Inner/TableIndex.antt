@@ -6,7 +6,7 @@ use Rattle.std.specs.Str.{bytes_eq}
 use Rattle.std.specs.List.{count_by}
 use Rattle.std.specs.List.Sorted.{IsPermutation}
 use Rattle.pol_symtab.specs.declared.name_order.Entry.{Entry}
-use Rattle.pol_symtab.specs.SymbolTables.{primary_index, is_below, names_below}
+use Rattle.pol_symtab.specs.SymbolTables.{primary_index, is_below, names_below, rank_of}
 
 -- the names of the records, and the one of that number
 abbrev pub names_of : {A : Type 0} → (A → List ℕ) → List (Placed A) → List (List ℕ)
@@ -90,7 +90,15 @@ RankAll names ranks = (i : ℕ) (a : Named) → slice_get names i ≡ Some a →
 abbrev pub HasRanks : {A : Type 0} → (A → List ℕ) → (A → Bool) → List (Placed A) → List ℕ → Type 0
 HasRanks {A} name_of is_primary records ranks = (n : ℕ) (r : Placed A) → slice_get records n ≡ Some r → slice_get ranks n ≡ Some (names_below name_of is_primary records (name_of r.value))
 
-pub record IsIndexed {A : Type 0} (name_of : A → List ℕ) (is_primary : A → Bool) (value_of : A → ℕ) (records : List (Placed A)) (by_value : List (Option ℕ)) (by_name ranks : List ℕ) : Type 0 where
+-- the rank of the record of a number, where there is one
+abbrev pub ranked : List ℕ → Option ℕ → Option ℕ
+ranked ranks entry = option_and_then (slice_get ranks) entry
+
+-- each value leads to its rank
+abbrev pub IsRankIndex : {A : Type 0} → (A → List ℕ) → (A → Bool) → (A → ℕ) → List (Placed A) → List (Option ℕ) → Type 0
+IsRankIndex name_of is_primary value_of records ranks = (value : ℕ) → entry_of ranks value ≡ rank_of name_of is_primary value_of records value
+
+pub record IsIndexed {A : Type 0} (name_of : A → List ℕ) (is_primary : A → Bool) (value_of : A → ℕ) (records : List (Placed A)) (by_value : List (Option ℕ)) (by_name : List ℕ) (ranks : List (Option ℕ)) : Type 0 where
   pub values : IsValueIndex is_primary value_of records by_value
   pub names : IsNameOrder (names_of name_of records) by_name
-  pub rank : HasRanks name_of is_primary records ranks
+  pub rank : IsRankIndex name_of is_primary value_of records ranks

@@ -1,7 +1,8 @@
 use Rattle.std.proofs.Common.{◌≡◌, sym, ap, ◌∙◌, subst}
 use Rattle.std.specs.Prelude.{map}
 use Rattle.pol_symtab.specs.declared.name_order.Entry.{Entry}
-use Rattle.pol_symtab.specs.Inner.TableIndex.{Named, seen, AreNumbered, IsNameOrder, RankAll, names_of}
+use Rattle.pol_symtab.specs.Inner.TableIndex.{Named, seen, AreNumbered, IsNameOrder, IsRankIndex, IsValueIndex, RankAll, names_of}
+use Rattle.pol_symtab.proofs.Searches.{values_ranked}
 use Rattle.pol_symtab.proofs.SortedNames.{sorted_numbered, sorted_order, sorted_ranks, numbers_seen}
 use Rattle.pol_symtab.proofs.symbol_table.SymbolTable.index.Goals as goal
 
@@ -18,6 +19,10 @@ invariant_of-result g c =
     record {
       values = c.in_ok-by_value.ensures;
       names = subst (IsNameOrder (names_of g.K.SymbolKind.name_of c.args.records)) (sym numbers) (sorted_order g.K.SymbolKind.name_of g.K.SymbolKind.is_primary c.args.records names sorted);
-      rank = sorted_ranks g.K.SymbolKind.name_of g.K.SymbolKind.is_primary c.args.records names sorted c.in_ok-ranks.ranks.items
-          (subst (λ entries. RankAll (map seen entries) c.in_ok-ranks.ranks.items) c.deref-2.ensures.value c.in_ok-ranks.ensures);
+      rank = subst (IsRankIndex g.K.SymbolKind.name_of g.K.SymbolKind.is_primary g.K.SymbolKind.value_of c.args.records) (sym c.in_ok-ranks.ensures)
+          (values_ranked g.K.SymbolKind.name_of g.K.SymbolKind.is_primary g.K.SymbolKind.value_of c.args.records c.deref-4.result.now
+          (sorted_ranks g.K.SymbolKind.name_of g.K.SymbolKind.is_primary c.args.records names sorted c.deref-4.result.now
+          (subst (RankAll names) (sym c.deref-4.ensures.value) (subst (λ entries. RankAll (map seen entries) c.in_ok-by_number.by_number.items) c.deref-2.ensures.value c.in_ok-by_number.ensures)))
+          c.deref-3.result.now
+          (subst (IsValueIndex g.K.SymbolKind.is_primary g.K.SymbolKind.value_of c.args.records) (sym c.deref-3.ensures.value) c.in_ok-by_value.ensures));
     }
