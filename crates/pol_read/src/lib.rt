@@ -8,7 +8,8 @@ mod sorting;
 
 pub use pol_file::{TypeMap, TypeMapRow};
 pub use pol_rules::{
-    Condition, Rule, RuleEnds, RuleKey, RuleKind, RulePart, RuleRecord, rule_kind, vector_rule,
+    Condition, Rule, RuleEnds, RuleKey, RuleKind, RulePart, RuleRecord, rule_kind, vector_ends,
+    vector_rule,
 };
 pub use policy::{Policy, read};
 pub use rules_from::Rules;

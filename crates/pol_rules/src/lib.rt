@@ -17,5 +17,5 @@ pub use key_law::rule_keys_have_law;
 pub use rule::{Condition, Rule, RuleEnds, RuleKind, RulePart};
 pub use rule_index::{RuleIndex, index_rules};
 pub use rule_order::{RuleKey, rule_key};
-pub use rule_record::{RuleRecord, rule_kind, vector_rule};
+pub use rule_record::{RuleRecord, rule_kind, vector_ends, vector_rule};
 pub use rules::{ends_at, rule_at};

@@ -7,7 +7,7 @@ ghost use Rattle.rule_query.specs.Inner.Gathering.{HasMet, PassesOver, StandFrom
 use crate::numbered_rule::NumberedRule;
 use crate::query::Query;
 use crate::tests::Test;
-use pol_read::{Condition, Policy, RuleEnds, RuleRecord};
+use pol_read::{Condition, Policy, RuleEnds, RuleRecord, vector_ends};
 use rule_order::RuleKeys;
 use rule_tests::{AskedVectors, is_kind_asked};
 use std::alloc::AllocError;
@@ -93,7 +93,7 @@ impl Query {
     }
 
     // Adds the rule of that number, which stands in the table, if it meets the criteria.
-    #[tactic(auto, using(pol_rules::proofs::RuleSums::section_sizes))]
+    #[tactic(auto, using(pol_rules::proofs::RuleSums::table_first))]
     #[inline(always)]
     fn add_vector(
         &self,
@@ -105,7 +105,8 @@ impl Query {
         requires found { HasMet policy.now self.now number found.old }
         ensures { OnOk result (HasMet policy.now self.now (number + 1) found.new) }
     {
-        self.add_met(policy, number, policy.rule_ends(number), found)
+        let ends = vector_ends(policy.table().view(number).key());
+        self.add_met(policy, number, ends, found)
     }
 
     // Adds those under conditions, node by node, and tells the number of the rule behind them.
