@@ -1,30 +1,34 @@
--- What stands behind the ends of plain rules.
-use Rattle.std.proofs.Common.{◌≡◌, ◌∙◌, ℕ, List, ◌++◌, Option, Some, None, slice_get, sym, ap, append-nil}
-use Rattle.std.specs.Prelude.{codes}
+-- The texts of listed rules, put together.
+use Rattle.std.proofs.Common.{◌≡◌, ◌∙◌, ℕ, List, ◌++◌, Some, slice_get, sym, ap, append-nil, append_assoc}
 use Rattle.pol_file.specs.declared.Parts.{Parts}
-use Rattle.pol_rules.specs.StoredRules.{StoredRule, stored_rules}
-use Rattle.pol_rules.specs.declared.rule.Condition.{Condition}
+use Rattle.pol_rules.specs.StoredRules.{StoredRule, ends_of, stored_rules}
 use Rattle.pol_symbols.specs.PolicySymbols.{name_in}
 use Rattle.rule_text.specs.ConditionTexts.{condition_text}
 use Rattle.rule_text.specs.Inner.RuleFrames.{given_text}
-use Rattle.rule_text.specs.RuleTexts.{class_text, file_name_text, part_text, rest_text}
-use Rattle.rule_listing.specs.declared.listed_rule.PlainRest.{PlainRest}
-use Rattle.rule_listing.specs.Inner.ReadRules.{HasPlainRest, plain_rest_text, rest_found, rest_of_number}
+use Rattle.rule_text.specs.RuleTexts.{rest_text, rule_text, text_found, text_of_rule}
+use Rattle.rule_listing.specs.declared.plain_vector.PlainVector.{PlainVector}
+use Rattle.rule_listing.specs.Inner.KeptTexts.{begun_text, ended_text}
+use Rattle.rule_listing.specs.Inner.PlainVectors.{rule_of_vector}
 
-unnamed : (name : Option (List ℕ)) (text : List ℕ) → name ≡ None → text ≡ text ++ file_name_text name
-unfolding file_name_text
-unnamed None text none = sym (append-nil text)
-unnamed (Some name) text none = absurd (cc none)
+-- a rule that is added: its ends, what it gives with the end, and its condition
+pub whole_added : (policy : Parts) (rule : StoredRule) (before : List ℕ)
+    → before ++ begun_text policy.symbols (ends_of rule) ++ ended_text policy.symbols rule ++ condition_text (name_in policy.symbols) policy.rules.conditionals rule.condition ≡ before ++ rule_text policy rule
+unfolding rule_text rest_text given_text
+whole_added policy rule before =
+    let begun = begun_text policy.symbols (ends_of rule) in
+    let ended = ended_text policy.symbols rule in
+    let under = condition_text (name_in policy.symbols) policy.rules.conditionals rule.condition in
+    ap (λ (text : List ℕ). text ++ under) (append_assoc before begun ended) ∙ append_assoc before (begun ++ ended) under ∙ ap (λ (text : List ℕ). before ++ text) (append_assoc begun ended under)
 
--- what stands behind the ends of a plain rule
-plain_rest_is : (policy : Parts) (rule : StoredRule) (rest : PlainRest) → HasPlainRest policy rule rest → plain_rest_text policy rest ≡ rest_text policy rule
-unfolding rest_text given_text
-plain_rest_is policy rule rest plain =
-    let under : Option Condition → List ℕ = condition_text (name_in policy.symbols) policy.rules.conditionals in
-    let given = class_text policy.symbols rule.kind rule.class ++ part_text policy.symbols rule.kind rule.class rule.part in
-    ap (λ (text : List ℕ). text ++ codes ";" ++ under rest.condition) plain.given ∙ ap (λ (condition : Option Condition). given ++ codes ";" ++ under condition) (sym plain.condition)
-    ∙ ap (λ (text : List ℕ). text ++ codes ";" ++ under rule.condition) (unnamed rule.name given plain.name)
+-- one that stands under no condition
+pub vector_added : (policy : Parts) (vector : PlainVector) (before : List ℕ)
+    → before ++ begun_text policy.symbols (ends_of (rule_of_vector vector)) ++ ended_text policy.symbols (rule_of_vector vector) ≡ before ++ rule_text policy (rule_of_vector vector)
+unfolding condition_text
+vector_added policy vector before =
+    let rule = rule_of_vector vector in
+    sym (append-nil (before ++ begun_text policy.symbols (ends_of rule) ++ ended_text policy.symbols rule)) ∙ whole_added policy rule before
 
--- so is that of the rule of a number
-pub rest_of_plain : (policy : Parts) (number : ℕ) (rule : StoredRule) (rest : PlainRest) → slice_get (stored_rules policy) number ≡ Some rule → HasPlainRest policy rule rest → plain_rest_text policy rest ≡ rest_of_number policy number
-rest_of_plain policy number rule rest there plain = plain_rest_is policy rule rest plain ∙ sym (ap (rest_found policy) there)
+-- the text of the stored rule of a number
+pub text_of_stored : (policy : Parts) (number : ℕ) (rule : StoredRule) → slice_get (stored_rules policy) number ≡ Some rule → rule_text policy rule ≡ text_of_rule policy number
+unfolding text_of_rule
+text_of_stored policy number rule there = sym (ap (text_found policy) there)

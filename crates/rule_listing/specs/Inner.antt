@@ -1,2 +1,3 @@
 pub mod KeptTexts
+pub mod PlainVectors
 pub mod ReadRules

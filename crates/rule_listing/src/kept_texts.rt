@@ -1,15 +1,17 @@
 //! The texts that rules have in common, as far as they were written last.
 
-ghost use Rattle.std.specs.Prelude.{◌≡◌, ◌<◌, ◌++◌, OnOk, IfOk, IfSome};
+ghost use Rattle.std.specs.Prelude.{◌≡◌, ◌<◌, ◌++◌, [], OnOk, IfOk, IfSome};
 ghost use Rattle.pol_symbols.specs.PolicySymbols.{name_in};
 ghost use Rattle.pol_rules.specs.DeclaredRules.{StandsUnder};
+ghost use Rattle.pol_rules.specs.StoredRules.{stored};
 ghost use Rattle.pol_file.specs.declared.Parts.{Parts};
 ghost use Rattle.rule_text.specs.ConditionTexts.{condition_text};
-ghost use Rattle.rule_text.specs.Inner.RuleFrames.{given_text};
-ghost use Rattle.rule_listing.specs.Inner.KeptTexts.{AreKept, IsGivenBy, IsKept, text_of};
+ghost use Rattle.rule_listing.specs.Inner.KeptTexts.{AreKept, IsKept, ended_text, text_of};
+ghost use Rattle.rule_listing.specs.Inner.PlainVectors.{rule_of_vector};
 
+use crate::plain_vector::PlainVector;
 use pol_read::{Condition, Policy, Rule, RuleKind, RulePart};
-use rule_text::{RuleTexts, push_condition};
+use rule_text::{RuleTexts, push_condition, push_end};
 use std::alloc::{AllocError, Global};
 use std::marker::Model;
 
@@ -22,13 +24,13 @@ const LONGEST: usize = 4096;
 /// What a text is of that rules have in common.
 #[derive(Clone, Copy, PartialEq, Eq)]
 pub(crate) enum TextKey {
-    /// A class and permissions of it by a mask, as the rules of a kind give them.
+    /// A class and permissions of it by a mask, as the rules of a kind give them, with the end behind it.
     Perms {
         kind: RuleKind,
         class: u32,
         mask: u32,
     },
-    /// A class and a default by its value, as the rules of a kind give it.
+    /// A class and a default by its value, as the rules of a kind give it, with the end behind it.
     Default {
         kind: RuleKind,
         class: u32,
@@ -39,11 +41,13 @@ pub(crate) enum TextKey {
 }
 
 impl TextKey {
-    /// What a rule gives, where it does so by one number.
-    #[inline(always)]
-    pub(crate) fn given(rule: &Rule<'_>) -> Option<TextKey>
-        ensures { (policy : Parts) → IfSome result (λ key. text_of policy key ≡ given_text policy.symbols rule.now.kind rule.now.class rule.now.part) }
+    // What a rule gives, with the end behind it, where it gives it by one number and names no new object.
+    fn of(rule: &Rule<'_>) -> Option<TextKey>
+        ensures { (policy : Parts) → IfSome result (λ key. text_of policy key ≡ ended_text policy.symbols (stored rule.now)) }
     {
+        if rule.name.is_some() {
+            return None;
+        }
         let kind = rule.kind;
         let class = rule.class;
         match rule.part {
@@ -112,42 +116,39 @@ impl<'p, 'a> KeptTexts<'p, 'a> {
         self.texts.policy()
     }
 
-    /// Adds the class of a rule and what the rule gives.
-    pub(crate) fn push_given(
+    /// Adds the class of a rule, what the rule gives, and the end.
+    pub(crate) fn push_ended(
         &mut self,
         rule: &Rule<'a>,
         buffer: &mut Vec<u8>,
     ) -> Result<(), AllocError>
         ensures policy { self.new ≡ self.old }
-        ensures text { OnOk result (buffer.new.items ≡ buffer.old.items ++ given_text self.old.symbols rule.now.kind rule.now.class rule.now.part) }
+        ensures text { OnOk result (buffer.new.items ≡ buffer.old.items ++ ended_text self.old.symbols (stored rule.now)) }
     {
-        let Some(key) = TextKey::given(rule) else {
-            return self.texts.push_given(buffer, rule);
+        let Some(key) = TextKey::of(rule) else {
+            return self.push_made(rule, buffer);
         };
         if let Some(text) = self.text(key) {
             return buffer.extend_from_slice(text);
         }
-        let start = buffer.len();
-        self.texts.push_given(buffer, rule)?;
-        self.keep(key, &buffer[start..])
+        self.push_first(key, rule, buffer)
     }
 
-    /// Adds the text of a key, which is what the stored rule of that number gives.
-    pub(crate) fn push_by_key(
+    /// Adds the same of an access vector.
+    #[inline(always)]
+    pub(crate) fn push_vector(
         &mut self,
-        key: TextKey,
-        number: u32,
+        vector: &PlainVector,
         buffer: &mut Vec<u8>,
     ) -> Result<(), AllocError>
-        requires { IsGivenBy self.old number key }
         ensures policy { self.new ≡ self.old }
-        ensures text { OnOk result (buffer.new.items ≡ buffer.old.items ++ text_of self.old key) }
+        ensures text { OnOk result (buffer.new.items ≡ buffer.old.items ++ ended_text self.old.symbols (rule_of_vector vector.now)) }
     {
+        let key = vector.text_key();
         if let Some(text) = self.text(key) {
             return buffer.extend_from_slice(text);
         }
-        let rule = self.policy().rule(number);
-        self.push_given(&rule, buffer)
+        self.push_first(key, &vector.rule(), buffer)
     }
 
     /// Adds the condition behind a rule, or nothing where it stands under none.
@@ -173,6 +174,32 @@ impl<'p, 'a> KeptTexts<'p, 'a> {
         self.keep(key, &buffer[start..])
     }
 
+    // Adds the text of a key, which is what a rule gives with the end behind it, and keeps it.
+    #[inline(never)]
+    fn push_first(
+        &mut self,
+        key: TextKey,
+        rule: &Rule<'a>,
+        buffer: &mut Vec<u8>,
+    ) -> Result<(), AllocError>
+        requires { text_of self.old key ≡ ended_text self.old.symbols (stored rule.now) }
+        ensures policy { self.new ≡ self.old }
+        ensures text { OnOk result (buffer.new.items ≡ buffer.old.items ++ ended_text self.old.symbols (stored rule.now)) }
+    {
+        let start = buffer.len();
+        self.push_made(rule, buffer)?;
+        self.keep(key, &buffer[start..])
+    }
+
+    // Adds the class of a rule, what the rule gives, and the end. No text that is kept is used.
+    fn push_made(&mut self, rule: &Rule<'a>, buffer: &mut Vec<u8>) -> Result<(), AllocError>
+        ensures policy { self.new ≡ self.old }
+        ensures text { OnOk result (buffer.new.items ≡ buffer.old.items ++ ended_text self.old.symbols (stored rule.now)) }
+    {
+        self.texts.push_given(buffer, rule)?;
+        push_end(buffer, rule)
+    }
+
     // The text of a key, where it is kept.
     fn text(&self, key: TextKey) -> Option<&[u8]>
         ensures { IfSome result (λ text. text.now ≡ text_of self.now key) }
@@ -180,16 +207,34 @@ impl<'p, 'a> KeptTexts<'p, 'a> {
         text_in(&self.slots[key.slot()], key)
     }
 
-    // Keeps the text of a key, unless it is long.
+    // Keeps the text of a key, unless it is long. What its slot kept gives its memory.
     fn keep(&mut self, key: TextKey, text: &[u8]) -> Result<(), AllocError>
         requires { text.now ≡ text_of self.old key }
         ensures { self.new ≡ self.old }
     {
-        if text.len() <= LONGEST {
-            let text = Vec::from_slice(*self.slots.allocator(), text)?;
-            self.slots[key.slot()] = Some(KeptText { key, text });
+        if text.len() > LONGEST {
+            return Ok(());
         }
+        let alloc = *self.slots.allocator();
+        let place = key.slot();
+        let mut kept = emptied(alloc, self.slots[place].take());
+        kept.extend_from_slice(text)?;
+        self.slots[place] = Some(KeptText { key, text: kept });
         Ok(())
+    }
+}
+
+// No text, in the memory of one that was kept.
+fn emptied(alloc: Global, kept: Option<KeptText>) -> Vec<u8>
+    ensures { result.items ≡ [] }
+{
+    match kept {
+        Some(kept) => {
+            let KeptText { mut text, .. } = kept;
+            text.clear();
+            text
+        }
+        None => Vec::new(alloc),
     }
 }
 

@@ -1,17 +1,18 @@
 //! The texts of whole rules in the order in which rules are listed.
 
-ghost use Rattle.std.specs.Prelude.{◌≡◌, ◌++◌, OnOk, IfOk};
-ghost use Rattle.pol_rules.specs.StoredRules.{stored};
+ghost use Rattle.std.specs.Prelude.{◌≡◌, ◌<◌, ◌++◌, OnOk, IfOk, length};
+ghost use Rattle.pol_rules.specs.StoredRules.{stored, stored_rules};
 ghost use Rattle.pol_rules.specs.DeclaredRules.{StandsUnder};
-ghost use Rattle.rule_listing.specs.Inner.KeptTexts.{IsGivenBy};
-ghost use Rattle.rule_listing.specs.Inner.ReadRules.{IsStored, plain_rest_text, rest_of_number};
-ghost use Rattle.rule_text.specs.RuleTexts.{rest_text, text_of_rule};
+ghost use Rattle.rule_listing.specs.Inner.PlainVectors.{rule_of_vector};
+ghost use Rattle.rule_listing.specs.Inner.KeptTexts.{begun_text};
+ghost use Rattle.rule_text.specs.RuleTexts.{rule_text, text_of_rule};
 
 use crate::kept_head::KeptHead;
 use crate::kept_texts::KeptTexts;
-use crate::listed_rule::{ListedRule, PlainRest};
-use pol_read::{Policy, Rule};
-use rule_text::{RuleTexts, TypeNames, push_end};
+use crate::listed_rule::ListedRule;
+use crate::plain_vector::PlainVector;
+use pol_read::{Policy, Rule, RuleEnds};
+use rule_text::{RuleTexts, TypeNames};
 use std::alloc::{AllocError, Global};
 use std::marker::Model;
 
@@ -59,68 +60,57 @@ impl<'p, 'a> ListedTexts<'p, 'a> {
     }
 
     /// Adds the text of a stored rule, without a line feed.
-    #[tactic(auto, unfolding(rule_text::specs::RuleTexts::text_of_rule, rule_text::specs::RuleTexts::rule_text, rule_text::specs::RuleTexts::ends_text, rule_text::specs::Inner::RuleFrames::head_text))]
+    #[tactic(auto, using(crate::proofs::PlainTexts::text_of_stored))]
     pub fn push_rule(&mut self, rule: ListedRule, buffer: &mut Vec<u8>) -> Result<(), AllocError>
-        requires { IsStored self.old rule }
+        requires { rule.number < length (stored_rules self.old) }
         ensures policy { self.new ≡ self.old }
         ensures text { OnOk result (buffer.new.items ≡ buffer.old.items ++ text_of_rule self.old rule.number) }
     {
-        let policy = self.texts.policy();
-        let symbols = policy.symbols();
-        let ends = rule.ends;
+        let policy = self.policy();
+        match rule.vector(policy) {
+            Some(vector) => self.push_vector(&vector, buffer),
+            None => self.push_whole(&policy.rule(rule.number), buffer),
+        }
+    }
+
+    // Adds the text of an access vector that stands under no condition.
+    #[inline(always)]
+    fn push_vector(&mut self, vector: &PlainVector, buffer: &mut Vec<u8>) -> Result<(), AllocError>
+        ensures policy { self.new ≡ self.old }
+        ensures text { OnOk result (buffer.new.items ≡ buffer.old.items ++ rule_text self.old (rule_of_vector vector.now)) }
+    {
+        self.push_ends(vector.ends(), buffer)?;
+        self.texts.push_vector(vector, buffer)
+    }
+
+    // Adds the text of any rule.
+    #[inline(never)]
+    fn push_whole(&mut self, rule: &Rule<'a>, buffer: &mut Vec<u8>) -> Result<(), AllocError>
+        requires { StandsUnder self.old.rules.conditionals rule.now.condition }
+        ensures policy { self.new ≡ self.old }
+        ensures text { OnOk result (buffer.new.items ≡ buffer.old.items ++ rule_text self.old (stored rule.now)) }
+    {
+        let ends = RuleEnds {
+            kind: rule.kind,
+            source: rule.source,
+            target: rule.target,
+            class: rule.class,
+        };
+        self.push_ends(ends, buffer)?;
+        self.texts.push_ended(rule, buffer)?;
+        self.texts.push_condition(rule.condition, buffer)
+    }
+
+    // Adds the first word of a rule, and its ends.
+    #[tactic(auto, unfolding(rule_text::specs::RuleTexts::ends_text, rule_text::specs::Inner::RuleFrames::head_text))]
+    #[inline(always)]
+    fn push_ends(&mut self, ends: RuleEnds, buffer: &mut Vec<u8>) -> Result<(), AllocError>
+        ensures policy { self.new ≡ self.old }
+        ensures text { OnOk result (buffer.new.items ≡ buffer.old.items ++ begun_text self.old.symbols ends) }
+    {
+        let symbols = self.texts.policy().symbols();
         self.head.push(symbols, ends.kind, ends.source, buffer)?;
         self.names
-            .push_target(symbols, ends.kind, ends.target, buffer)?;
-        push_rest_of(&mut self.texts, &rule, buffer)
+            .push_target(symbols, ends.kind, ends.target, buffer)
     }
-}
-
-// Adds what stands behind the ends of a listed rule.
-fn push_rest_of(
-    texts: &mut KeptTexts<'_, '_>,
-    rule: &ListedRule,
-    buffer: &mut Vec<u8>,
-) -> Result<(), AllocError>
-    requires { IsStored texts.old rule.now }
-    ensures policy { texts.new ≡ texts.old }
-    ensures text { OnOk result (buffer.new.items ≡ buffer.old.items ++ rest_of_number texts.old rule.now.number) }
-{
-    let policy = texts.policy();
-    match rule.rest(policy) {
-        Some(rest) => push_plain(texts, rule.number, rest, buffer),
-        None => push_rest(texts, &policy.rule(rule.number), buffer),
-    }
-}
-
-// Adds what stands behind the ends of the stored rule of that number, which is plain.
-fn push_plain(
-    texts: &mut KeptTexts<'_, '_>,
-    number: u32,
-    rest: PlainRest,
-    buffer: &mut Vec<u8>,
-) -> Result<(), AllocError>
-    requires given { IsGivenBy texts.old number rest.given }
-    requires under { StandsUnder texts.old.rules.conditionals rest.condition }
-    ensures policy { texts.new ≡ texts.old }
-    ensures text { OnOk result (buffer.new.items ≡ buffer.old.items ++ plain_rest_text texts.old rest) }
-{
-    texts.push_by_key(rest.given, number, buffer)?;
-    buffer.push(b';')?;
-    texts.push_condition(rest.condition, buffer)
-}
-
-// Adds what stands behind the ends of a rule.
-#[tactic(auto, unfolding(rule_text::specs::RuleTexts::rest_text, rule_text::specs::Inner::RuleFrames::given_text))]
-fn push_rest<'a>(
-    texts: &mut KeptTexts<'_, 'a>,
-    rule: &Rule<'a>,
-    buffer: &mut Vec<u8>,
-) -> Result<(), AllocError>
-    requires { StandsUnder texts.old.rules.conditionals rule.now.condition }
-    ensures policy { texts.new ≡ texts.old }
-    ensures text { OnOk result (buffer.new.items ≡ buffer.old.items ++ rest_text texts.old (stored rule.now)) }
-{
-    texts.push_given(rule, buffer)?;
-    push_end(buffer, rule)?;
-    texts.push_condition(rule.condition, buffer)
 }

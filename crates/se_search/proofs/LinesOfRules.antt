@@ -1,8 +1,9 @@
 -- The lines of rules that were looked at are those of their numbers.
-use Rattle.std.proofs.Common.{◌≡◌, ◌∙◌, ℕ, Bool, true, false, List, [], ◌∷◌, ◌++◌, map, ap}
+use Rattle.std.proofs.Common.{◌≡◌, ◌∙◌, ℕ, ◌<◌, Bool, true, false, List, [], ◌∷◌, ◌++◌, length, map, ap, subst, sym}
 use Rattle.pol_file.specs.declared.Parts.{Parts}
 use Rattle.rule_listing.specs.declared.listed_rule.ListedRule.{ListedRule}
-use Rattle.rule_listing.specs.Inner.ReadRules.{IsOfFirst, IsStored, PassesNumber}
+use Rattle.pol_rules.specs.StoredRules.{stored_rules}
+use Rattle.rule_listing.specs.Inner.ReadRules.{IsOfFirst, PassesNumber}
 use Rattle.se_items.specs.Inner.Items.{Passes, PushesItem}
 use Rattle.se_search.specs.SearchAnswer.{rule_line}
 
@@ -17,11 +18,11 @@ pub line-pushed : (policy : Parts) (rule : ListedRule) (old new : List ℕ) (had
 line-pushed policy rule [] new had has more first passes is = absurd first
 line-pushed policy rule (number ∷ numbers) new had has true first passes is =
     let e : number ∷ numbers ≡ passes.0 ∷ new = passes.1 in
-    let same : rule.number ≡ passes.0 = cc (e, first.number) in
+    let same : rule.number ≡ passes.0 = cc (e, first.0) in
     (rule_line policy passes.0, ap (map (rule_line policy)) e, is ∙ ap (λ (n : ℕ). had ++ rule_line policy n) same)
 line-pushed policy rule (number ∷ numbers) new had has false first passes is = absurd (cc passes.0)
 
--- the first of those that are left is stored
-pub first_stored : (policy : Parts) (numbers : List ℕ) (rule : ListedRule) → IsOfFirst policy numbers rule → IsStored policy rule
+-- the first of those that are left is the number of a stored rule
+pub first_stored : (policy : Parts) (numbers : List ℕ) (rule : ListedRule) → IsOfFirst policy numbers rule → rule.number < length (stored_rules policy)
 first_stored policy [] rule first = absurd first
-first_stored policy (number ∷ numbers) rule first = first.stored
+first_stored policy (number ∷ numbers) rule first = subst (λ (n : ℕ). n < length (stored_rules policy)) (sym first.0) first.1

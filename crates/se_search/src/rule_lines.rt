@@ -1,12 +1,12 @@
 // The lines of rules, as items that are written one after the other.
-ghost use Rattle.std.specs.Prelude.{◌≡◌, ◌++◌, IfOk, OnOk, map};
+ghost use Rattle.std.specs.Prelude.{◌≡◌, ◌<◌, ◌++◌, OnOk, length, map};
 ghost use Rattle.rule_order.specs.ListedOrder.{AreRules};
-ghost use Rattle.rule_listing.specs.Inner.ReadRules.{IsStored};
+ghost use Rattle.pol_rules.specs.StoredRules.{stored_rules};
 ghost use Rattle.se_search.specs.SearchAnswer.{rule_line};
 
 use rule_listing::{ListedRule, ListedTexts, RulesAhead};
 use se_items::Items;
-use std::alloc::{AllocError, Global};
+use std::alloc::AllocError;
 
 /// The lines of the stored rules of some numbers.
 #[derive(Drop)]
@@ -20,16 +20,12 @@ impl<'q, 'p, 'a> RuleLines<'q, 'p, 'a> {
     ghost use Rattle.se_search.specs.Inner.RuleLines.{lines_left};
 
     /// Those of the rules of a policy, which are read when their lines are made.
-    pub fn new(
-        alloc: Global,
-        texts: ListedTexts<'p, 'a>,
-        numbers: &'q [u32],
-    ) -> Result<RuleLines<'q, 'p, 'a>, AllocError>
+    pub fn new(texts: ListedTexts<'p, 'a>, numbers: &'q [u32]) -> RuleLines<'q, 'p, 'a>
         requires { AreRules texts numbers.now }
-        ensures { IfOk result (λ lines. lines_left lines ≡ map (rule_line texts.entry) numbers.now) }
+        ensures { lines_left result ≡ map (rule_line texts.entry) numbers.now }
     {
-        let rules = RulesAhead::new(alloc, texts.policy(), numbers)?;
-        Ok(RuleLines { texts, rules })
+        let rules = RulesAhead::new(texts.policy(), numbers);
+        RuleLines { texts, rules }
     }
 }
 
@@ -43,7 +39,6 @@ impl Items for RuleLines<'_, '_, '_> {
     }
 
     fn push_next(&mut self, buffer: &mut Vec<u8>) -> Result<bool, AllocError> {
-        self.rules.read();
         let Some(rule) = self.rules.front() else {
             return Ok(false);
         };
@@ -59,7 +54,7 @@ fn push_line(
     rule: ListedRule,
     buffer: &mut Vec<u8>,
 ) -> Result<(), AllocError>
-    requires { IsStored texts.old rule }
+    requires { rule.number < length (stored_rules texts.old) }
     ensures policy { texts.new ≡ texts.old }
     ensures line { OnOk result (buffer.new.items ≡ buffer.old.items ++ rule_line texts.old rule.number) }
 {

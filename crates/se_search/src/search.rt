@@ -95,9 +95,7 @@ fn write_rules<S: Sink>(
     let Ok(texts) = ListedTexts::new(alloc, policy) else {
         return Err(WriteEnd::Memory);
     };
-    let Ok(mut lines) = RuleLines::new(alloc, texts, listed(&numbers)) else {
-        return Err(WriteEnd::Memory);
-    };
+    let mut lines = RuleLines::new(texts, listed(&numbers));
     write_page(alloc, &mut lines, asks.from, asks.limit, out)
 }
 

@@ -1,10 +1,13 @@
 -- Texts that are kept from line to line: what serves the code alone.
-use Rattle.std.specs.Prelude.{◌≡◌, ℕ, List, Option, Some, None, ⊤, length, slice_get}
+use Rattle.std.specs.Prelude.{◌≡◌, ℕ, List, ◌++◌, Option, Some, None, ⊤, codes, length}
 use Rattle.std.specs.List.{All}
 use Rattle.pol_symbols.specs.PolicySymbols.{name_in}
 use Rattle.pol_symbols.specs.declared.Symbols.{Symbols}
 use Rattle.pol_file.specs.declared.Parts.{Parts}
-use Rattle.pol_rules.specs.StoredRules.{StoredRule, stored_rules}
+use Rattle.pol_rules.specs.StoredRules.{StoredRule}
+use Rattle.pol_rules.specs.declared.rule.RuleEnds.{RuleEnds}
+use Rattle.pol_rules.specs.declared.rule.RuleKind.{RuleKind}
+use Rattle.pol_rules.specs.declared.rule.RulePart.{RulePart}
 use Rattle.pol_rules.specs.declared.rule.RulePart.TheVariants as parts
 use Rattle.rule_listing.specs.declared.kept_head.HeadKey.{HeadKey}
 use Rattle.rule_listing.specs.declared.kept_head.KeptHead.{KeptHead}
@@ -12,6 +15,7 @@ use Rattle.rule_listing.specs.declared.kept_texts.KeptText.{KeptText}
 use Rattle.rule_listing.specs.declared.kept_texts.TextKey.{TextKey}
 use Rattle.rule_listing.specs.declared.kept_texts.TextKey.TheVariants.{Perms, Default, Under}
 use Rattle.rule_text.specs.Inner.RuleFrames.{head_text, given_text}
+use Rattle.rule_text.specs.RuleTexts.{ends_text, file_name_text, keyword}
 use Rattle.rule_text.specs.ConditionTexts.{condition_text}
 
 -- A kept text is the head of its kind and source.
@@ -22,19 +26,22 @@ IsHeadOf symbols text (Some key) = text ≡ head_text symbols key.kind key.sourc
 abbrev pub IsHead : Symbols → KeptHead → Type 0
 IsHead symbols head = IsHeadOf symbols head.text.items head.key
 
+-- what a rule begins with: its first word, and its ends
+abbrev pub begun_text : Symbols → RuleEnds → List ℕ
+begun_text symbols ends = keyword ends.kind ++ codes " " ++ ends_text symbols ends.kind ends.source ends.target
+
+-- what stands between its ends and its condition
+abbrev pub ended_with : Symbols → RuleKind → ℕ → RulePart → Option (List ℕ) → List ℕ
+ended_with symbols kind class part name = given_text symbols kind class part ++ file_name_text name ++ codes ";"
+
+abbrev pub ended_text : Symbols → StoredRule → List ℕ
+ended_text symbols rule = ended_with symbols rule.kind rule.class rule.part rule.name
+
 -- the text of what a key stands for
 abbrev pub text_of : Parts → TextKey → List ℕ
-text_of policy (Perms kind class mask) = given_text policy.symbols kind class (parts.Perms mask)
-text_of policy (Default kind class value) = given_text policy.symbols kind class (parts.Default value)
+text_of policy (Perms kind class mask) = ended_with policy.symbols kind class (parts.Perms mask) None
+text_of policy (Default kind class value) = ended_with policy.symbols kind class (parts.Default value) None
 text_of policy (Under condition) = condition_text (name_in policy.symbols) policy.rules.conditionals (Some condition)
-
--- The text of a key is what the stored rule of a number gives.
-abbrev pub Gives : Parts → TextKey → Option StoredRule → Type 0
-Gives policy key None = ⊥
-Gives policy key (Some rule) = text_of policy key ≡ given_text policy.symbols rule.kind rule.class rule.part
-
-abbrev pub IsGivenBy : Parts → ℕ → TextKey → Type 0
-IsGivenBy policy number key = Gives policy key (slice_get (stored_rules policy) number)
 
 -- What a slot keeps, if it does, is the text of its key.
 abbrev pub IsKept : Parts → Option KeptText → Type 0
