@@ -105,27 +105,6 @@ impl<'a> ClassView<'a> {
         ConstraintList::at(self.bytes, place + 4, self.version, count)
     }
 
-    /// How many permissions of its own it has.
-    pub fn permission_count(&self) -> u32
-        ensures { result ≡ length self.now.value.permissions }
-    {
-        self.permissions().len()
-    }
-
-    /// How many constraints on its permissions it has.
-    pub fn constraint_count(&self) -> u32
-        ensures { result ≡ length self.now.value.constraints }
-    {
-        self.constraints().len()
-    }
-
-    /// How many constraints on a change of context it has.
-    pub fn validatetrans_count(&self) -> u32
-        ensures { result ≡ length self.now.value.validatetrans }
-    {
-        self.validatetrans().len()
-    }
-
     /// Whose user a new object has: 0 not said, 1 the source's, 2 the target's.
     pub fn default_user(&self) -> u32
         ensures { result ≡ self.now.value.default_user }

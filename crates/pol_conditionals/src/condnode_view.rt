@@ -1,4 +1,4 @@
-ghost use Rattle.std.specs.Prelude.{◌≡◌, ◌+◌, ◌<◌, ◌≤◌, true, false, Some, IfOk, OnOk, slice_get, length};
+ghost use Rattle.std.specs.Prelude.{◌≡◌, ◌+◌, ◌≤◌, true, false, IfOk, OnOk, length};
 ghost use Rattle.std.specs.List.{flat_map};
 ghost use Rattle.pol_cursor.specs.Outcome.{Answers};
 ghost use Rattle.pol_cursor.specs.References.{dangling_of, values_of};
@@ -7,7 +7,7 @@ ghost use Rattle.pol_avtab.specs.AvRecord.{av_references};
 ghost use Rattle.pol_conditionals.specs.CondNodeRecord.{conditional_rules_at, condnode_at, condnode_in, condnode_end, HasCondNode, HasRules, rules_in, rules_end, true_count_place, false_count_place, node_condition, branch_rules, condnode_references};
 
 use crate::condnode_rec::CondNodeRec;
-use pol_avtab::{Av, AvView};
+use pol_avtab::Av;
 use pol_cursor::{Cursor, Names, Run, end_of_run, read_run, u32_in};
 use pol_expr::{ConditionView, read_condition};
 use pol_fields::fields::{CONDNODE_NFALSE, CONDNODE_NTRUE};
@@ -84,36 +84,6 @@ impl<'a> CondNodeView<'a> {
         }
     }
 
-    /// How many rules hold where the condition is true.
-    pub fn ntrue(&self) -> u32
-        ensures { result ≡ length (branch_rules self.now true) }
-    {
-        self.true_rules().len()
-    }
-
-    /// How many rules hold where it is false.
-    pub fn nfalse(&self) -> u32
-        ensures { result ≡ length (branch_rules self.now false) }
-    {
-        self.false_rules().len()
-    }
-
-    /// The rule of that number, from 0 on, of those that hold where the condition is true. It goes through the ones before.
-    pub fn true_view(&self, i: u32) -> AvView<'a>
-        requires { i < length (branch_rules self.now true) }
-        ensures { slice_get (branch_rules self.now true) i ≡ Some result }
-    {
-        self.true_rules().view(i)
-    }
-
-    /// The same of those that hold where it is false.
-    pub fn false_view(&self, i: u32) -> AvView<'a>
-        requires { i < length (branch_rules self.now false) }
-        ensures { slice_get (branch_rules self.now false) i ≡ Some result }
-    {
-        self.false_rules().view(i)
-    }
-
     /// The first boolean of the condition, or then the first reference of the rules, that no record declares, as a fault at
     /// its field.
     #[tactic(auto, using(pol_cursor::proofs::DanglingLists::dangling_none, pol_cursor::proofs::DanglingLists::undeclared_first))]
@@ -129,7 +99,7 @@ impl<'a> CondNodeView<'a> {
         }
     }
 
-    /// The same node, owned.
+    /// The node, owned.
     #[tactic(auto, using(crate::proofs::RulePlaces::values_placed))]
     pub fn rec(&self, alloc: Global) -> Result<CondNodeRec, AllocError>
         ensures { IfOk result (λ node. node ≡ self.now.value) }

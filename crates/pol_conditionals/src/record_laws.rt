@@ -12,7 +12,8 @@ pub fn conditional_nodes_have_laws()
     ensures spelled { (version : ℕ) → IsReadFromSpelling (condnode_at version) spell_condnode CondNodeFits }
 {}
 
-/// The same of the list of conditional nodes, which is read with their places as without them.
+/// A list of conditional nodes that is spelled and accepted is read again, and one that was read is spelled by the bytes that it was
+/// read from. It is read with the places of the nodes as without them.
 pub fn conditionals_have_laws()
     ensures again { (version : ℕ) → IsReadAgain (plain_conditionals_at version) spell_conditionals ConditionalsFit }
     ensures spelled { (version : ℕ) → IsReadFromSpelling (plain_conditionals_at version) spell_conditionals ConditionalsFit }

@@ -1,6 +1,6 @@
 //! The booleans of a condition.
 
-ghost use Rattle.std.specs.Prelude.{◌≡◌, ◌↔◌, ◌++◌, ℕ, IfOk, IsTrue, OnOk, Contains};
+ghost use Rattle.std.specs.Prelude.{◌≡◌, ◌↔◌, ◌++◌, ℕ, IfOk, OnOk, Contains};
 ghost use Rattle.pol_bitmap.specs.Nodes.{bits_of};
 ghost use Rattle.pol_expr.specs.ConditionMeaning.{item_booleans, booleans_in};
 
@@ -20,25 +20,6 @@ impl<'a> ConditionView<'a> {
         }
         set_of(alloc, booleans)
     }
-
-    /// Whether the expression has the boolean of that value. Takes no memory.
-    pub fn has_boolean(&self, boolean: u32) -> bool
-        ensures { IsTrue result ↔ Contains (booleans_in self.now.value.items) boolean }
-    {
-        for i in 0..self.len() {
-            if is_boolean(self.item(i), boolean) {
-                return true;
-            }
-        }
-        false
-    }
-}
-
-// Whether an item is that boolean.
-fn is_boolean(item: ConditionItem, boolean: u32) -> bool
-    ensures { IsTrue result ↔ Contains (item_booleans item) boolean }
-{
-    item.kind == 1 && item.boolean == boolean
 }
 
 // Appends the boolean that an item is, where it is one.
