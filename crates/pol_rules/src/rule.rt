@@ -1,4 +1,8 @@
+ghost use Rattle.std.specs.Prelude.{◌≡◌};
+ghost use Rattle.pol_rules.specs.RuleOrder.{source_table, target_table};
+
 use pol_avtab::XPerms;
+use pol_fields::TableKind;
 use pol_mls::RangeView;
 
 /// The kinds of rules, in the order in which they are listed.
@@ -16,6 +20,28 @@ pub enum RuleKind {
     RoleAllow,
     RoleTransition,
     RangeTransition,
+}
+
+impl RuleKind {
+    /// The table that declares the sources of rules of this kind: roles, or types with the attributes.
+    pub fn source_table(self) -> TableKind
+        ensures { result ≡ source_table self }
+    {
+        match self {
+            RuleKind::RoleAllow | RuleKind::RoleTransition => TableKind::Roles,
+            _ => TableKind::Types,
+        }
+    }
+
+    /// The table that declares their targets.
+    pub fn target_table(self) -> TableKind
+        ensures { result ≡ target_table self }
+    {
+        match self {
+            RuleKind::RoleAllow => TableKind::Roles,
+            _ => TableKind::Types,
+        }
+    }
 }
 
 /// What a rule gives besides its ends and its class.

@@ -1,7 +1,7 @@
 // The order in which rules are listed, by ranks in place of names: no name is compared.
 ghost use Rattle.std.specs.Prelude.{◌≡◌};
 ghost use Rattle.pol_rules.specs.StoredRules.{stored};
-ghost use Rattle.pol_rules.specs.RuleOrder.{kind_number, source_table, target_table, rank_key};
+ghost use Rattle.pol_rules.specs.RuleOrder.{kind_number, rank_key};
 
 use crate::rule::{Rule, RuleKind};
 use pol_fields::TableKind;
@@ -25,34 +25,14 @@ fn number_of(kind: RuleKind) -> u32
     kind as u32
 }
 
-// The table that declares the sources of the rules of a kind.
-fn table_of_source(kind: RuleKind) -> TableKind
-    ensures { result ≡ source_table kind }
-{
-    match kind {
-        RuleKind::RoleAllow | RuleKind::RoleTransition => TableKind::Roles,
-        _ => TableKind::Types,
-    }
-}
-
-// The table that declares their targets.
-fn table_of_target(kind: RuleKind) -> TableKind
-    ensures { result ≡ target_table kind }
-{
-    match kind {
-        RuleKind::RoleAllow => TableKind::Roles,
-        _ => TableKind::Types,
-    }
-}
-
 /// The key of a rule that has that number.
 pub fn rule_key(symbols: &Symbols<'_>, number: u32, rule: &Rule<'_>) -> RuleKey
     ensures { result ≡ rank_key symbols.now number (stored rule.now) }
 {
     RuleKey {
         kind: number_of(rule.kind),
-        source: symbols.rank(table_of_source(rule.kind), rule.source),
-        target: symbols.rank(table_of_target(rule.kind), rule.target),
+        source: symbols.rank(rule.kind.source_table(), rule.source),
+        target: symbols.rank(rule.kind.target_table(), rule.target),
         class: symbols.rank(TableKind::Classes, rule.class),
         number,
     }

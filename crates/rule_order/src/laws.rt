@@ -5,7 +5,7 @@ ghost use Rattle.rule_order.specs.ListedOrder.{AreRules, in_rule_order};
 
 use pol_read::Policy;
 
-/// The same rules are put in the same order, however they stood before.
+/// Rules are put in one order, however they stood before.
 pub fn rules_have_one_order(policy: &Policy<'_>)
     ensures { (xs ys : List ℕ) → AreRules policy.now xs → IsPermutation xs ys → in_rule_order policy.now xs ≡ in_rule_order policy.now ys }
 {

@@ -1,14 +1,12 @@
 //! Numbers of stored rules in the order in which the rules are listed.
 #![tactic(auto)]
 
-mod ends;
 mod key_list;
 mod keys;
 mod laws;
 mod rule_keys;
 mod sorting;
 
-pub use ends::{table_of_source, table_of_target};
 pub use laws::rules_have_one_order;
 pub use rule_keys::RuleKeys;
 pub use sorting::sort_by_rule_order;

@@ -5,7 +5,7 @@ use crate::rule_keys::RuleKeys;
 use pol_read::Policy;
 use std::alloc::{AllocError, Global};
 
-/// The same numbers of stored rules, in the order in which the rules are listed: by kind, then by the names of source, target and
+/// The numbers of some stored rules, in the order in which the rules are listed: by kind, then by the names of source, target and
 /// class, compared by their bytes, then by number.
 ///
 /// The key of each rule is made once, of its ends, and keys compare as numbers. It takes 16 bytes of memory a number, and at most 32 in

@@ -28,7 +28,7 @@ use Rattle.rule_query.specs.declared.tests.Test.{Test}
 use Rattle.rule_query.specs.declared.tests.Test.TheVariants as tests
 use Rattle.rule_query.specs.Inner.Gathering.{Gathers, HasMet, PassesOver, is_passing, passes_at}
 use Rattle.rule_query.specs.Inner.MarkedSets.{AreMarksOf}
-use Rattle.rule_query.specs.Inner.Tests.{has_end, passes, rule_test}
+use Rattle.rule_query.specs.Inner.Tests.{has_end, rule_test}
 use Rattle.rule_query.proofs.MetRules.{met_failing}
 use Rattle.value_groups.specs.Inner.Marking.{MarkedValues}
 

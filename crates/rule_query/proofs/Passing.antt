@@ -3,7 +3,7 @@ use Rattle.std.proofs.Common.{◌≡◌, ℕ, suc, ◌+◌, ◌-◌, ◌<◌, �
 use Rattle.std.specs.Prelude.{slice_get}
 use Rattle.std.specs.List.{find, filter, list_all, range_with_len}
 use Rattle.std.proofs.lemmas.List.Folds.{list_all-append}
-use Rattle.value_groups.proofs.Ranges.{filter_range_one}
+use Rattle.pol_cursor.proofs.Ranges.{filter_range_one}
 use Rattle.pol_file.specs.declared.Parts.{Parts}
 use Rattle.pol_rules.specs.DeclaredRules.{IsDeclaredRule}
 use Rattle.pol_rules.specs.StoredRules.{StoredRule, stored_rules}

@@ -37,7 +37,7 @@ impl<'p, 'a> NumberedRule<'p, 'a> {
         NumberedRule::with_ends(policy, number, policy.rule_ends(number))
     }
 
-    /// The same, where its ends are known.
+    /// The stored rule of that number, whose ends are known. What it names is declared.
     #[inline(always)]
     pub fn with_ends(policy: &'p Policy<'a>, number: u32, ends: RuleEnds) -> NumberedRule<'p, 'a>
         requires { option_map ends_of (slice_get (stored_rules policy.now) number) ≡ Some ends }

@@ -95,5 +95,10 @@ impl Query {
 fn all_pass(tests: &[Test], symbols: &Symbols<'_>, rule: &NumberedRule<'_, '_>) -> bool
     ensures { result ≡ list_all (rule_test symbols.now rule.now) tests.now }
 {
-    tests.iter().all(|test| test.passes(symbols, rule))
+    for test in tests {
+        if !test.passes(symbols, rule) {
+            return false;
+        }
+    }
+    true
 }

@@ -10,7 +10,6 @@ use pol_bitmap::Set;
 use pol_fields::TableKind;
 use pol_read::{Condition, RuleEnds, RuleKind, RulePart};
 use pol_symbols::Symbols;
-use rule_order::{table_of_source, table_of_target};
 use rule_tests::{NumberTest, PermissionTest};
 
 /// What meets a criterion, by values and numbers.
@@ -45,8 +44,8 @@ impl Test {
             class,
         } = rule.ends();
         match self {
-            Test::Source(ends) => ends.has(table_of_source(kind), source),
-            Test::Target(ends) => ends.has(table_of_target(kind), target),
+            Test::Source(ends) => ends.has(kind.source_table(), source),
+            Test::Target(ends) => ends.has(kind.target_table(), target),
             Test::Class(classes) => has_class(classes, kind, class),
             Test::Permissions(test) => test.meets(symbols, class, &rule.part()),
             Test::Numbers(test) => test.meets(&rule.part()),

@@ -13,7 +13,6 @@ use pol_expand::TypeMap;
 use pol_places::{Entry, Places};
 use pol_read::Policy;
 use rule_criteria::Criteria;
-use rule_order::{table_of_source, table_of_target};
 use rule_query::Query;
 use std::alloc::{AllocError, Global};
 use std::marker::Model;
@@ -106,10 +105,10 @@ fn entry_of(
         → IfOk result (IsEntryOf policy.now criteria pool.new number) }
 {
     let rule = policy.rule(number);
-    let source_table = table_of_source(rule.kind);
-    let target_table = table_of_target(rule.kind);
-    let sources = sources.number_of(alloc, policy, types, source_table, rule.source, pool)?;
-    let targets = targets.number_of(alloc, policy, types, target_table, rule.target, pool)?;
+    let table = rule.kind.source_table();
+    let sources = sources.number_of(alloc, policy, types, table, rule.source, pool)?;
+    let table = rule.kind.target_table();
+    let targets = targets.number_of(alloc, policy, types, table, rule.target, pool)?;
     Ok(Entry {
         rule: number,
         sources,

@@ -9,7 +9,6 @@ ghost use Rattle.se_make.specs.Singles.{pairs_of, singles_of, types_of_end};
 use pol_expand::{TypeMap, type_map};
 use pol_fields::TableKind;
 use pol_read::{Policy, Rule};
-use rule_order::{table_of_source, table_of_target};
 use std::alloc::{AllocError, Global};
 
 // How many rules between single types there are. They are counted, and no list of them is made.
@@ -37,20 +36,8 @@ fn count_of_rule(
     ensures count { IfOk result (λ count. count ≡ pairs_of policy.now (stored rule.now)) }
     ensures few { IfOk result (λ count. count ≤ 4294836225) }
 {
-    let sources = count_ends(
-        alloc,
-        policy,
-        types,
-        table_of_source(rule.kind),
-        rule.source,
-    )?;
-    let targets = count_ends(
-        alloc,
-        policy,
-        types,
-        table_of_target(rule.kind),
-        rule.target,
-    )?;
+    let sources = count_ends(alloc, policy, types, rule.kind.source_table(), rule.source)?;
+    let targets = count_ends(alloc, policy, types, rule.kind.target_table(), rule.target)?;
     Ok(sources * targets)
 }
 
