@@ -1,3 +1,4 @@
 pub mod MlsLaws
+pub mod NumberRuns
 pub mod RunTexts
 pub mod RangePlaces

@@ -1,15 +1,16 @@
 -- The texts of runs.
-use Rattle.std.proofs.Common.{◌≡◌, ℕ, zero, suc, ◌+◌, ◌-◌, ◌≤◌, List, [], ◌∷◌, ◌++◌, length, true, false, inl, inr, refl, sym, ap, ◌∙◌, append_assoc, add-one, add-zero, arith}
+use Rattle.std.proofs.Common.{◌≡◌, ℕ, ◌+◌, ◌-◌, ◌≤◌, List, [], ◌∷◌, ◌++◌, length, true, false, refl, ap, ◌∙◌, append_assoc, add-zero, arith}
 use Rattle.std.specs.Prelude.{◌==◌, codes, get_or}
 use Rattle.std.specs.List.{range_with_len, join_by}
 use Rattle.std.proofs.lemmas.List.{append-nil}
 use Rattle.std.proofs.lemmas.List.FromFn.{length-range_with_len, get_or-range_with_len}
-use Rattle.std.proofs.lemmas.Bool.{cases_Bool, eqb-true, eqb-false, eq-eqb, ne_eqb, le-leb}
+use Rattle.std.proofs.lemmas.Bool.{le-leb}
 use Rattle.pol_cursor.specs.References.{Named}
 use Rattle.pol_fields.specs.declared.table_kind.TableKind.TheVariants.{Categories}
 use Rattle.pol_mls.specs.declared.run.Run.{Run}
-use Rattle.pol_mls.specs.MlsTexts.{name_of, with_value, runs_of, run_text, runs_text}
+use Rattle.pol_mls.specs.MlsTexts.{name_of, runs_of, run_text, runs_text}
 use Rattle.pol_mls.specs.Inner.Runs.{values_of}
+use Rattle.pol_mls.proofs.NumberRuns.{numbers_on, runs_alone, runs_cut, start}
 
 -- ---- one run
 
@@ -35,53 +36,10 @@ text_of_more named a b le =
     let last : a + (b - a) ≡ b = omega arith in
     long_text named run a b (omega arith) (get_or-range_with_len a (b - a + 1) 0 0 (omega arith) ∙ add-zero a) (ap (λ (i : ℕ). get_or run i 0) at ∙ get_or-range_with_len a (b - a + 1) (b - a) 0 (omega arith) ∙ last)
 
--- ---- runs in a row
-
--- The runs of values of which there is one begin with it.
-record Start (v : ℕ) (runs : List (List ℕ)) : Type 0 where
-  pub first : List ℕ
-  pub others : List (List ℕ)
-  pub are : runs ≡ (v ∷ first) ∷ others
-
-start : (v : ℕ) (runs : List (List ℕ)) → Start v (with_value v runs)
-start v [] = record { first = []; others = []; are = refl }
-start v ([] ∷ runs) = record { first = []; others = runs; are = refl }
-start v ((w ∷ ws) ∷ runs) = elim (cases_Bool (w == v + 1)) [
-  | inl t ↦ record { first = w ∷ ws; others = runs; are = rw t refl }
-  | inr f ↦ record { first = []; others = (w ∷ ws) ∷ runs; are = rw f refl }
-]
-
-joined : (v : ℕ) (ws : List ℕ) (runs : List (List ℕ)) → with_value v (((v + 1) ∷ ws) ∷ runs) ≡ (v ∷ (v + 1) ∷ ws) ∷ runs
-joined v ws runs = rw (eq-eqb (v + 1) (v + 1) refl) refl
-
-cut : (v w : ℕ) (ws : List ℕ) (others runs : List (List ℕ)) → runs ≡ (w ∷ ws) ∷ others → (w ≡ v + 1 → ⊥) → with_value v runs ≡ (v ∷ []) ∷ runs
-cut v w ws others runs e ne = rw (e, ne_eqb w (v + 1) ne) refl
-
--- a run, and a value that does not go on with it
-run_cut : (a n v : ℕ) (vs : List ℕ) → (v ≡ a + suc n → ⊥) → runs_of (range_with_len a (suc n) ++ v ∷ vs) ≡ range_with_len a (suc n) ∷ runs_of (v ∷ vs)
-run_cut a zero v vs ne =
-    let s = start v (runs_of vs) in
-    cut a v s.first s.others (runs_of (v ∷ vs)) s.are ne
-run_cut a (suc n) v vs ne =
-    ap (with_value a) (run_cut (a + 1) n v vs (λ e. ne (omega arith))) ∙ joined a (range_with_len (a + 1 + 1) n) (runs_of (v ∷ vs))
-
--- one run alone
-run_alone : (a n : ℕ) → runs_of (range_with_len a (suc n)) ≡ range_with_len a (suc n) ∷ []
-run_alone a zero = refl
-run_alone a (suc n) = ap (with_value a) (run_alone (a + 1) n) ∙ joined a (range_with_len (a + 1 + 1) n) []
-
 -- ---- what is left to be written
 
--- a value that goes on with a run
-range_on : (a n v : ℕ) (vs : List ℕ) → a + n ≡ v → range_with_len a n ++ v ∷ vs ≡ range_with_len a (suc n) ++ vs
-range_on a zero v vs e = ap (λ (x : ℕ). x ∷ vs) (omega arith)
-range_on a (suc n) v vs e = ap (λ (xs : List ℕ). a ∷ xs) (range_on (a + 1) n v vs (omega arith))
-
 pub left_goes_on : (named : Named) (first last v : ℕ) (vs : List ℕ) → first ≤ last → (last + 1 == v) ≡ true → runs_text named (range_with_len first (v - first + 1) ++ vs) ≡ runs_text named (range_with_len first (last - first + 1) ++ v ∷ vs)
-left_goes_on named first last v vs le t =
-    let e : last + 1 ≡ v = eqb-true (last + 1) v t in
-    let more : v - first + 1 ≡ suc (last - first + 1) = omega arith in
-    rw more (ap (runs_text named) (sym (range_on first (last - first + 1) v vs (omega arith))))
+left_goes_on named first last v vs le t = ap (runs_text named) (numbers_on first last v vs le t)
 
 pub left_starts : (named : Named) (v : ℕ) (vs : List ℕ) → runs_text named (range_with_len v (v - v + 1) ++ vs) ≡ runs_text named (v ∷ vs)
 left_starts named v vs = let one : v - v ≡ 0 = omega arith in rw one refl
@@ -91,17 +49,12 @@ runs_text_of named run first others runs e = rw e refl
 
 pub left_is_cut : (named : Named) (first last v : ℕ) (vs : List ℕ) → first ≤ last → (last + 1 == v) ≡ false → runs_text named (range_with_len first (last - first + 1) ++ v ∷ vs) ≡ run_text named (range_with_len first (last - first + 1)) ++ 44 ∷ runs_text named (v ∷ vs)
 left_is_cut named first last v vs le f =
-    let ne : last + 1 ≡ v → ⊥ = eqb-false (last + 1) v f in
     let s = start v (runs_of vs) in
-    let e : runs_of (range_with_len first (last - first + 1) ++ v ∷ vs) ≡ range_with_len first (last - first + 1) ∷ runs_of (v ∷ vs) =
-    rw add-one (run_cut first (last - first) v vs (λ e. ne (omega arith))) in
-    ap (join_by (run_text named) (codes ",")) e ∙ runs_text_of named (range_with_len first (last - first + 1)) (v ∷ s.first) s.others (runs_of (v ∷ vs)) s.are
+    ap (join_by (run_text named) (codes ",")) (runs_cut first last v vs le f)
+    ∙ runs_text_of named (range_with_len first (last - first + 1)) (v ∷ s.first) s.others (runs_of (v ∷ vs)) s.are
 
 pub left_alone : (named : Named) (first last : ℕ) → runs_text named (range_with_len first (last - first + 1) ++ []) ≡ run_text named (range_with_len first (last - first + 1))
-left_alone named first last =
-    let e : runs_of (range_with_len first (last - first + 1) ++ []) ≡ range_with_len first (last - first + 1) ∷ [] =
-    ap runs_of (append-nil (range_with_len first (last - first + 1))) ∙ rw add-one (run_alone first (last - first)) in
-    ap (join_by (run_text named) (codes ",")) e ∙ append-nil (run_text named (range_with_len first (last - first + 1)))
+left_alone named first last = ap (join_by (run_text named) (codes ",")) (runs_alone first last) ∙ append-nil (run_text named (range_with_len first (last - first + 1)))
 
 -- the step at a value that does not go on with a run
 pub cut_step : (named : Named) (out closed more : List ℕ) (run next : Run) (v : ℕ) (vs : List ℕ) → (run.last + 1 == v) ≡ false → closed ≡ out ++ run_text named (values_of run) → more ≡ closed ++ 44 ∷ [] → next.first ≡ v → next.last ≡ v

@@ -1,3 +1,3 @@
 pub mod KeptSlots
-pub mod PlainTexts
 pub mod ReadAhead
+pub mod WholeTexts

@@ -1,3 +1,2 @@
 pub mod KeptTexts
-pub mod PlainVectors
 pub mod ReadRules

@@ -1,16 +1,15 @@
 //! The texts that rules have in common, as far as they were written last.
 
-ghost use Rattle.std.specs.Prelude.{◌≡◌, ◌<◌, ◌++◌, [], OnOk, IfOk, IfSome};
+ghost use Rattle.std.specs.Prelude.{◌≡◌, ◌<◌, ◌++◌, [], None, OnOk, IfOk, IfSome};
 ghost use Rattle.pol_symbols.specs.PolicySymbols.{name_in};
 ghost use Rattle.pol_rules.specs.DeclaredRules.{StandsUnder};
-ghost use Rattle.pol_rules.specs.StoredRules.{stored};
+ghost use Rattle.pol_rules.specs.StoredRules.{av_rule, stored};
 ghost use Rattle.pol_file.specs.declared.Parts.{Parts};
 ghost use Rattle.rule_text.specs.ConditionTexts.{condition_text};
 ghost use Rattle.rule_listing.specs.Inner.KeptTexts.{AreKept, IsKept, ended_text, text_of};
-ghost use Rattle.rule_listing.specs.Inner.PlainVectors.{rule_of_vector};
 
-use crate::plain_vector::PlainVector;
-use pol_read::{Condition, Policy, Rule, RuleKind, RulePart};
+use pol_avtab::AvView;
+use pol_read::{Condition, Policy, Rule, RuleKind, RulePart, vector_rule};
 use rule_text::{RuleTexts, push_condition, push_end};
 use std::alloc::{AllocError, Global};
 use std::marker::Model;
@@ -42,6 +41,7 @@ pub(crate) enum TextKey {
 
 impl TextKey {
     // What a rule gives, with the end behind it, where it gives it by one number and names no new object.
+    #[inline(always)]
     fn of(rule: &Rule<'_>) -> Option<TextKey>
         ensures { (policy : Parts) → IfSome result (λ key. text_of policy key ≡ ended_text policy.symbols (stored rule.now)) }
     {
@@ -117,6 +117,7 @@ impl<'p, 'a> KeptTexts<'p, 'a> {
     }
 
     /// Adds the class of a rule, what the rule gives, and the end.
+    #[inline(never)]
     pub(crate) fn push_ended(
         &mut self,
         rule: &Rule<'a>,
@@ -125,30 +126,31 @@ impl<'p, 'a> KeptTexts<'p, 'a> {
         ensures policy { self.new ≡ self.old }
         ensures text { OnOk result (buffer.new.items ≡ buffer.old.items ++ ended_text self.old.symbols (stored rule.now)) }
     {
-        let Some(key) = TextKey::of(rule) else {
-            return self.push_made(rule, buffer);
-        };
-        if let Some(text) = self.text(key) {
+        if let Some(text) = self.ended(rule) {
             return buffer.extend_from_slice(text);
         }
-        self.push_first(key, rule, buffer)
+        let start = buffer.len();
+        self.push_made(rule, buffer)?;
+        match TextKey::of(rule) {
+            Some(key) => self.keep(key, &buffer[start..]),
+            None => Ok(()),
+        }
     }
 
-    /// Adds the same of an access vector.
+    /// Adds the class of an access vector, what it gives, and the end. Where that text is kept, no rule is put together.
     #[inline(always)]
     pub(crate) fn push_vector(
         &mut self,
-        vector: &PlainVector,
+        view: &AvView<'a>,
         buffer: &mut Vec<u8>,
     ) -> Result<(), AllocError>
         ensures policy { self.new ≡ self.old }
-        ensures text { OnOk result (buffer.new.items ≡ buffer.old.items ++ ended_text self.old.symbols (rule_of_vector vector.now)) }
+        ensures text { OnOk result (buffer.new.items ≡ buffer.old.items ++ ended_text self.old.symbols (av_rule None view.now)) }
     {
-        let key = vector.text_key();
-        if let Some(text) = self.text(key) {
-            return buffer.extend_from_slice(text);
+        match self.ended(&vector_rule(view, None)) {
+            Some(text) => buffer.extend_from_slice(text),
+            None => self.push_ended(&vector_rule(view, None), buffer),
         }
-        self.push_first(key, &vector.rule(), buffer)
     }
 
     /// Adds the condition behind a rule, or nothing where it stands under none.
@@ -174,30 +176,21 @@ impl<'p, 'a> KeptTexts<'p, 'a> {
         self.keep(key, &buffer[start..])
     }
 
-    // Adds the text of a key, which is what a rule gives with the end behind it, and keeps it.
-    #[inline(never)]
-    fn push_first(
-        &mut self,
-        key: TextKey,
-        rule: &Rule<'a>,
-        buffer: &mut Vec<u8>,
-    ) -> Result<(), AllocError>
-        requires { text_of self.old key ≡ ended_text self.old.symbols (stored rule.now) }
-        ensures policy { self.new ≡ self.old }
-        ensures text { OnOk result (buffer.new.items ≡ buffer.old.items ++ ended_text self.old.symbols (stored rule.now)) }
-    {
-        let start = buffer.len();
-        self.push_made(rule, buffer)?;
-        self.keep(key, &buffer[start..])
-    }
-
     // Adds the class of a rule, what the rule gives, and the end. No text that is kept is used.
-    fn push_made(&mut self, rule: &Rule<'a>, buffer: &mut Vec<u8>) -> Result<(), AllocError>
-        ensures policy { self.new ≡ self.old }
-        ensures text { OnOk result (buffer.new.items ≡ buffer.old.items ++ ended_text self.old.symbols (stored rule.now)) }
+    fn push_made(&self, rule: &Rule<'a>, buffer: &mut Vec<u8>) -> Result<(), AllocError>
+        ensures { OnOk result (buffer.new.items ≡ buffer.old.items ++ ended_text self.now.symbols (stored rule.now)) }
     {
         self.texts.push_given(buffer, rule)?;
         push_end(buffer, rule)
+    }
+
+    // The class of a rule, what the rule gives, and the end, where that text is kept.
+    #[inline(always)]
+    fn ended(&self, rule: &Rule<'_>) -> Option<&[u8]>
+        ensures { IfSome result (λ text. text.now ≡ ended_text self.now.symbols (stored rule.now)) }
+    {
+        let key = TextKey::of(rule)?;
+        self.text(key)
     }
 
     // The text of a key, where it is kept.

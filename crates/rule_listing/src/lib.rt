@@ -5,7 +5,6 @@ mod kept_head;
 mod kept_texts;
 mod listed_rule;
 mod listed_texts;
-mod plain_vector;
 mod rules_ahead;
 
 pub use listed_rule::ListedRule;

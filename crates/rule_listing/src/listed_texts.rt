@@ -1,17 +1,18 @@
 //! The texts of whole rules in the order in which rules are listed.
 
-ghost use Rattle.std.specs.Prelude.{◌≡◌, ◌<◌, ◌++◌, OnOk, IfOk, length};
-ghost use Rattle.pol_rules.specs.StoredRules.{stored, stored_rules};
+ghost use Rattle.std.specs.Prelude.{◌≡◌, ◌<◌, ◌++◌, None, OnOk, IfOk, length};
+ghost use Rattle.pol_rules.specs.StoredRules.{av_rule, stored, stored_rules};
 ghost use Rattle.pol_rules.specs.DeclaredRules.{StandsUnder};
-ghost use Rattle.rule_listing.specs.Inner.PlainVectors.{rule_of_vector};
 ghost use Rattle.rule_listing.specs.Inner.KeptTexts.{begun_text};
+ghost use Rattle.rule_text.specs.Inner.TypeNames.{AreNamesOf};
 ghost use Rattle.rule_text.specs.RuleTexts.{rule_text, text_of_rule};
 
 use crate::kept_head::KeptHead;
 use crate::kept_texts::KeptTexts;
 use crate::listed_rule::ListedRule;
-use crate::plain_vector::PlainVector;
-use pol_read::{Policy, Rule, RuleEnds};
+use pol_avtab::AvView;
+use pol_read::{Policy, Rule, RuleEnds, vector_ends};
+use pol_symbols::Symbols;
 use rule_text::{RuleTexts, TypeNames};
 use std::alloc::{AllocError, Global};
 use std::marker::Model;
@@ -40,15 +41,19 @@ impl<'p, 'a> Model for ListedTexts<'p, 'a> {
 }
 
 impl<'p, 'a> ListedTexts<'p, 'a> {
-    /// Those of a policy.
-    pub fn new(alloc: Global, policy: &'p Policy<'a>) -> Result<ListedTexts<'p, 'a>, AllocError>
+    /// The texts of a policy of which so many rules are to be listed.
+    pub fn new(
+        alloc: Global,
+        policy: &'p Policy<'a>,
+        count: usize,
+    ) -> Result<ListedTexts<'p, 'a>, AllocError>
         ensures { IfOk result (λ texts. texts ≡ policy.now) }
     {
         let symbols = policy.symbols();
         Ok(ListedTexts {
             texts: KeptTexts::none(alloc, RuleTexts::new(alloc, policy)?)?,
             head: KeptHead::none(alloc),
-            names: TypeNames::new(alloc, symbols)?,
+            names: names_for(alloc, symbols, count)?,
         })
     }
 
@@ -60,7 +65,7 @@ impl<'p, 'a> ListedTexts<'p, 'a> {
     }
 
     /// Adds the text of a stored rule, without a line feed.
-    #[tactic(auto, using(crate::proofs::PlainTexts::text_of_stored))]
+    #[tactic(auto, using(crate::proofs::WholeTexts::text_of_stored, crate::proofs::WholeTexts::text_of_vector))]
     pub fn push_rule(&mut self, rule: ListedRule, buffer: &mut Vec<u8>) -> Result<(), AllocError>
         requires { rule.number < length (stored_rules self.old) }
         ensures policy { self.new ≡ self.old }
@@ -68,19 +73,19 @@ impl<'p, 'a> ListedTexts<'p, 'a> {
     {
         let policy = self.policy();
         match rule.vector(policy) {
-            Some(vector) => self.push_vector(&vector, buffer),
+            Some(view) => self.push_vector(&view, buffer),
             None => self.push_whole(&policy.rule(rule.number), buffer),
         }
     }
 
     // Adds the text of an access vector that stands under no condition.
     #[inline(always)]
-    fn push_vector(&mut self, vector: &PlainVector, buffer: &mut Vec<u8>) -> Result<(), AllocError>
+    fn push_vector(&mut self, view: &AvView<'a>, buffer: &mut Vec<u8>) -> Result<(), AllocError>
         ensures policy { self.new ≡ self.old }
-        ensures text { OnOk result (buffer.new.items ≡ buffer.old.items ++ rule_text self.old (rule_of_vector vector.now)) }
+        ensures text { OnOk result (buffer.new.items ≡ buffer.old.items ++ rule_text self.old (av_rule None view.now)) }
     {
-        self.push_ends(vector.ends(), buffer)?;
-        self.texts.push_vector(vector, buffer)
+        self.push_ends(vector_ends(view.key()), buffer)?;
+        self.texts.push_vector(view, buffer)
     }
 
     // Adds the text of any rule.
@@ -113,4 +118,19 @@ impl<'p, 'a> ListedTexts<'p, 'a> {
         self.names
             .push_target(symbols, ends.kind, ends.target, buffer)
     }
+}
+
+// The names of the types, which are all looked up where at least as many rules are to be listed.
+fn names_for<'a>(
+    alloc: Global,
+    symbols: &Symbols<'a>,
+    count: usize,
+) -> Result<TypeNames<'a>, AllocError>
+    ensures { IfOk result (AreNamesOf symbols.now) }
+{
+    let mut names = TypeNames::new(alloc, symbols)?;
+    if count >= symbols.types.len() as usize {
+        names.look_all_up(symbols);
+    }
+    Ok(names)
 }

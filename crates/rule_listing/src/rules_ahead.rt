@@ -2,8 +2,7 @@
 
 ghost use Rattle.std.specs.Prelude.{◌≡◌, ◌<◌, ◌≤◌, [], All, MatchOption, length, map, take};
 ghost use Rattle.pol_rules.specs.StoredRules.{stored_rules};
-ghost use Rattle.rule_listing.specs.Inner.PlainVectors.{is_plain};
-ghost use Rattle.rule_listing.specs.Inner.ReadRules.{IsOfFirst, PassesNumber};
+ghost use Rattle.rule_listing.specs.Inner.ReadRules.{IsOfFirst, PassesNumber, is_plain};
 
 use crate::listed_rule::{ListedRule, is_plain};
 use pol_read::Policy;
@@ -39,7 +38,7 @@ impl<'q, 'p, 'a> Model for RulesAhead<'q, 'p, 'a> {
 }
 
 impl<'q, 'p, 'a> RulesAhead<'q, 'p, 'a> {
-    /// Those of these numbers. None is looked at yet.
+    /// The rules of these numbers. None is looked at yet.
     pub fn new(policy: &'p Policy<'a>, numbers: &'q [u32]) -> RulesAhead<'q, 'p, 'a>
         requires { All (λ number. number < length (stored_rules policy.now)) numbers.now }
         ensures { result ≡ record { policy = policy.now; numbers = numbers.now } }

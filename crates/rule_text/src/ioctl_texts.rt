@@ -1,7 +1,6 @@
 //! The text of ioctl numbers.
 
-ghost use Rattle.std.specs.Prelude.{◌≡◌, ◌≤◌, ◌+◌, ◌==◌, ◌∷◌, [], ◌++◌, ℕ, List, codes, OnOk, IfOk};
-ghost use Rattle.pol_avtab.specs.XPerms.{numbers_of};
+ghost use Rattle.std.specs.Prelude.{◌≡◌, ◌+◌, ◌==◌, ◌∷◌, [], ◌++◌, ℕ, List, codes, OnOk, IfOk};
 ghost use Rattle.rule_text.specs.IoctlTexts.{number_text, run_text, ioctl_text};
 ghost use Rattle.rule_text.specs.Inner.IoctlRuns.{numbers_in, text_left};
 

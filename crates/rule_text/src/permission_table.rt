@@ -1,6 +1,6 @@
 //! The permissions of each class of a policy in the order of their names.
 
-ghost use Rattle.std.specs.Prelude.{◌≡◌, ◌∷◌, [], ◌++◌, ◌<◌, IfOk, OnOk, length};
+ghost use Rattle.std.specs.Prelude.{[], ◌<◌, IfOk};
 ghost use Rattle.pol_symbols.specs.PolicySymbols.{permissions_in_class};
 ghost use Rattle.rule_text.specs.Inner.ClassPermissions.{AreByName, AreOfClasses};
 
@@ -26,7 +26,7 @@ impl<'a> Model for PermissionTable<'a> {
 }
 
 impl<'a> PermissionTable<'a> {
-    /// Those of all classes.
+    /// The permissions of all classes.
     #[tactic(auto, using(crate::proofs::PermissionLists::first_none))]
     pub(crate) fn new(
         alloc: Global,
@@ -41,7 +41,7 @@ impl<'a> PermissionTable<'a> {
         Ok(PermissionTable { classes })
     }
 
-    /// Those of the class of a value, or none where no class has it.
+    /// The permissions of the class of a value, or none where no class has it.
     pub(crate) fn of_class(&self, symbols: &Symbols<'a>, class: u32) -> &[PermissionView<'a>]
         requires { AreOfClasses symbols.now self.now }
         ensures { AreByName (permissions_in_class symbols.now class) result.now }

@@ -3,7 +3,7 @@
 ghost use Rattle.std.specs.Prelude.{◌≡◌, ◌++◌, OnOk, option_map};
 ghost use Rattle.pol_mls.specs.MlsTexts.{name_of, range_text};
 ghost use Rattle.pol_symbols.specs.PolicySymbols.{name_in, permissions_in_class};
-ghost use Rattle.pol_rules.specs.RuleOrder.{source_table, target_table};
+ghost use Rattle.pol_rules.specs.RuleOrder.{target_table};
 ghost use Rattle.pol_rules.specs.DeclaredRules.{default_table};
 ghost use Rattle.rule_text.specs.Inner.ClassPermissions.{ShowsPart};
 ghost use Rattle.rule_text.specs.Inner.RuleFrames.{head_text};
@@ -39,27 +39,7 @@ fn keyword(kind: RuleKind) -> &'static [u8]
     }
 }
 
-// The table that declares the sources of the rules of a kind.
-fn source_table(kind: RuleKind) -> TableKind
-    ensures { result ≡ source_table kind }
-{
-    match kind {
-        RuleKind::RoleAllow | RuleKind::RoleTransition => TableKind::Roles,
-        _ => TableKind::Types,
-    }
-}
-
-// The table that declares their targets.
-fn target_table(kind: RuleKind) -> TableKind
-    ensures { result ≡ target_table kind }
-{
-    match kind {
-        RuleKind::RoleAllow => TableKind::Roles,
-        _ => TableKind::Types,
-    }
-}
-
-// The table that declares their defaults.
+// The table that declares the defaults of the rules of a kind.
 fn default_table(kind: RuleKind) -> TableKind
     ensures { result ≡ default_table kind }
 {
@@ -81,7 +61,7 @@ pub fn push_head(
 {
     buffer.extend_from_slice(keyword(kind))?;
     buffer.push(b' ')?;
-    push_name(buffer, source_table(kind), source, symbols)?;
+    push_name(buffer, kind.source_table(), source, symbols)?;
     Ok(buffer.push(b' ')?)
 }
 
@@ -94,7 +74,7 @@ pub(crate) fn push_target(
 ) -> Result<(), AllocError>
     ensures { OnOk result (buffer.new.items ≡ buffer.old.items ++ name_of (name_in symbols.now) (target_table kind) target) }
 {
-    push_name(buffer, target_table(kind), target, symbols)
+    push_name(buffer, kind.target_table(), target, symbols)
 }
 
 /// Adds the class of a rule of a kind.

@@ -36,7 +36,7 @@ impl<'p, 'a> Model for RuleTexts<'p, 'a> {
 }
 
 impl<'p, 'a> RuleTexts<'p, 'a> {
-    /// Those of a policy.
+    /// The texts of the rules of a policy.
     pub fn new(alloc: Global, policy: &'p Policy<'a>) -> Result<RuleTexts<'p, 'a>, AllocError>
         ensures { IfOk result (λ texts. texts ≡ policy.now) }
     {

@@ -13,7 +13,7 @@ use pol_read::RuleKind;
 use pol_symbols::Symbols;
 use std::alloc::{AllocError, Global};
 
-/// The names of the types of a policy, where many are written: each is looked up once, when it is first asked for.
+/// The names of the types of a policy, where many are written: each is looked up once.
 #[derive(Drop)]
 pub struct TypeNames<'a> {
     // by value, where it was looked up
@@ -21,7 +21,7 @@ pub struct TypeNames<'a> {
 }
 
 impl<'a> TypeNames<'a> {
-    /// Those of all types. None is looked up yet.
+    /// No name yet. Each is looked up when it is first asked for.
     pub fn new(alloc: Global, symbols: &Symbols<'a>) -> Result<TypeNames<'a>, AllocError>
         ensures { IfOk result (AreNamesOf symbols.now) }
     {
@@ -31,6 +31,16 @@ impl<'a> TypeNames<'a> {
             names.push(None)?;
         }
         Ok(TypeNames { names })
+    }
+
+    /// Looks up the names of all types, in the order of the file, in which they stand one behind the other.
+    pub fn look_all_up(&mut self, symbols: &Symbols<'a>)
+        requires { AreNamesOf symbols.now self.old }
+        ensures { AreNamesOf symbols.now self.new }
+    {
+        for i in 0..symbols.types.len() {
+            self.look_up(symbols, symbols.types.view(i).value());
+        }
     }
 
     /// Adds the name of a target of a rule of a kind. The tables of the policy are handed in.

@@ -19,7 +19,7 @@ pub struct RuleLines<'q, 'p, 'a> {
 impl<'q, 'p, 'a> RuleLines<'q, 'p, 'a> {
     ghost use Rattle.se_search.specs.Inner.RuleLines.{lines_left};
 
-    /// Those of the rules of a policy, which are read when their lines are made.
+    /// The lines of the rules of these numbers, which are read when their lines are made.
     pub fn new(texts: ListedTexts<'p, 'a>, numbers: &'q [u32]) -> RuleLines<'q, 'p, 'a>
         requires { AreRules texts numbers.now }
         ensures { lines_left result ≡ map (rule_line texts.entry) numbers.now }

@@ -1,6 +1,5 @@
 // The answer of sesearch about a policy.
 ghost use Rattle.std.specs.Prelude.{◌≡◌, IfOk, map};
-ghost use Rattle.rule_criteria.specs.declared.Criteria.{Criteria};
 ghost use Rattle.rule_query.specs.Inner.Resolved.{IsQueryOf};
 ghost use Rattle.se_status.specs.Meeting.{Concludes, IsWritten, done};
 ghost use Rattle.se_words.specs.SearchRequest.{search_view};
@@ -92,7 +91,7 @@ fn write_rules<S: Sink>(
     let Ok(numbers) = query.sorted(alloc, policy) else {
         return Err(WriteEnd::Memory);
     };
-    let Ok(texts) = ListedTexts::new(alloc, policy) else {
+    let Ok(texts) = ListedTexts::new(alloc, policy, numbers.len()) else {
         return Err(WriteEnd::Memory);
     };
     let mut lines = RuleLines::new(texts, listed(&numbers));

@@ -1,12 +1,11 @@
 // The lines of rules between single types, some of a row at a time.
-ghost use Rattle.std.specs.Prelude.{◌≡◌, ◌<◌, ◌≤◌, IfOk, length, map, min};
+ghost use Rattle.std.specs.Prelude.{◌≡◌, ◌<◌, IfOk, length, map, min};
 ghost use Rattle.pol_places.specs.Members.{members};
-ghost use Rattle.pol_places.specs.Inner.Standing.{StandsAt};
 ghost use Rattle.rule_text.specs.Inner.TypeNames.{AreNamesOf};
 ghost use Rattle.se_items.specs.Paging.{most_items, page};
-ghost use Rattle.se_search.specs.Inner.RowLines.{IsFrameOf, IsLast};
+ghost use Rattle.se_search.specs.Inner.RowLines.{IsLast};
 ghost use Rattle.se_search.specs.SearchAnswer.{single_line};
-ghost use Rattle.se_search.specs.Inner.SingleLines.{AreOfRules, BeginsRow, CanBegin, IsRow, StandsIn, Steps, end_of, lines_left};
+ghost use Rattle.se_search.specs.Inner.SingleLines.{AreOfRules, BeginsRow, CanBegin, StandsIn, Steps, end_of, lines_left};
 
 use crate::row_lines::{RowLines, SourceFrame, frame_between, push_targets};
 use pol_places::{Place, Places, Row};
@@ -34,8 +33,8 @@ pub struct SingleLines<'s, 'p, 'a> {
 }
 
 impl<'s, 'p, 'a> SingleLines<'s, 'p, 'a> {
-    /// Those of the members of places, but for so many at the front, and at most so many. Those at the front are passed over entry by
-    /// entry.
+    /// The lines of the members of places, but for so many at the front, and at most so many. What stands at the front is passed over
+    /// entry by entry.
     pub fn new(
         texts: &'s RuleTexts<'p, 'a>,
         names: TypeNames<'a>,

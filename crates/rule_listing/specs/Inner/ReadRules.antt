@@ -1,6 +1,9 @@
 -- Rules that are looked at before their texts are made: what serves the code alone.
-use Rattle.std.specs.Prelude.{◌≡◌, ◌<◌, ℕ, Bool, true, false, List, [], ◌∷◌, length}
+use Rattle.std.specs.Prelude.{◌≡◌, ◌<◌, ℕ, Bool, true, false, List, [], ◌∷◌, ◌==◌, ◌&&◌, not, Option, Some, None, length, slice_get}
 use Rattle.std.specs.List.{All}
+use Rattle.pol_cursor.specs.References.{Placed}
+use Rattle.pol_avtab.specs.declared.AvRec.{AvRec}
+use Rattle.pol_avtab.specs.XPerms.{mask_of}
 use Rattle.pol_file.specs.declared.Parts.{Parts}
 use Rattle.pol_rules.specs.StoredRules.{stored_rules}
 use Rattle.rule_listing.specs.declared.listed_rule.ListedRule.{ListedRule}
@@ -23,3 +26,16 @@ IsOfFirst policy (number ∷ numbers) rule = (rule.number ≡ number) × (number
 abbrev pub PassesNumber : List ℕ → List ℕ → Bool → Type 0
 PassesNumber old new true = (number : ℕ) × (old ≡ number ∷ new)
 PassesNumber old new false = (old ≡ []) × (new ≡ [])
+
+-- What an access vector gives is a number that is not 0, and so is its source.
+abbrev pub gives : ℕ → Option ℕ → Bool
+gives source None = false
+gives source (Some mask) = not (mask == 0) && not (source == 0)
+
+-- The rule of a number is such a vector of the table.
+abbrev pub is_plain_vector : Option (Placed AvRec) → Bool
+is_plain_vector None = false
+is_plain_vector (Some av) = gives av.value.source (mask_of av.value.part)
+
+abbrev pub is_plain : List (Placed AvRec) → ℕ → Bool
+is_plain table number = is_plain_vector (slice_get table number)

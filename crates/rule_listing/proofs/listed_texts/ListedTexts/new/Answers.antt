@@ -7,5 +7,5 @@ use Rattle.rule_listing.proofs.listed_texts.ListedTexts.new.Goals as goal
 
 pub invariant_of-result : goal.invariant_of-result
 invariant_of-result c =
-    let P : Symbols → Type 0 = λ symbols. IsHead symbols c.none-2.result × AreNamesOf symbols c.in_ok-new-2.field-0 in
-    subst P (c.symbols-symbols.ensures ∙ sym (ap (λ (policy : Parts). policy.symbols) (c.in_ok-none.ensures ∙ c.in_ok-new.ensures))) (c.none-2.ensures c.symbols-symbols.result.now, c.in_ok-new-2.ensures)
+    let P : Symbols → Type 0 = λ symbols. IsHead symbols c.none-2.result × AreNamesOf symbols c.in_ok-names_for.field-0 in
+    subst P (c.symbols-symbols.ensures ∙ sym (ap (λ (policy : Parts). policy.symbols) (c.in_ok-none.ensures ∙ c.in_ok-new.ensures))) (c.none-2.ensures c.symbols-symbols.result.now, c.in_ok-names_for.ensures)

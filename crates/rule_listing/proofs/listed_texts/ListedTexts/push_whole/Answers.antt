@@ -4,7 +4,7 @@ use Rattle.pol_rules.specs.StoredRules.{ends_of, stored}
 use Rattle.pol_symbols.specs.PolicySymbols.{name_in}
 use Rattle.rule_text.specs.ConditionTexts.{condition_text}
 use Rattle.rule_listing.specs.Inner.KeptTexts.{begun_text, ended_text}
-use Rattle.rule_listing.proofs.PlainTexts.{whole_added}
+use Rattle.rule_listing.proofs.WholeTexts.{whole_added}
 use Rattle.rule_listing.proofs.listed_texts.ListedTexts.push_whole.Goals as goal
 
 pub returns-clause-text : goal.returns-clause-text

@@ -1,14 +1,15 @@
 -- The texts of listed rules, put together.
-use Rattle.std.proofs.Common.{◌≡◌, ◌∙◌, ℕ, List, ◌++◌, Some, slice_get, sym, ap, append-nil, append_assoc}
+use Rattle.std.proofs.Common.{◌≡◌, ◌∙◌, ℕ, List, ◌++◌, Some, None, slice_get, sym, ap, append-nil, append_assoc}
+use Rattle.pol_cursor.specs.References.{Placed}
+use Rattle.pol_avtab.specs.declared.AvRec.{AvRec}
 use Rattle.pol_file.specs.declared.Parts.{Parts}
-use Rattle.pol_rules.specs.StoredRules.{StoredRule, ends_of, stored_rules}
+use Rattle.pol_rules.specs.StoredRules.{StoredRule, av_rule, ends_of, stored_rules}
+use Rattle.pol_rules.proofs.RuleSums.{table_first}
 use Rattle.pol_symbols.specs.PolicySymbols.{name_in}
 use Rattle.rule_text.specs.ConditionTexts.{condition_text}
 use Rattle.rule_text.specs.Inner.RuleFrames.{given_text}
 use Rattle.rule_text.specs.RuleTexts.{rest_text, rule_text, text_found, text_of_rule}
-use Rattle.rule_listing.specs.declared.plain_vector.PlainVector.{PlainVector}
 use Rattle.rule_listing.specs.Inner.KeptTexts.{begun_text, ended_text}
-use Rattle.rule_listing.specs.Inner.PlainVectors.{rule_of_vector}
 
 -- a rule that is added: its ends, what it gives with the end, and its condition
 pub whole_added : (policy : Parts) (rule : StoredRule) (before : List ℕ)
@@ -21,14 +22,18 @@ whole_added policy rule before =
     ap (λ (text : List ℕ). text ++ under) (append_assoc before begun ended) ∙ append_assoc before (begun ++ ended) under ∙ ap (λ (text : List ℕ). before ++ text) (append_assoc begun ended under)
 
 -- one that stands under no condition
-pub vector_added : (policy : Parts) (vector : PlainVector) (before : List ℕ)
-    → before ++ begun_text policy.symbols (ends_of (rule_of_vector vector)) ++ ended_text policy.symbols (rule_of_vector vector) ≡ before ++ rule_text policy (rule_of_vector vector)
+pub vector_added : (policy : Parts) (av : Placed AvRec) (before : List ℕ)
+    → before ++ begun_text policy.symbols (ends_of (av_rule None av)) ++ ended_text policy.symbols (av_rule None av) ≡ before ++ rule_text policy (av_rule None av)
 unfolding condition_text
-vector_added policy vector before =
-    let rule = rule_of_vector vector in
+vector_added policy av before =
+    let rule = av_rule None av in
     sym (append-nil (before ++ begun_text policy.symbols (ends_of rule) ++ ended_text policy.symbols rule)) ∙ whole_added policy rule before
 
 -- the text of the stored rule of a number
 pub text_of_stored : (policy : Parts) (number : ℕ) (rule : StoredRule) → slice_get (stored_rules policy) number ≡ Some rule → rule_text policy rule ≡ text_of_rule policy number
 unfolding text_of_rule
 text_of_stored policy number rule there = sym (ap (text_found policy) there)
+
+-- and of the access vector of a number
+pub text_of_vector : (policy : Parts) (number : ℕ) (av : Placed AvRec) → slice_get policy.rules.table number ≡ Some av → rule_text policy (av_rule None av) ≡ text_of_rule policy number
+text_of_vector policy number av there = text_of_stored policy number (av_rule None av) (table_first policy number av there)
