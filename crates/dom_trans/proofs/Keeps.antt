@@ -10,7 +10,7 @@ use Rattle.pol_rules.specs.declared.RuleKind.{RuleKind}
 use Rattle.pol_rules.specs.declared.RuleKind.TheVariants.{Allow, TypeTransition}
 use Rattle.pol_rules.specs.declared.RulePart.{RulePart}
 use Rattle.pol_rules.specs.StoredRules.{StoredRule, stored_rules}
-use Rattle.value_groups.proofs.Ranges.{filter_range_one}
+use Rattle.pol_cursor.proofs.Ranges.{filter_range_one}
 use Rattle.rule_ends.specs.ChosenRules.{passes, rule_passes, has_type_ends, is_between_types}
 use Rattle.dom_trans.specs.declared.permission.Permission.{Permission}
 use Rattle.dom_trans.specs.declared.keeping.Wanted.{Wanted}

@@ -5,15 +5,15 @@ use pol_cursor::{NumberList, OwnedList};
 pub struct EntryReason {
     /// The value of the type.
     pub entry: u32,
-    /// Those that make it an entry point of the new domain.
+    /// The rules that make it an entry point of the new domain.
     pub entrypoint: NumberList,
-    /// Those that let the old domain execute it.
+    /// The rules that let the old domain execute it.
     pub execute: NumberList,
     /// The type_transitions that make the new domain the default.
     pub default: NumberList,
 }
 
-/// Those of its entry types, rising.
+/// The reasons of the entry types of a transition, by their values, rising.
 pub type EntryReasonList = OwnedList<EntryReason>;
 
 /// The numbers of the rules behind a transition, each list in the order in which rules are listed. A way of transition that does not

@@ -3,7 +3,7 @@ use Rattle.std.proofs.Common.{◌≡◌, inl, inr, ℕ, ◌+◌, ◌^◌, ◌<�
 use Rattle.std.specs.List.{filter, range_with_len}
 use Rattle.std.specs.Int.{bit_at}
 use Rattle.std.proofs.lemmas.List.{map_push}
-use Rattle.std.proofs.lemmas.List.Elements.{filter-append, filter_more}
+use Rattle.std.proofs.lemmas.List.Elements.{filter_more}
 use Rattle.std.proofs.lemmas.List.Sums.{fold_push}
 use Rattle.std.proofs.lemmas.Option.{slice_get_cases}
 use Rattle.pol_cursor.specs.References.{Placed}
@@ -13,7 +13,7 @@ use Rattle.pol_classes.specs.declared.ClassRec.{ClassRec}
 use Rattle.pol_symbols.specs.declared.Symbols.{Symbols}
 use Rattle.pol_symbols.specs.PolicySymbols.{index_in, permissions_of}
 use Rattle.pol_symbols.proofs.SymbolSearch.{primary_found, primary_is_within, primary_missing}
-use Rattle.pol_expand.proofs.Values.{range_more}
+use Rattle.pol_cursor.proofs.Ranges.{range_more, filter_range_one}
 use Rattle.pol_file.specs.declared.Parts.{Parts}
 use Rattle.pol_rules.specs.StoredRules.{StoredRule, stored_rules}
 use Rattle.perm_map.specs.declared.Direction.{Direction}
@@ -54,12 +54,6 @@ numbers_more g n =
     ap (λ (xs : List ℕ). greatest (map g xs)) (range_more 0 n ∙ ap (λ (x : ℕ). range_with_len 0 n ++ x ∷ []) e)
     ∙ ap greatest (map_push g (range_with_len 0 n) n) ∙ greatest_push (map g (range_with_len 0 n)) (g n)
 
--- one number more, where it passes
-pub reaching_more : (p : ℕ → Bool) (n : ℕ) → filter p (range_with_len 0 (n + 1)) ≡ filter p (range_with_len 0 n) ++ cond (p n) (n ∷ []) []
-reaching_more p n =
-    let e : 0 + n ≡ n = omega arith in
-    ap (filter p) (range_more 0 n ∙ ap (λ (x : ℕ). range_with_len 0 n ++ x ∷ []) e) ∙ filter-append p (range_with_len 0 n) (n ∷ [])
-
 -- one rule more, where it reaches a weight
 pub reached_more : (way : Direction → ℕ → ℕ) (weights : Weights) (policy : Parts) (least number : ℕ) (rule : StoredRule) (holds : Bool) (old new : List ℕ) → slice_get (stored_rules policy) number ≡ Some rule → old ≡ filter (reaches way weights policy least) (range_with_len 0 number)
     → holds ≡ leb least (rule_weight way weights policy.symbols rule) → new ≡ old ++ cond holds (number ∷ []) [] → new ≡ filter (reaches way weights policy least) (range_with_len 0 (number + 1))
@@ -67,7 +61,7 @@ unfolding weight_of_rule
 reached_more way weights policy least number rule holds old new at was is more =
     more ∙ ap (λ (xs : List ℕ). xs ++ cond holds (number ∷ []) []) was
     ∙ ap (λ (test : Bool). filter (reaches way weights policy least) (range_with_len 0 number) ++ cond test (number ∷ []) []) (is ∙ ap (λ (found : Option StoredRule). leb least (weight_found way weights policy found)) (sym at))
-    ∙ sym (reaching_more (reaches way weights policy least) number)
+    ∙ sym (filter_range_one (reaches way weights policy least) 0 number number (omega arith))
 
 -- what a test of a least weight answers of a rule
 pub by_test : (way : Direction → ℕ → ℕ) (test : Reached) (entries : List Entry) (policy own : Parts) (least : ℕ) (rule : StoredRule) (holds : Bool) → test ≡ record { policy = own; entries = entries; least = least } → policy ≡ own

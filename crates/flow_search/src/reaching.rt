@@ -17,9 +17,9 @@ use std::alloc::{AllocError, Global};
 /// Rules with their ends.
 #[derive(Drop)]
 pub struct Reaching {
-    /// Those that flow from the source to the target at least the weight.
+    /// The rules by which at least the weight flows from their source to their target.
     pub out: RulesWithEnds,
-    /// Those that flow from the target to the source.
+    /// The rules by which it flows from their target to their source.
     pub into: RulesWithEnds,
 }
 

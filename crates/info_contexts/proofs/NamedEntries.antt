@@ -1,23 +1,17 @@
 -- The numbers of the entries that a name asks for, and their lines.
-use Rattle.std.proofs.Common.{◌≡◌, ℕ, zero, suc, ◌+◌, Bool, true, false, cond, Option, Some, List, [], ◌∷◌, ◌++◌, map, length, slice_get, get_or, refl, sym, ap, add-zero, arith}
+use Rattle.std.proofs.Common.{◌≡◌, ℕ, zero, suc, ◌+◌, Bool, true, false, cond, Option, Some, List, [], ◌∷◌, ◌++◌, map, length, slice_get, get_or, refl, sym, arith}
 use Rattle.std.specs.List.{All, filter, range_with_len}
 use Rattle.std.proofs.lemmas.List.{length-map}
-use Rattle.std.proofs.lemmas.List.Elements.{All-filter, filter-append}
+use Rattle.std.proofs.lemmas.List.Elements.{All-filter}
 use Rattle.info_lines.specs.Inner.Listings.{HasLine, line_of}
 use Rattle.info_lines.proofs.FileOrder.{all_there}
+use Rattle.pol_cursor.proofs.Ranges.{filter_range_one}
 use Rattle.info_lines.proofs.ListingLines.{line_at}
 use Rattle.info_contexts.specs.NamedEntries.{is_asked, of_name, numbers_of_name}
 
-range_more : (a n : ℕ) → range_with_len a (n + 1) ≡ range_with_len a n ++ (a + n) ∷ []
-range_more a zero = rw (add-zero a) refl
-range_more a (suc n) =
-    let e : a + suc n ≡ a + 1 + n = omega arith in
-    let more : suc n + 1 ≡ suc (n + 1) = omega arith in
-    rw (e, more) (ap (λ ns. a ∷ ns) (range_more (a + 1) n))
-
 -- one number is asked for, or is not
 pub asked_more : (asks : ℕ → Bool) (a n : ℕ) → filter asks (range_with_len a (n + 1)) ≡ filter asks (range_with_len a n) ++ cond (asks (a + n)) ((a + n) ∷ []) []
-asked_more asks a n = rw (range_more a n, filter-append asks (range_with_len a n) ((a + n) ∷ [])) refl
+asked_more asks a n = filter_range_one asks a n (a + n) refl
 
 -- ---- their lines
 

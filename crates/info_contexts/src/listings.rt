@@ -19,7 +19,7 @@ use info_lines::{ChainedLines, EntryLines, FileLines, NumberedLines};
 use pol_read::Policy;
 use std::alloc::{AllocError, Global};
 
-/// Those of the initial SIDs that are printed with the name, or of all where none is given, with their contexts where they are
+/// The lines of the initial SIDs that are printed with the name, or of all where none is given, with their contexts where they are
 /// expanded.
 #[tactic(auto, using(crate::proofs::NamedEntries::chosen_there, crate::proofs::NamedEntries::chosen_lines, info_lines::proofs::FileOrder::as_many))]
 pub fn sid_lines<'p, 'a>(
@@ -36,7 +36,7 @@ pub fn sid_lines<'p, 'a>(
     Ok(NumberedLines::new(lines, numbers))
 }
 
-/// Those of how the files of the file systems of the name get their contexts, or of all where none is given.
+/// The lines of how the files of the file systems of the name get their contexts, or of all where none is given.
 #[tactic(auto, using(crate::proofs::NamedEntries::chosen_there, crate::proofs::NamedEntries::chosen_lines, info_lines::proofs::FileOrder::as_many))]
 pub fn fsuse_lines<'p, 'a>(
     alloc: Global,
@@ -51,7 +51,7 @@ pub fn fsuse_lines<'p, 'a>(
     Ok(NumberedLines::new(lines, numbers))
 }
 
-/// Those of the paths of the file systems of the name that have no labels of their own, or of all where none is given.
+/// The lines of the paths of the file systems of the name that have no labels of their own, or of all where none is given.
 pub fn genfs_lines<'p, 'a>(
     alloc: Global,
     policy: &'p Policy<'a>,
@@ -63,7 +63,7 @@ pub fn genfs_lines<'p, 'a>(
     Ok(EntryLines::new(GenfsLines::new(entries, policy.symbols())))
 }
 
-/// Those of the network interfaces of the name, or of all where none is given.
+/// The lines of the network interfaces of the name, or of all where none is given.
 #[tactic(auto, using(crate::proofs::NamedEntries::chosen_there, crate::proofs::NamedEntries::chosen_lines, info_lines::proofs::FileOrder::as_many))]
 pub fn netif_lines<'p, 'a>(
     alloc: Global,
@@ -78,7 +78,7 @@ pub fn netif_lines<'p, 'a>(
     Ok(NumberedLines::new(lines, numbers))
 }
 
-/// Those of IPv4 addresses, and then those of IPv6 addresses.
+/// The lines of nodes: of IPv4 addresses, and then of IPv6 addresses.
 pub fn node_lines<'p, 'a>(
     policy: &'p Policy<'a>,
 ) -> ChainedLines<NodeLines<'p, 'a>, Node6Lines<'p, 'a>>
@@ -106,7 +106,7 @@ fn ipv6_lines<'p, 'a>(policy: &'p Policy<'a>) -> FileLines<Node6Lines<'p, 'a>>
     FileLines::new(TableLines::new(entries, policy.symbols()), entries.len())
 }
 
-/// Those of ports.
+/// The lines of ranges of ports.
 #[tactic(auto, using(info_lines::proofs::FileOrder::all_there, info_lines::proofs::FileOrder::all_lines, info_lines::proofs::FileOrder::as_many))]
 pub fn port_lines<'p, 'a>(policy: &'p Policy<'a>) -> FileLines<PortLines<'p, 'a>>
     ensures { result ≡ port_listing policy.now.symbols policy.now.labels.contexts.port }
@@ -115,7 +115,7 @@ pub fn port_lines<'p, 'a>(policy: &'p Policy<'a>) -> FileLines<PortLines<'p, 'a>
     FileLines::new(TableLines::new(entries, policy.symbols()), entries.len())
 }
 
-/// Those of InfiniBand partition keys.
+/// The lines of InfiniBand partition keys.
 #[tactic(auto, using(info_lines::proofs::FileOrder::all_there, info_lines::proofs::FileOrder::all_lines, info_lines::proofs::FileOrder::as_many))]
 pub fn ibpkey_lines<'p, 'a>(policy: &'p Policy<'a>) -> FileLines<IbPkeyLines<'p, 'a>>
     ensures { result ≡ ibpkey_listing policy.now.symbols policy.now.labels.contexts.ibpkey }
@@ -124,7 +124,7 @@ pub fn ibpkey_lines<'p, 'a>(policy: &'p Policy<'a>) -> FileLines<IbPkeyLines<'p,
     FileLines::new(TableLines::new(entries, policy.symbols()), entries.len())
 }
 
-/// Those of InfiniBand devices at ports.
+/// The lines of InfiniBand devices at ports.
 #[tactic(auto, using(info_lines::proofs::FileOrder::all_there, info_lines::proofs::FileOrder::all_lines, info_lines::proofs::FileOrder::as_many))]
 pub fn ibendport_lines<'p, 'a>(policy: &'p Policy<'a>) -> FileLines<IbEndPortLines<'p, 'a>>
     ensures { result ≡ ibendport_listing policy.now.symbols policy.now.labels.contexts.ibendport }

@@ -1,6 +1,7 @@
 pub mod Numbers
 pub mod Laws
 pub mod Lists
+pub mod Ranges
 pub mod Facts
 pub mod NameLaws
 pub mod RunLists

@@ -1,5 +1,5 @@
 -- How the words of the bits and the lists of the attributes grow.
-use Rattle.std.proofs.Common.{◌≡◌, inl, inr, ℕ, zero, suc, ◌+◌, ◌-◌, ◌*◌, ◌%◌, ◌^◌, ◌<◌, ◌≤◌, Bool, true, false, List, [], ◌∷◌, ◌++◌, length, map, set, get_or, take, drop, refl, sym, ap, ◌∙◌, cond, append-nil, add-zero, arith}
+use Rattle.std.proofs.Common.{◌≡◌, inl, inr, ℕ, zero, suc, ◌+◌, ◌-◌, ◌*◌, ◌%◌, ◌^◌, ◌<◌, ◌≤◌, Bool, true, false, List, [], ◌∷◌, ◌++◌, length, map, set, get_or, take, drop, refl, sym, ap, ◌∙◌, cond, append-nil, arith}
 use Rattle.std.specs.Prelude.{◌==◌, ◌&&◌, ◌||◌, nat_lt, bit_or, slice_index_or}
 use Rattle.std.specs.Int.{bit_at, w64}
 use Rattle.std.specs.List.{All, Contains, filter, list_any, range_with_len}
@@ -11,6 +11,7 @@ use Rattle.std.proofs.lemmas.List.Elements.{All-contains, All-filter, All-weaker
 use Rattle.std.proofs.lemmas.List.Folds.{list_any_at, list_any_more, list_any_none}
 use Rattle.std.proofs.lemmas.Map.Views.{Contains-from_any}
 use Rattle.pol_cursor.proofs.BitPlaces.{or_nothing}
+use Rattle.pol_cursor.proofs.Ranges.{range_split}
 use Rattle.pol_bitmap.specs.declared.node.Node.{Node}
 use Rattle.pol_bitmap.specs.Nodes.{bits_of, node_has, node_bits, has_bit}
 use Rattle.pol_bitmap.proofs.BitLists.{has_bit-from_bits, bits-from_has_bit}
@@ -196,15 +197,8 @@ filter_none p a (suc n) h = rw (h a (omega arith) (omega arith)) (filter_none p 
 from_zero : (k : ℕ) → 0 + k ≡ k
 from_zero k = omega arith
 
-range_parts : (a n m : ℕ) → range_with_len a (n + m) ≡ range_with_len a n ++ range_with_len (a + n) m
-range_parts a zero m = ap (range_with_len a) (from_zero m) ∙ ap (λ (b : ℕ). range_with_len b m) (sym (add-zero a))
-range_parts a (suc n) m =
-    let size : suc n + m ≡ suc (n + m) = omega arith in
-    let next : a + 1 + n ≡ a + suc n = omega arith in
-    ap (range_with_len a) size ∙ ap (λ (xs : List ℕ). a ∷ xs) (range_parts (a + 1) n m ∙ ap (λ (b : ℕ). range_with_len (a + 1) n ++ range_with_len b m) next)
-
 filter_parts : (p : ℕ → Bool) (a n m : ℕ) → filter p (range_with_len a (n + m)) ≡ filter p (range_with_len a n) ++ filter p (range_with_len (a + n) m)
-filter_parts p a n m = ap (filter p) (range_parts a n m) ∙ filter-append p (range_with_len a n) (range_with_len (a + n) m)
+filter_parts p a n m = ap (filter p) (range_split a n m) ∙ filter-append p (range_with_len a n) (range_with_len (a + n) m)
 
 -- the types of a word
 word_types : (rows : List (List Node)) (types : List Node) (start bit : ℕ) (words : List ℕ) → AreWords rows types start 64 words → bit < length words

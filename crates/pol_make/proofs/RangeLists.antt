@@ -1,24 +1,13 @@
 -- Numbers one after the other, and lists that are made of them.
-use Rattle.std.proofs.Common.{◌≡◌, ℕ, zero, suc, ◌+◌, List, [], ◌∷◌, ◌++◌, map, refl, ap, append_assoc, add-one, add-zero, arith}
+use Rattle.std.proofs.Common.{◌≡◌, ℕ, zero, suc, ◌+◌, List, [], ◌∷◌, ◌++◌, map, refl, append_assoc, arith}
 use Rattle.std.specs.List.{range_with_len, flat_map}
-use Rattle.std.proofs.lemmas.List.{flat_map_more}
 use Rattle.std.proofs.lemmas.List.FromFn.{map-range_with_len_more}
+use Rattle.pol_cursor.proofs.Ranges.{flat_range_more}
 use Rattle.pol_bitmap.proofs.BitLists.{RisesFrom}
 
 pub range-rises : (a n : ℕ) → RisesFrom a (range_with_len a n)
 range-rises a zero = tt
 range-rises a (suc n) = (omega arith, range-rises (a + 1) n)
-
--- ---- one more
-
-pub range-more : (a n : ℕ) → range_with_len a (n + 1) ≡ range_with_len a n ++ (a + n) ∷ []
-range-more a n = rw add-one (more a n)
-  where
-    more : (a n : ℕ) → range_with_len a (suc n) ≡ range_with_len a n ++ (a + n) ∷ []
-    more a zero = rw add-zero refl
-    more a (suc n) =
-        let e : a + suc n ≡ a + 1 + n = omega arith in
-        rw e (ap (λ (xs : List ℕ). a ∷ xs) (more (a + 1) n))
 
 -- what is made of one more number, behind a list that has what is made of those before
 pub pushed : {X : Type 0} (f : ℕ → X) (front now : List X) (a n j : ℕ) → a + n ≡ j → now ≡ front ++ map f (range_with_len a n) → now ++ f j ∷ [] ≡ front ++ map f (range_with_len a (n + 1))
@@ -27,8 +16,7 @@ pushed f front now a n j e is = rw (is, map-range_with_len_more f a n j e) (appe
 -- lists that are made of the numbers, one behind the other
 pub pushed-list : {X : Type 0} (f : ℕ → List X) (now : List X) (n : ℕ) → now ≡ flat_map f (range_with_len 0 n) → now ++ f n ≡ flat_map f (range_with_len 0 (n + 1))
 pushed-list f now n is =
-    let e : 0 + n ≡ n = omega arith in
-    rw (is, range-more 0 n, e) (flat_map_more f [] (range_with_len 0 n) n)
+    rw (is, flat_range_more f n) refl
 
 -- three parts behind a list
 pub three_parts : {X : Type 0} (front a b c : List X) → ((front ++ a) ++ b) ++ c ≡ front ++ ((a ++ b) ++ c)

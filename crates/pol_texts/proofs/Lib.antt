@@ -1,4 +1,3 @@
-pub mod Groups
 pub mod SidNames
 pub mod RisingNames
 pub mod OrderedNames

@@ -3,7 +3,7 @@ use Rattle.std.proofs.Common.{◌≡◌, refl, ℕ, ◌+◌, ◌-◌, ◌<◌, �
 use Rattle.std.specs.Int.{from_bool}
 use Rattle.std.specs.List.{filter, range_with_len}
 use Rattle.std.proofs.lemmas.List.{take-set-le, take_more_set}
-use Rattle.value_groups.proofs.Ranges.{filter_range_one}
+use Rattle.pol_cursor.proofs.Ranges.{filter_range_one}
 
 module _ (wanted : ℕ → Bool) (from : ℕ) where
   one_more : (to : ℕ) → from ≤ to → filter wanted (range_with_len from (to + 1 - from)) ≡ filter wanted (range_with_len from (to - from)) ++ cond (wanted to) (to ∷ []) []

@@ -27,7 +27,7 @@ impl<'s> Model for AskedVectors<'s> {
 }
 
 impl<'s> AskedVectors<'s> {
-    /// Those of some kinds, from some sources and to some targets.
+    /// The access vectors of some kinds, from some sources and to some targets.
     pub fn new(
         kinds: &[bool; 12],
         sources: Option<&'s DenseSet>,

@@ -19,7 +19,7 @@ pub struct ClassBits {
 }
 
 impl ClassBits {
-    /// Those of a class, with the permissions of its common.
+    /// The bits of a class, with the permissions of its common.
     pub fn of(
         alloc: Global,
         symbols: &Symbols<'_>,

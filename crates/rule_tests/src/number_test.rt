@@ -22,7 +22,7 @@ pub struct NumberTest {
 }
 
 impl NumberTest {
-    /// Those of a criterion.
+    /// The numbers that a criterion asks.
     pub fn of(alloc: Global, criterion: &Criterion) -> Result<NumberTest, AllocError>
         ensures { IfOk result (IsNumberTest criterion.now) }
     {

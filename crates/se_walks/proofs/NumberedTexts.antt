@@ -1,7 +1,7 @@
 -- Numbered texts, and ranges of numbers.
-use Rattle.std.proofs.Common.{◌≡◌, ◌∙◌, ◌≤◌, ◌<◌, ◌+◌, ◌++◌, ℕ, zero, suc, List, [], ◌∷◌, Option, Some, None, length, take, drop, refl, sym, ap, add-one, append_assoc, append-nil, arith}
+use Rattle.std.proofs.Common.{◌≡◌, ◌∙◌, ◌≤◌, ◌+◌, ◌++◌, ℕ, zero, suc, List, [], ◌∷◌, Option, length, take, drop, refl, sym, ap, append_assoc, arith}
 use Rattle.std.specs.List.{concat, flat_map, range_with_len}
-use Rattle.std.proofs.lemmas.Grind.{flat_map-append}
+use Rattle.pol_cursor.proofs.Ranges.{flat_range_more}
 use Rattle.se_items.specs.Paging.{limited, most_items, page}
 use Rattle.se_walks.specs.Numbered.{numbered}
 
@@ -29,16 +29,10 @@ length-front zero xs = omega arith
 length-front (suc k) [] = omega arith
 length-front (suc k) (x ∷ xs) = let le = length-front k xs in omega (arith, le)
 
-range-more : (a n : ℕ) → range_with_len a (suc n) ≡ range_with_len a n ++ (a + n) ∷ []
-range-more a zero = let e : a ≡ a + 0 = omega arith in ap (λ k. k ∷ []) e
-range-more a (suc n) = let e : (a + 1) + n ≡ a + suc n = omega arith in ap (λ rest. a ∷ rest) (range-more (a + 1) n ∙ ap (λ k. range_with_len (a + 1) n ++ k ∷ []) e)
-
 -- the texts of numbers, one number more
 pub texts-so-far : (f : ℕ → List ℕ) (n : ℕ) (had mid has : List ℕ) → mid ≡ had ++ flat_map f (range_with_len 0 n) → has ≡ mid ++ f n → has ≡ had ++ flat_map f (range_with_len 0 (n + 1))
 texts-so-far f n had mid has so_far next =
-    let zero_n : 0 + n ≡ n = omega arith in
-    let e : range_with_len 0 (n + 1) ≡ range_with_len 0 n ++ n ∷ [] = rw add-one (range-more 0 n ∙ ap (λ k. range_with_len 0 n ++ k ∷ []) zero_n) in
-    rw (e, flat_map-append f (range_with_len 0 n) (n ∷ []), next, so_far) (append_assoc had (flat_map f (range_with_len 0 n)) (f n) ∙ ap (λ t. had ++ (flat_map f (range_with_len 0 n) ++ t)) (sym (append-nil (f n))))
+    rw (next, so_far, flat_range_more f n) (append_assoc had (flat_map f (range_with_len 0 n)) (f n))
 
 -- an item that is passed over
 pub one-passed : {A : Type 0} (f : ℕ → A → List ℕ) (n : ℕ) (xs ys : List A) (x : A) → xs ≡ x ∷ ys → (text : List ℕ) × (numbered f n xs ≡ text ∷ numbered f (n + 1) ys)

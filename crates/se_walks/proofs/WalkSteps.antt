@@ -1,13 +1,12 @@
 -- From a walk that is next to the one after it.
-use Rattle.std.proofs.Common.{◌≡◌, ◌∙◌, ◌≤◌, ◌<◌, ◌+◌, ℕ, zero, suc, Bool, true, false, List, [], ◌∷◌, Some, None, length, take, drop, slice_get, refl, sym, ap, add-one, arith, subst, slice_index_or}
-use Rattle.std.specs.Prelude.{Contains, if◌then◌else◌}
+use Rattle.std.proofs.Common.{◌≡◌, ◌≤◌, ◌<◌, ◌+◌, ℕ, zero, suc, Bool, true, false, List, [], ◌∷◌, Some, length, take, drop, slice_get, refl, sym, ap, add-one, arith, subst, slice_index_or}
+use Rattle.std.specs.Prelude.{if◌then◌else◌}
 use Rattle.std.specs.List.{All}
 use Rattle.std.proofs.lemmas.List.{drop_all}
 use Rattle.std.proofs.lemmas.Option.{slice_get_within}
 use Rattle.se_items.specs.Paging.{most_items}
 use Rattle.walk_enum.specs.Inner.Moving.{Moves}
 use Rattle.se_walks.specs.Numbered.{numbered}
-use Rattle.se_walks.specs.Inner.Placed.{IsNext}
 
 -- an item of a list, and what stands after it, also of a front of the list
 front-at : (all : List (List ℕ)) (most number : ℕ) (walk : List ℕ) → slice_get all number ≡ Some walk → number < most → drop number (take most all) ≡ walk ∷ drop (suc number) (take most all)

@@ -7,7 +7,7 @@ use Rattle.std.proofs.lemmas.Bool.{cases_eq, cases_lt, cases_order, cond_both, f
 use Rattle.std.proofs.lemmas.Nat.Bits.{bit_at-zero}
 use Rattle.std.proofs.lemmas.List.{get_or-set_same, get_or-set_other, get_or-replicate, get_or_past, get_or_append_left, get_or_push, length-replicate, length_push, take_more}
 use Rattle.std.proofs.lemmas.List.Folds.{list_any-append}
-use Rattle.std.proofs.lemmas.List.Elements.{All-contains, All-from_get_or, Contains-append_right, Contains-append_cases}
+use Rattle.std.proofs.lemmas.List.Elements.{All-contains, All-from_get_or, All-head, All-tail, Contains-append_right, Contains-append_cases}
 use Rattle.std.proofs.lemmas.Option.{slice_get-get_or}
 use Rattle.pol_cursor.proofs.BitPlaces.{or_nothing}
 use Rattle.pol_bitmap.specs.declared.Node.{Node}
@@ -19,9 +19,13 @@ use Rattle.pol_bitmap.proofs.Elements.{kept, keeps, contains_nothing, contains_o
 use Rattle.pol_bitmap.proofs.Merging.{IsRisingTo, made-more, made-end, fits-more, map_or, node_above, no_bit}
 use Rattle.pol_bitmap.proofs.NodeBits.{rising_start}
 use Rattle.pol_bitmap.proofs.SetMaking.{map_of, gains_node, starts_below}
-use Rattle.value_groups.proofs.Ranges.{filter_none}
 use Rattle.value_groups.specs.Among.{is_among}
 use Rattle.value_groups.specs.Inner.Dense.{word_has, values_in, IsDense}
+
+-- nothing passes
+filter_none : (p : ℕ → Bool) (xs : List ℕ) → All (λ x. p x ≡ false) xs → filter p xs ≡ []
+filter_none p [] h = refl
+filter_none p (x ∷ xs) h = rw (All-head (λ (x : ℕ). p x ≡ false) x xs h, filter_none p xs (All-tail (λ (x : ℕ). p x ≡ false) x xs h)) refl
 
 -- ---- one word
 

@@ -1,5 +1,5 @@
 -- The items that are left of walks.
-use Rattle.std.specs.Prelude.{◌≡◌, ◌+◌, ◌<◌, ℕ, List, [], Bool, true, drop, take, Some, slice_get, if◌then◌else◌}
+use Rattle.std.specs.Prelude.{◌+◌, ℕ, List, [], drop, take, if◌then◌else◌}
 use Rattle.se_items.specs.Paging.{most_items}
 use Rattle.se_walks.specs.Numbered.{numbered}
 use Rattle.se_walks.specs.WalkTexts.{EdgeWords, walk_item}

@@ -1,4 +1,4 @@
-use Rattle.std.proofs.Common.{◌∙◌, sym, ap, ◌++◌, option_map}
+use Rattle.std.proofs.Common.{◌∙◌, sym, option_map}
 use Rattle.info_contexts.proofs.GenfsEntries.{asked_more}
 use Rattle.info_contexts.proofs.genfs_entry.genfs_entries.Goals as goal
 

@@ -1,4 +1,4 @@
-use Rattle.std.proofs.Common.{◌≡◌, ◌++◌, ◌∙◌, sym, ap, option_map, append-nil}
+use Rattle.std.proofs.Common.{◌++◌, ◌∙◌, sym, ap, option_map, append-nil}
 use Rattle.info_contexts.specs.NamedEntries.{is_asked}
 use Rattle.info_contexts.proofs.GenfsEntries.{all_asked, none_asked}
 use Rattle.info_contexts.proofs.genfs_entry.push_asked.Goals as goal

@@ -1,7 +1,7 @@
-use Rattle.std.proofs.Common.{◌≡◌, ◌+◌, ◌++◌, ◌∷◌, [], List, ℕ, Bool, true, false, cond, sym, ap, ◌∙◌, append-nil}
+use Rattle.std.proofs.Common.{◌≡◌, ◌+◌, ◌++◌, ◌∷◌, [], List, ℕ, Bool, true, false, cond, sym, ap, ◌∙◌, append-nil, arith}
+use Rattle.pol_cursor.proofs.Ranges.{filter_range_one}
 use Rattle.pol_bitmap.specs.Nodes.{has_bit}
 use Rattle.pol_expand.specs.Inner.Inverting.{attribute_bits}
-use Rattle.pol_expand.proofs.Values.{filter_below_more}
 use Rattle.pol_expand.proofs.building.attribute_bits.Goals as goal
 use Rattle.pol_expand.proofs.building.attribute_bits.Goals.{then-has_value+in_ok-push, else-has_value}
 
@@ -10,7 +10,7 @@ loop-bit-preserved c =
     let attributes = c.args.attributes.now in
     let bit = c.loop-bit.bit in
     let so_far = attribute_bits attributes bit in
-    let more = filter_below_more (λ (b : ℕ). has_bit attributes (b + 1)) bit in
+    let more = filter_range_one (λ (b : ℕ). has_bit attributes (b + 1)) 0 bit bit (omega arith) in
     elim c.if-has_value.branch [
       | then-has_value+in_ok-push w ↦
           let passes : has_bit attributes (bit + 1) ≡ true = sym c.has_value.ensures ∙ w.if-has_value.true in

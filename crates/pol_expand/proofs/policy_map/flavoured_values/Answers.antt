@@ -1,6 +1,6 @@
-use Rattle.std.proofs.Common.{◌≡◌, ◌+◌, ◌++◌, ◌∷◌, [], List, ℕ, Bool, true, false, cond, sym, ap, ◌∙◌, append-nil}
+use Rattle.std.proofs.Common.{◌≡◌, ◌+◌, ◌++◌, ◌∷◌, [], List, ℕ, Bool, true, false, cond, sym, ap, ◌∙◌, append-nil, arith}
 use Rattle.std.specs.List.{filter, range_with_len}
-use Rattle.pol_expand.proofs.Values.{filter_range_more}
+use Rattle.pol_cursor.proofs.Ranges.{filter_range_one}
 use Rattle.pol_expand.specs.Flavours.{is_flavour}
 use Rattle.pol_expand.specs.PolicyMap.{has_flavour}
 use Rattle.pol_expand.proofs.policy_map.flavoured_values.Goals as goal
@@ -10,7 +10,7 @@ pub loop-i-preserved : goal.loop-i-preserved
 loop-i-preserved c =
     let p = has_flavour c.args.symbols.now c.args.flavour in
     let i = c.loop-i.i in
-    let more = filter_range_more p i in
+    let more = filter_range_one p 1 i (i + 1) (omega arith) in
     let so_far = filter p (range_with_len 1 i) in
     let is : c.is_flavour.result ≡ p (i + 1) = c.is_flavour.ensures ∙ ap (is_flavour c.args.flavour) c.flavour.ensures in
     elim c.if-is_flavour.branch [

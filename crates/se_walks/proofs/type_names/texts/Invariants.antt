@@ -1,4 +1,4 @@
-use Rattle.std.proofs.Common.{◌≡◌, ℕ, List, map, take}
+use Rattle.std.proofs.Common.{◌≡◌, map, take}
 use Rattle.se_options.specs.Options.{named_view}
 use Rattle.se_walks.proofs.type_names.texts.Given as goal
 
