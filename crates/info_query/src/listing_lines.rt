@@ -28,13 +28,13 @@ use std::alloc::{AllocError, Global};
 /// The lines of a listing, by how they are made.
 #[derive(Drop)]
 pub enum ListingLines<'p, 'a> {
-    /// Those of classes, commons, roles, users, booleans, sensitivities and categories.
+    /// The lines of classes, commons, roles, users, booleans, sensitivities and categories.
     Symbols(NumberedLines<SymbolLines<'p, 'a>>),
-    /// Those of types, permissive types, and attributes by their names.
+    /// The lines of types, permissive types, and attributes by their names.
     Types(NumberedLines<TypeLines<'p, 'a>>),
-    /// Those of attributes with their types.
+    /// The lines of attributes with their types.
     Attributes(AttributeLines<'p, 'a>),
-    /// Those of both kinds of constraints.
+    /// The lines of both kinds of constraints.
     Constraints(EntryLines<ConstraintLines<'p, 'a>>),
     Defaults(EntryLines<DefaultLines<'a>>),
     Typebounds(EntryLines<BoundsLines<'p, 'a>>),

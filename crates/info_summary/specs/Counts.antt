@@ -1,5 +1,5 @@
 -- What a summary counts besides rules.
-use Rattle.std.specs.Prelude.{ℕ, ◌+◌, false, List, length}
+use Rattle.std.specs.Prelude.{ℕ, ◌+◌, List, length}
 use Rattle.std.specs.List.{count_by, sum_by}
 use Rattle.pol_cursor.specs.References.{Placed}
 use Rattle.pol_bitmap.specs.Nodes.{bits_of}

@@ -68,7 +68,7 @@ impl<'a> Model for Aliases<'a> {
 }
 
 impl<'a> Aliases<'a> {
-    /// Those of a table, where they are wanted, in one pass over its records.
+    /// The aliases of a table, where they are wanted, in one pass over its records.
     pub(crate) fn new(
         alloc: Global,
         symbols: &Symbols<'a>,

@@ -211,7 +211,7 @@ impl<'a> AvView<'a> {
         }
     }
 
-    /// The same access vector, owned. It takes no memory, and so there is no error.
+    /// The access vector, owned. It takes no memory, and so there is no error.
     pub fn rec(&self, _alloc: Global) -> Result<AvRec, AllocError>
         ensures { result ≡ Ok self.now.value }
     {

@@ -15,7 +15,7 @@ pub struct ClassHashes {
 }
 
 impl ClassHashes {
-    /// Those of the first classes.
+    /// What the hash begins with for the first 256 classes.
     pub fn new() -> ClassHashes {
         let mut hashes = [0; CLASSES as usize];
         for class in 0..CLASSES {

@@ -15,7 +15,8 @@ pub fn access_vectors_have_laws()
     ensures condition_spelled { (version : ℕ) → IsReadFromSpelling (av_at version None) spell_av AvFits }
 {}
 
-/// The same of a table, which is read with the places of its rules as without them.
+/// A table of access vectors that is spelled and accepted is read again, and one that was read is spelled by the bytes that it was
+/// read from. It is read with the places of its rules as without them.
 pub fn tables_have_laws()
     ensures again { (version : ℕ) → IsReadAgain (plain_table_at version) spell_table TableFits }
     ensures spelled { (version : ℕ) → IsReadFromSpelling (plain_table_at version) spell_table TableFits }

@@ -205,7 +205,7 @@ impl Set {
         &self.nodes
     }
 
-    /// The same set. It shares the nodes.
+    /// A set of the same bits, which shares the nodes.
     pub fn share(&self) -> Result<Set, AllocError>
         ensures form { IfOk result IsSet }
         ensures same { IfOk result (λ s. s ≡ self.now) }

@@ -44,7 +44,8 @@ impl<'a> BitmapView<'a> {
         read_bitmap(c, None)
     }
 
-    /// The same of a bitmap all of whose bits are below the limit: also `MapBitOut`, at the first map with another bit.
+    /// Reads a bitmap all of whose bits have to be below the limit, as `read` does. The error is the first fault: one of those
+    /// of `read`, or `MapBitOut`, at the first map with another bit.
     pub fn read_below(c: &mut Cursor<'a>, limit: u32) -> Result<BitmapView<'a>, Fault>
         ensures exact { Answers (λ v. v) result (bitmap_at (Some limit)) c.old c.new }
         ensures stands { IfOk result (λ v. HasBitmap c.old.bytes c.old.place × (v ≡ bitmap_in c.old.bytes c.old.place)) }

@@ -1,9 +1,5 @@
 -- The common of a name, by its place in the table.
-use Rattle.std.proofs.Common.{◌≡◌, ℕ, ◌<◌, ◌≤◌, Bool, true, false, cond, List, Some, None, length, slice_get, refl, ap, ◌∙◌, ltb, arith}
-use Rattle.std.specs.List.{find, position, position_or_len}
-use Rattle.std.proofs.lemmas.Bool.{ltb-true, ltb-false}
-use Rattle.std.proofs.lemmas.Option.{cond_some, slice_get_past}
-use Rattle.std.proofs.lemmas.List.Folds.{find_at}
+use Rattle.std.proofs.Common.{◌≡◌, ℕ, ◌<◌, List, Some, None, length, slice_get, ◌∙◌}
 use Rattle.pol_cursor.specs.References.{Placed}
 use Rattle.pol_symtab.proofs.Searches.{found_at, nothing_found}
 use Rattle.pol_symtab.specs.SymbolTables.{Table, index_named, has_the_name}

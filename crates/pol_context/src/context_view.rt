@@ -86,7 +86,7 @@ impl<'a> ContextView<'a> {
         }
     }
 
-    /// The same context, owned.
+    /// The context, owned.
     pub fn rec(&self, alloc: Global) -> Result<ContextRec, AllocError>
         ensures { IfOk result (λ context. context ≡ self.now.value) }
     {

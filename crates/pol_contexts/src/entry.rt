@@ -75,7 +75,7 @@ impl<'a, R: Entry> EntryView<'a, R> {
         R::dangling_in(self, names)
     }
 
-    /// The same entry, owned.
+    /// The entry, owned.
     pub fn rec(&self, alloc: Global) -> Result<R, AllocError>
         ensures { IfOk result (λ entry. entry ≡ self.now.value) }
     {

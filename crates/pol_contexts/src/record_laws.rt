@@ -20,7 +20,8 @@ pub fn sids_have_laws()
     ensures list_spelled { IsReadFromSpelling (entries_at SID_COUNT sid_at) (spell_counted spell_sid) (CountedFits SidFits) }
 {}
 
-/// The same of the entry of a file system, and of the list of such entries.
+/// The entry of a file system that is spelled and accepted is read again, and one that was read is spelled by the bytes that it
+/// was read from, and so is the list of such entries.
 pub fn file_systems_have_laws()
     ensures again { IsReadAgain (named_at FS_LEN FS_NAME) spell_named NamedFits }
     ensures spelled { IsReadFromSpelling (named_at FS_LEN FS_NAME) spell_named NamedFits }
@@ -28,7 +29,8 @@ pub fn file_systems_have_laws()
     ensures list_spelled { IsReadFromSpelling (entries_at FS_COUNT (named_at FS_LEN FS_NAME)) (spell_counted spell_named) (CountedFits NamedFits) }
 {}
 
-/// The same of the entry of a range of ports, and of the list of such entries.
+/// The entry of a range of ports that is spelled and accepted is read again, and one that was read is spelled by the bytes that
+/// it was read from, and so is the list of such entries.
 pub fn ports_have_laws()
     ensures again { IsReadAgain port_at spell_port PortFits }
     ensures spelled { IsReadFromSpelling port_at spell_port PortFits }
@@ -36,7 +38,8 @@ pub fn ports_have_laws()
     ensures list_spelled { IsReadFromSpelling (entries_at PORT_COUNT port_at) (spell_counted spell_port) (CountedFits PortFits) }
 {}
 
-/// The same of the entry of a network interface, and of the list of such entries.
+/// The entry of a network interface that is spelled and accepted is read again, and one that was read is spelled by the bytes
+/// that it was read from, and so is the list of such entries.
 pub fn interfaces_have_laws()
     ensures again { IsReadAgain (named_at NETIF_LEN NETIF_NAME) spell_named NamedFits }
     ensures spelled { IsReadFromSpelling (named_at NETIF_LEN NETIF_NAME) spell_named NamedFits }
@@ -44,7 +47,8 @@ pub fn interfaces_have_laws()
     ensures list_spelled { IsReadFromSpelling (entries_at NETIF_COUNT (named_at NETIF_LEN NETIF_NAME)) (spell_counted spell_named) (CountedFits NamedFits) }
 {}
 
-/// The same of the entry of IPv4 addresses, and of the list of such entries.
+/// The entry of IPv4 addresses that is spelled and accepted is read again, and one that was read is spelled by the bytes that
+/// it was read from, and so is the list of such entries.
 pub fn nodes_have_laws()
     ensures again { IsReadAgain (address_at NODE_ADDRESS NODE_MASK 4) spell_address (AddressFits 4) }
     ensures spelled { IsReadFromSpelling (address_at NODE_ADDRESS NODE_MASK 4) spell_address (AddressFits 4) }
@@ -52,7 +56,8 @@ pub fn nodes_have_laws()
     ensures list_spelled { IsReadFromSpelling (entries_at NODE_COUNT (address_at NODE_ADDRESS NODE_MASK 4)) (spell_counted spell_address) (CountedFits (AddressFits 4)) }
 {}
 
-/// The same of the entry of the behaviour of a file system, and of the list of such entries.
+/// The entry of the behaviour of a file system that is spelled and accepted is read again, and one that was read is spelled by
+/// the bytes that it was read from, and so is the list of such entries.
 pub fn behaviours_have_laws()
     ensures again { IsReadAgain fsuse_at spell_fsuse FsUseFits }
     ensures spelled { IsReadFromSpelling fsuse_at spell_fsuse FsUseFits }
@@ -60,7 +65,8 @@ pub fn behaviours_have_laws()
     ensures list_spelled { IsReadFromSpelling (entries_at FSUSE_COUNT fsuse_at) (spell_counted spell_fsuse) (CountedFits FsUseFits) }
 {}
 
-/// The same of the entry of IPv6 addresses, and of the list of such entries.
+/// The entry of IPv6 addresses that is spelled and accepted is read again, and one that was read is spelled by the bytes that
+/// it was read from, and so is the list of such entries.
 pub fn nodes6_have_laws()
     ensures again { IsReadAgain (address_at NODE6_ADDRESS NODE6_MASK 16) spell_address (AddressFits 16) }
     ensures spelled { IsReadFromSpelling (address_at NODE6_ADDRESS NODE6_MASK 16) spell_address (AddressFits 16) }
@@ -68,7 +74,8 @@ pub fn nodes6_have_laws()
     ensures list_spelled { IsReadFromSpelling (entries_at NODE6_COUNT (address_at NODE6_ADDRESS NODE6_MASK 16)) (spell_counted spell_address) (CountedFits (AddressFits 16)) }
 {}
 
-/// The same of the entry of partition keys, and of the list of such entries.
+/// The entry of partition keys that is spelled and accepted is read again, and one that was read is spelled by the bytes that
+/// it was read from, and so is the list of such entries.
 pub fn partition_keys_have_laws()
     ensures again { IsReadAgain ibpkey_at spell_ibpkey IbPkeyFits }
     ensures spelled { IsReadFromSpelling ibpkey_at spell_ibpkey IbPkeyFits }
@@ -76,7 +83,8 @@ pub fn partition_keys_have_laws()
     ensures list_spelled { IsReadFromSpelling (entries_at IBPKEY_COUNT ibpkey_at) (spell_counted spell_ibpkey) (CountedFits IbPkeyFits) }
 {}
 
-/// The same of the entry of the port of a device, and of the list of such entries.
+/// The entry of the port of a device that is spelled and accepted is read again, and one that was read is spelled by the bytes
+/// that it was read from, and so is the list of such entries.
 pub fn device_ports_have_laws()
     ensures again { IsReadAgain ibendport_at spell_ibendport IbEndPortFits }
     ensures spelled { IsReadFromSpelling ibendport_at spell_ibendport IbEndPortFits }

@@ -80,7 +80,7 @@ impl<'a> GenfsPathView<'a> {
         dangling(names, place, GENFS_CLASS, TableKind::Classes, class)
     }
 
-    /// The same path, owned.
+    /// The path, owned.
     pub fn rec(&self, alloc: Global) -> Result<GenfsPathRec, AllocError>
         ensures { IfOk result (λ entry. entry ≡ self.now.value) }
     {

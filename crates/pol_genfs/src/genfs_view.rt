@@ -92,7 +92,7 @@ impl<'a> GenfsView<'a> {
         dangling_path(self.paths(), names)
     }
 
-    /// The same file system, owned.
+    /// The file system, owned.
     pub fn rec(&self, alloc: Global) -> Result<GenfsRec, AllocError>
         ensures { IfOk result (λ entry. entry ≡ self.now.value) }
     {

@@ -1,5 +1,5 @@
 -- Records that are read have no wrong optional part.
-use Rattle.std.proofs.Common.{◌≡◌, ℕ, ◌==◌, ◌&&◌, IfSome, Bool, true, false, Option, Some, None, List, refl}
+use Rattle.std.proofs.Common.{◌≡◌, ℕ, ◌==◌, Bool, true, false, Option, Some, None, List, refl}
 use Rattle.std.specs.Prelude.{is_some}
 use Rattle.pol_fields.specs.declared.field.Field.{Field}
 use Rattle.pol_fields.specs.declared.fields.TheConstants.{CLASS_DEFAULT_USER, CLASS_DEFAULT_ROLE, CLASS_DEFAULT_RANGE, CLASS_DEFAULT_TYPE, CONSTRAINT_FLAGS, USER_LEN, USER_VALUE, USER_BOUNDS, USER_NAME, RANGE_HIGH, AV_XKIND, FSUSE_LEN, FSUSE_NAME, IBENDPORT_LEN, IBENDPORT_NAME, GENFS_LEN, GENFS_FSTYPE, GENFS_PATHLEN, GENFS_PATH}

@@ -1,12 +1,10 @@
 -- What a table's look-ups find, as searches through its records.
-use Rattle.std.proofs.Common.{◌≡◌, ℕ, ◌<◌, ◌≤◌, Bool, true, false, cond, List, ◌++◌, Some, None, length, slice_get, refl, ap, ◌∙◌, ltb, arith}
+use Rattle.std.proofs.Common.{◌≡◌, ℕ, ◌<◌, Bool, List, ◌++◌, Some, None, length, slice_get, refl, ◌∙◌}
 use Rattle.std.specs.Prelude.{nat_eq}
 use Rattle.std.specs.Str.{bytes_eq}
-use Rattle.std.specs.List.{find, position, position_or_len, fold}
+use Rattle.std.specs.List.{find, fold}
 use Rattle.std.specs.Prelude.{bit_or}
-use Rattle.std.proofs.lemmas.Bool.{ltb-true, ltb-false}
-use Rattle.std.proofs.lemmas.Option.{cond_some, slice_get_past}
-use Rattle.std.proofs.lemmas.List.Folds.{find_at, find-append}
+use Rattle.std.proofs.lemmas.List.Folds.{find-append}
 use Rattle.std.proofs.lemmas.List.Sums.{fold-append}
 use Rattle.pol_cursor.specs.References.{Placed}
 use Rattle.pol_symtab.proofs.Searches.{found_at, nothing_found}

@@ -17,7 +17,8 @@ pub fn role_allows_have_laws()
     ensures list_spelled { IsReadFromSpelling (counted ROLEALLOW_COUNT (records_at role_allow_at)) (spell_counted spell_role_allow) (CountedFits RoleAllowFits) }
 {}
 
-/// The same of a role transition and of the list of them.
+/// A role transition that is spelled and accepted is read again, and one that was read is spelled by the bytes that it was read
+/// from, and so is the list of role transitions behind its count.
 pub fn role_transitions_have_laws()
     ensures again { IsReadAgain role_trans_at spell_role_trans RoleTransFits }
     ensures spelled { IsReadFromSpelling role_trans_at spell_role_trans RoleTransFits }
@@ -25,7 +26,8 @@ pub fn role_transitions_have_laws()
     ensures list_spelled { IsReadFromSpelling (counted ROLETRANS_COUNT (records_at role_trans_at)) (spell_counted spell_role_trans) (CountedFits RoleTransFits) }
 {}
 
-/// The same of a file-name transition and of the list of them.
+/// A file-name transition that is spelled and accepted is read again, and one that was read is spelled by the bytes that it was
+/// read from, and so is the list of file-name transitions behind its count.
 pub fn name_transitions_have_laws()
     ensures again { IsReadAgain name_trans_at spell_name_trans NameTransFits }
     ensures spelled { IsReadFromSpelling name_trans_at spell_name_trans NameTransFits }
@@ -33,7 +35,8 @@ pub fn name_transitions_have_laws()
     ensures list_spelled { IsReadFromSpelling (counted NAMETRANS_COUNT (records_at name_trans_at)) (spell_counted spell_name_trans) (CountedFits NameTransFits) }
 {}
 
-/// The same of a group of file-name transitions and of the list of them.
+/// A group of file-name transitions that is spelled and accepted is read again, and one that was read is spelled by the bytes
+/// that it was read from, and so is the list of such groups behind its count.
 pub fn name_groups_have_laws()
     ensures again { IsReadAgain name_group_at spell_name_group NameGroupFits }
     ensures spelled { IsReadFromSpelling name_group_at spell_name_group NameGroupFits }
@@ -41,7 +44,8 @@ pub fn name_groups_have_laws()
     ensures list_spelled { IsReadFromSpelling (counted NAMEGROUP_COUNT (records_at name_group_at)) (spell_counted spell_name_group) (CountedFits NameGroupFits) }
 {}
 
-/// The same of a range transition and of the list of them.
+/// A range transition that is spelled and accepted is read again, and one that was read is spelled by the bytes that it was
+/// read from, and so is the list of range transitions behind its count.
 pub fn range_transitions_have_laws()
     ensures again { IsReadAgain range_trans_at spell_range_trans RangeTransFits }
     ensures spelled { IsReadFromSpelling range_trans_at spell_range_trans RangeTransFits }

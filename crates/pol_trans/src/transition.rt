@@ -41,7 +41,7 @@ impl<'a, R: Stored> Model for TransitionView<'a, R> {
 }
 
 impl<'a, R: Stored> TransitionView<'a, R> {
-    /// The same record, owned.
+    /// The record, owned.
     pub fn rec(&self, alloc: Global) -> Result<R, AllocError>
         ensures { IfOk result (λ owned. owned ≡ self.now.value) }
     {

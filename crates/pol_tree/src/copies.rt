@@ -9,7 +9,7 @@ use pol_read::Policy;
 use pol_symbols::Symbols;
 use std::alloc::{AllocError, Global};
 
-/// The same policy, owned.
+/// The policy, owned.
 #[tactic(auto, unfolding(crate::specs::PolicyTree::tree_of))]
 pub fn tree_of(alloc: Global, policy: &Policy<'_>) -> Result<Tree, AllocError>
     ensures { IfOk result (λ tree. tree ≡ tree_of policy.now) }

@@ -58,7 +58,7 @@ impl<'p> ChosenRules<'p> {
         ChosenRules::of_gathered(alloc, policy, types, gathered)
     }
 
-    /// The same of rules that were gathered with their ends.
+    /// The rules that were gathered with their ends, of the policy.
     pub fn of_gathered(
         alloc: Global,
         policy: &'p Policy<'p>,
@@ -85,7 +85,7 @@ impl<'p> ChosenRules<'p> {
         self.policy
     }
 
-    /// Those of the rules whose source expands to the one type, and whose target to the other, in the order in which rules are
+    /// The rules among them whose source expands to the one type, and whose target to the other, in the order in which rules are
     /// listed.
     pub fn between(&self, alloc: Global, source: u32, target: u32) -> Result<Vec<u32>, AllocError>
         ensures found { IfOk result (λ found. found.items ≡ rules_between self.now.policy self.now.rules source target) }

@@ -1,7 +1,7 @@
 -- Items that go through a buffer.
 use Rattle.std.proofs.Common.{◌≡◌, ◌≤◌, ◌<◌, ◌+◌, ◌-◌, ◌++◌, ◌∷◌, [], ℕ, zero, suc, List, length, take, drop, get_or, Option, None, Ok, Err, Bool, true, false, sym, ◌∙◌, ap, refl, drop-cons, add-one, arith, length-drop, append_assoc, append-nil}
-use Rattle.std.specs.List.{concat, flat_map}
-use Rattle.std.proofs.lemmas.List.{drop_all, take_all, take_more, take-append-drop}
+use Rattle.std.specs.List.{flat_map}
+use Rattle.std.proofs.lemmas.List.{drop_all, take_all, take_more}
 use Rattle.se_items.specs.Inner.Items.{Passes, PushesItem}
 use Rattle.se_items.specs.Paging.{limited}
 use Rattle.se_items.specs.Writing.{Moves, Emits, Sends, Wrote}

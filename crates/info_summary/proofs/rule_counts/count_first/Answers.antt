@@ -1,4 +1,4 @@
-use Rattle.std.proofs.Common.{ℕ, ◌+◌, get_or, refl, slice_set, sym, take, ap, ◌∙◌}
+use Rattle.std.proofs.Common.{◌+◌, get_or, refl, slice_set, sym, take, ap, ◌∙◌}
 use Rattle.pol_rules.specs.declared.rule.RuleKind.{RuleKind}
 use Rattle.pol_rules.specs.declared.rule.RuleEnds.{RuleEnds}
 use Rattle.pol_rules.specs.RuleOrder.{kind_number}

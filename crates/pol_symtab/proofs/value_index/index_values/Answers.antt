@@ -1,5 +1,5 @@
 use Rattle.std.proofs.Common.{sym, ◌∙◌, subst, ◌<◌, length, Some, None, [], ◌+◌, arith}
-use Rattle.std.specs.Prelude.{vec_len, take, slice_set}
+use Rattle.std.specs.Prelude.{vec_len}
 use Rattle.std.proofs.lemmas.List.{length-set}
 use Rattle.pol_symtab.specs.Inner.TableIndex.{IsValueIndex}
 use Rattle.pol_symtab.proofs.ListPlaces.{filled_up}

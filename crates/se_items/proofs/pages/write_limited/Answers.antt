@@ -1,4 +1,4 @@
-use Rattle.std.proofs.Common.{arith, ◌≡◌, take}
+use Rattle.std.proofs.Common.{arith}
 use Rattle.se_items.proofs.ItemTexts.{all-limited}
 use Rattle.se_items.proofs.pages.write_limited.Goals as goal
 
