@@ -25,6 +25,42 @@ nprims_of symbols =
     symbols.commons.nprim ∷ symbols.classes.nprim ∷ symbols.roles.nprim ∷ symbols.types.nprim
     ∷ symbols.users.nprim ∷ symbols.booleans.nprim ∷ symbols.levels.nprim ∷ symbols.categories.nprim ∷ []
 
+-- a policy that has nothing in it
+abbrev pub empty_tree : Tree
+empty_tree = record {
+  version = 0;
+  config = 0;
+  capabilities = [];
+  permissive = [];
+  nprims = 0 ∷ 0 ∷ 0 ∷ 0 ∷ 0 ∷ 0 ∷ 0 ∷ 0 ∷ [];
+  commons = [];
+  classes = [];
+  roles = [];
+  types = [];
+  users = [];
+  booleans = [];
+  levels = [];
+  categories = [];
+  avtab = [];
+  condlist = [];
+  roletrans = [];
+  roleallow = [];
+  nametrans = [];
+  namegroup = [];
+  sid = [];
+  fs = [];
+  port = [];
+  netif = [];
+  node = [];
+  fsuse = [];
+  node6 = [];
+  ibpkey = [];
+  ibendport = [];
+  genfs = [];
+  rangetrans = [];
+  typemap = [];
+}
+
 unfoldable pub tree_of : Parts → Tree
 tree_of policy = record {
   version = policy.front.header.version;

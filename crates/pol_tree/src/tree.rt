@@ -1,3 +1,6 @@
+ghost use Rattle.std.specs.Prelude.{◌≡◌, [], IfOk};
+ghost use Rattle.pol_tree.specs.PolicyTree.{empty_tree};
+
 use pol_avtab::AvRecList;
 use pol_bitmap::{Set, SetList};
 use pol_classes::ClassRecList;
@@ -7,15 +10,16 @@ use pol_contexts::{
     FsRecList, FsUseRecList, IbEndPortRecList, IbPkeyRecList, NetifRecList, Node6RecList,
     NodeRecList, PortRecList, SidRecList,
 };
+use pol_cursor::OwnedList;
 use pol_datums::{BooleanRecList, CategoryRecList, RoleRecList, SensitivityRecList, TypeRecList};
 use pol_genfs::GenfsRecList;
 use pol_symbols::UserRecList;
 use pol_trans::{
     NameGroupRecList, NameTransRecList, RangeTransRecList, RoleAllowRecList, RoleTransRecList,
 };
+use std::alloc::{AllocError, Global};
 
 /// A policy as lists of owned records, each in file order.
-#[derive(Drop)]
 pub struct Tree {
     /// The version of the format, 28 to 34.
     pub version: u32,
@@ -58,4 +62,93 @@ pub struct Tree {
     pub rangetrans: RangeTransRecList,
     /// The rows of the type map, one for each type value, that of 1 first: bit v - 1 stands for the value v.
     pub typemap: SetList,
+}
+
+// Its parts go in one call, wherever it is dropped.
+impl Drop for Tree {
+    fn drop(self) {
+        let Tree {
+            version,
+            config,
+            capabilities,
+            permissive,
+            nprims,
+            commons,
+            classes,
+            roles,
+            types,
+            users,
+            booleans,
+            levels,
+            categories,
+            avtab,
+            condlist,
+            roletrans,
+            roleallow,
+            nametrans,
+            namegroup,
+            sid,
+            fs,
+            port,
+            netif,
+            node,
+            fsuse,
+            node6,
+            ibpkey,
+            ibendport,
+            genfs,
+            rangetrans,
+            typemap,
+        } = self;
+    }
+}
+
+impl Tree {
+    /// A policy that has nothing in it yet.
+    pub fn empty(alloc: Global) -> Result<Tree, AllocError>
+        ensures { IfOk result (λ tree. tree ≡ record empty_tree { capabilities = tree.capabilities; permissive = tree.permissive }) }
+    {
+        let capabilities = Set::empty(alloc)?;
+        let permissive = Set::empty(alloc)?;
+        Ok(Tree {
+            version: 0,
+            config: 0,
+            capabilities,
+            permissive,
+            nprims: [0; 8],
+            commons: nothing(alloc),
+            classes: nothing(alloc),
+            roles: nothing(alloc),
+            types: nothing(alloc),
+            users: nothing(alloc),
+            booleans: nothing(alloc),
+            levels: nothing(alloc),
+            categories: nothing(alloc),
+            avtab: nothing(alloc),
+            condlist: nothing(alloc),
+            roletrans: nothing(alloc),
+            roleallow: nothing(alloc),
+            nametrans: nothing(alloc),
+            namegroup: nothing(alloc),
+            sid: nothing(alloc),
+            fs: nothing(alloc),
+            port: nothing(alloc),
+            netif: nothing(alloc),
+            node: nothing(alloc),
+            fsuse: nothing(alloc),
+            node6: nothing(alloc),
+            ibpkey: nothing(alloc),
+            ibendport: nothing(alloc),
+            genfs: nothing(alloc),
+            rangetrans: nothing(alloc),
+            typemap: nothing(alloc),
+        })
+    }
+}
+
+// A list without records.
+fn nothing<T: Drop>(alloc: Global) -> OwnedList<T>
+    ensures { result ≡ [] }
+{
+    OwnedList::from_vec(Vec::new(alloc))
 }
