@@ -3,7 +3,6 @@
 
 mod policy;
 mod rules;
-mod rules_from;
 mod sorting;
 
 pub use pol_file::{TypeMap, TypeMapRow};
@@ -12,4 +11,3 @@ pub use pol_rules::{
     vector_rule,
 };
 pub use policy::{Policy, read};
-pub use rules_from::Rules;

@@ -1,10 +1,9 @@
 // The stored rules of a policy.
-ghost use Rattle.std.specs.Prelude.{◌≡◌, ◌<◌, ◌≤◌, Some, drop, length, option_map, slice_get};
+ghost use Rattle.std.specs.Prelude.{◌≡◌, ◌<◌, ◌≤◌, Some, length, option_map, slice_get};
 ghost use Rattle.pol_rules.specs.StoredRules.{stored, ends_of, stored_rules};
 ghost use Rattle.pol_rules.specs.DeclaredRules.{IsDeclaredRule, AreDeclaredEnds};
 
 use crate::policy::Policy;
-use crate::rules_from::Rules;
 use pol_rules::{Rule, RuleEnds, ends_at, rule_at};
 
 impl<'a> Policy<'a> {
@@ -41,13 +40,5 @@ impl<'a> Policy<'a> {
         ensures declared { AreDeclaredEnds self.now result }
     {
         ends_at(&self.parts, &self.index, n)
-    }
-
-    /// The stored rules in file order, from the one of that number on, and none where there is no such rule. Each is found as
-    /// `rule` finds it, so that no step goes through the rules before.
-    pub fn rules_from(&self, n: u32) -> Rules<'_, 'a>
-        ensures { result ≡ drop n (stored_rules self.now) }
-    {
-        Rules::new(self, n)
     }
 }
