@@ -21,13 +21,24 @@ use walk_enum::{Graph, Steps};
 /// at an excluded type. Contracts see the policy, the excluded types and the direction.
 ///
 /// It is made of the rules that transitions rest on, and asks them for the successors of a node. All edges are never made.
-#[derive(Drop)]
 pub struct DomGraph<'p> {
     rules: DomRules<'p>,
     excluded: Set,
     // The types that are not excluded.
     included: Set,
     reverse: bool,
+}
+
+// Its parts go in one call, wherever it is dropped.
+impl Drop for DomGraph<'_> {
+    fn drop(self) {
+        let DomGraph {
+            rules,
+            excluded,
+            included,
+            reverse,
+        } = self;
+    }
 }
 
 impl<'p> Model for DomGraph<'p> {

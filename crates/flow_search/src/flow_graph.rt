@@ -28,7 +28,6 @@ use walk_enum::{Graph, Steps};
 ///
 /// It keeps the rules that flow at least the weight by their stored ends, and asks them for the successors of a node. All edges are never
 /// made.
-#[derive(Drop)]
 pub struct FlowGraph<'p> {
     weigher: Weigher<'p>,
     least: u8,
@@ -40,6 +39,21 @@ pub struct FlowGraph<'p> {
     // The types that may be an end of an edge.
     open_types: Set,
     reverse: bool,
+}
+
+// Its parts go in one call, wherever it is dropped.
+impl Drop for FlowGraph<'_> {
+    fn drop(self) {
+        let FlowGraph {
+            weigher,
+            least,
+            out,
+            into,
+            excluded,
+            open_types,
+            reverse,
+        } = self;
+    }
 }
 
 impl<'p> Model for FlowGraph<'p> {

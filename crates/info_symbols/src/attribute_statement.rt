@@ -21,7 +21,6 @@ use std::marker::Model;
 
 /// The statements of attributes, one after the other. The types of each are looked up as its line comes. Contracts see the
 /// lines that are left.
-#[derive(Drop)]
 pub struct AttributeLines<'p, 'a> {
     alloc: Global,
     policy: &'p Policy<'a>,
@@ -29,6 +28,19 @@ pub struct AttributeLines<'p, 'a> {
     // The numbers of the attributes' records.
     numbers: Vec<u32>,
     next: usize,
+}
+
+// Its parts go in one call, wherever it is dropped.
+impl Drop for AttributeLines<'_, '_> {
+    fn drop(self) {
+        let AttributeLines {
+            alloc,
+            policy,
+            types,
+            numbers,
+            next,
+        } = self;
+    }
 }
 
 impl<'p, 'a> Model for AttributeLines<'p, 'a> {

@@ -3,7 +3,6 @@ use pol_constraints::ConstraintRec;
 use pol_cursor::{ByteList, OwnedList};
 
 /// A class of objects, owned.
-#[derive(Drop)]
 pub struct ClassRec {
     /// One byte or more, each from 0x21 to 0x7E.
     pub name: ByteList,
@@ -28,6 +27,25 @@ pub struct ClassRec {
     pub default_range: u32,
     /// Whose type a new object has: 0 not said, 1 the source's, 2 the target's.
     pub default_type: u32,
+}
+
+// Its parts go in one call, wherever it is dropped.
+impl Drop for ClassRec {
+    fn drop(self) {
+        let ClassRec {
+            name,
+            common,
+            value,
+            nprim,
+            permissions,
+            constraints,
+            validatetrans,
+            default_user,
+            default_role,
+            default_range,
+            default_type,
+        } = self;
+    }
 }
 
 pub type ClassRecList = OwnedList<ClassRec>;

@@ -73,11 +73,21 @@ impl<'a> ReadAfter<'a> for CondNode {
 
 /// The conditional nodes. Contracts see the list of them, each with its place. Besides the places of the nodes it keeps those
 /// of their rules, so that each rule is found at once.
-#[derive(Drop)]
 pub struct Conditionals<'a> {
     nodes: Records<'a, CondNode>,
     true_places: PlaceGroups,
     false_places: PlaceGroups,
+}
+
+// Its parts go in one call, wherever it is dropped.
+impl Drop for Conditionals<'_> {
+    fn drop(self) {
+        let Conditionals {
+            nodes,
+            true_places,
+            false_places,
+        } = self;
+    }
 }
 
 impl<'a> Model for Conditionals<'a> {

@@ -6,7 +6,6 @@ use pol_expr::ConditionRec;
 pub type CondNodeRecList = OwnedList<CondNodeRec>;
 
 /// A conditional node, owned.
-#[derive(Drop)]
 pub struct CondNodeRec {
     /// The state and the expression.
     pub condition: ConditionRec,
@@ -14,4 +13,15 @@ pub struct CondNodeRec {
     pub true_rules: OwnedList<AvRec>,
     /// The rules that hold where it is false.
     pub false_rules: OwnedList<AvRec>,
+}
+
+// Its parts go in one call, wherever it is dropped.
+impl Drop for CondNodeRec {
+    fn drop(self) {
+        let CondNodeRec {
+            condition,
+            true_rules,
+            false_rules,
+        } = self;
+    }
 }

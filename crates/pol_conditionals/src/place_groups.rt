@@ -14,10 +14,16 @@ struct Span {
 }
 
 /// Lists of places, one behind the other in one vector. Contracts see the list of them.
-#[derive(Drop)]
 pub struct PlaceGroups {
     places: Vec<u32>,
     spans: Vec<Span>,
+}
+
+// Its parts go in one call, wherever it is dropped.
+impl Drop for PlaceGroups {
+    fn drop(self) {
+        let PlaceGroups { places, spans } = self;
+    }
 }
 
 impl Model for PlaceGroups {

@@ -2,7 +2,6 @@ use pol_context::ContextRec;
 use pol_cursor::ByteList;
 
 /// The contexts of a file system or a network interface, owned.
-#[derive(Drop)]
 pub struct NamedRec {
     /// Its name.
     pub name: ByteList,
@@ -10,4 +9,15 @@ pub struct NamedRec {
     pub context: ContextRec,
     /// The context of its files, or of the packets that it receives.
     pub second_context: ContextRec,
+}
+
+// Its parts go in one call, wherever it is dropped.
+impl Drop for NamedRec {
+    fn drop(self) {
+        let NamedRec {
+            name,
+            context,
+            second_context,
+        } = self;
+    }
 }

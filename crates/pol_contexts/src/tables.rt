@@ -60,7 +60,6 @@ pub type IbPkeyRecList = OwnedList<IbPkeyRec>;
 pub type IbEndPortRecList = OwnedList<IbEndPortRec>;
 
 /// The tables of a policy that hold contexts, each in file order.
-#[derive(Drop)]
 pub struct Contexts<'a> {
     pub sid: Records<'a, Sid>,
     pub fs: Records<'a, Fs>,
@@ -73,6 +72,23 @@ pub struct Contexts<'a> {
     pub ibpkey: Records<'a, IbPkey>,
     /// It is empty below version 31.
     pub ibendport: Records<'a, IbEndPort>,
+}
+
+// Its parts go in one call, wherever it is dropped.
+impl Drop for Contexts<'_> {
+    fn drop(self) {
+        let Contexts {
+            sid,
+            fs,
+            port,
+            netif,
+            node,
+            fsuse,
+            node6,
+            ibpkey,
+            ibendport,
+        } = self;
+    }
 }
 
 /// Reads the tables in the order of the file. Nothing is reserved by the numbers that the policy claims.

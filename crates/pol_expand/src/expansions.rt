@@ -11,12 +11,23 @@ use std::marker::Model;
 
 /// What the types and attributes of a policy expand to, by values: an attribute to the declared types that have it, a type to
 /// itself. Expansions get numbers in a pool, each when it is first asked for.
-#[derive(Drop)]
 pub struct TypeMap {
     inverse: Inverse,
     numbers: Vec<Option<u32>>,
     pool: Pool,
     kept: u32,
+}
+
+// Its parts go in one call, wherever it is dropped.
+impl Drop for TypeMap {
+    fn drop(self) {
+        let TypeMap {
+            inverse,
+            numbers,
+            pool,
+            kept,
+        } = self;
+    }
 }
 
 impl Model for TypeMap {

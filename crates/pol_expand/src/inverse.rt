@@ -11,11 +11,21 @@ use std::alloc::{AllocError, Global};
 use std::marker::Model;
 
 /// The map of types to attributes, turned round.
-#[derive(Drop)]
 pub struct Inverse {
     attributes: Set,
     types: Set,
     sets: Vec<Set>,
+}
+
+// Its parts go in one call, wherever it is dropped.
+impl Drop for Inverse {
+    fn drop(self) {
+        let Inverse {
+            attributes,
+            types,
+            sets,
+        } = self;
+    }
 }
 
 impl Model for Inverse {

@@ -20,7 +20,6 @@ pub struct Front<'a> {
 }
 
 /// The rules but for the range transitions.
-#[derive(Drop)]
 pub struct RuleLists<'a> {
     pub table: AvTable<'a>,
     pub conditionals: Conditionals<'a>,
@@ -29,8 +28,20 @@ pub struct RuleLists<'a> {
     pub name_trans: NameTrans<'a>,
 }
 
+// Its parts go in one call, wherever it is dropped.
+impl Drop for RuleLists<'_> {
+    fn drop(self) {
+        let RuleLists {
+            table,
+            conditionals,
+            role_trans,
+            role_allows,
+            name_trans,
+        } = self;
+    }
+}
+
 /// What stands behind those.
-#[derive(Drop)]
 pub struct LabelLists<'a> {
     pub contexts: Contexts<'a>,
     pub genfs: GenfsList<'a>,
@@ -38,11 +49,34 @@ pub struct LabelLists<'a> {
     pub type_map: TypeMap<'a>,
 }
 
+// Its parts go in one call, wherever it is dropped.
+impl Drop for LabelLists<'_> {
+    fn drop(self) {
+        let LabelLists {
+            contexts,
+            genfs,
+            range_trans,
+            type_map,
+        } = self;
+    }
+}
+
 /// A whole policy.
-#[derive(Drop)]
 pub struct Parts<'a> {
     pub front: Front<'a>,
     pub symbols: Symbols<'a>,
     pub rules: RuleLists<'a>,
     pub labels: LabelLists<'a>,
+}
+
+// Its parts go in one call, wherever it is dropped.
+impl Drop for Parts<'_> {
+    fn drop(self) {
+        let Parts {
+            front,
+            symbols,
+            rules,
+            labels,
+        } = self;
+    }
 }

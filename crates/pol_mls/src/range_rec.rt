@@ -3,7 +3,6 @@ use pol_bitmap::Set;
 use pol_cursor::OwnedList;
 
 /// A range of levels, owned.
-#[derive(Drop)]
 pub struct RangeRec {
     /// How many levels it has: 1 or 2. Two levels may be equal.
     pub n: u32,
@@ -13,6 +12,18 @@ pub struct RangeRec {
     pub low_categories: Set,
     /// The high level, where n is 2.
     pub high: Option<LevelRec>,
+}
+
+// Its parts go in one call, wherever it is dropped.
+impl Drop for RangeRec {
+    fn drop(self) {
+        let RangeRec {
+            n,
+            low,
+            low_categories,
+            high,
+        } = self;
+    }
 }
 
 /// Ranges, owned.

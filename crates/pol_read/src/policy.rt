@@ -20,13 +20,23 @@ use std::alloc::{AllocError, Global};
 use std::marker::Model;
 
 /// A policy that was accepted. Contracts see its parts.
-#[derive(Drop)]
 pub struct Policy<'a> {
     // The file that it was read from.
     pub(crate) bytes: &'a [u8],
     pub(crate) parts: Parts<'a>,
     // What finds a stored rule by its number.
     pub(crate) index: RuleIndex,
+}
+
+// Its parts go in one call, wherever it is dropped.
+impl Drop for Policy<'_> {
+    fn drop(self) {
+        let Policy {
+            bytes,
+            parts,
+            index,
+        } = self;
+    }
 }
 
 impl<'a> Model for Policy<'a> {

@@ -23,10 +23,16 @@ pub struct NodePlace {
 
 /// The nodes of sources that have rules, of all data of all groups one after the other: how many rules each has, and where it
 /// stands. None where the transitions are no groups.
-#[derive(Drop)]
 pub struct NameIndex {
     pub(crate) lengths: Sums,
     pub(crate) places: Vec<NodePlace>,
+}
+
+// Its parts go in one call, wherever it is dropped.
+impl Drop for NameIndex {
+    fn drop(self) {
+        let NameIndex { lengths, places } = self;
+    }
 }
 
 /// Counts the rules of each node of sources, where the file-name transitions are groups.

@@ -13,11 +13,21 @@ use std::alloc::{AllocError, Global};
 
 /// How many rules stand in each section, under each conditional node, and in each node of the sources of groups of file-name
 /// transitions.
-#[derive(Drop)]
 pub struct RuleIndex {
     pub(crate) nodes: Sums,
     pub(crate) names: NameIndex,
     pub(crate) sections: Sums,
+}
+
+// Its parts go in one call, wherever it is dropped.
+impl Drop for RuleIndex {
+    fn drop(self) {
+        let RuleIndex {
+            nodes,
+            names,
+            sections,
+        } = self;
+    }
 }
 
 impl RuleIndex {

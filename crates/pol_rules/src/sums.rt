@@ -7,11 +7,17 @@ use std::marker::Model;
 /// Lists that are put one behind the other, by where each of them ends. They have at most 400,000,000 items together. Beside
 /// that stands the list of each 64th item, so that the list of any item is looked for among few. Contracts see the list of their
 /// lengths.
-#[derive(Drop)]
 pub struct Sums {
     ends: Vec<u32>,
     // The numbers of the lists in which the items 0, 64, 128 and so on stand.
     firsts: Vec<u32>,
+}
+
+// Its parts go in one call, wherever it is dropped.
+impl Drop for Sums {
+    fn drop(self) {
+        let Sums { ends, firsts } = self;
+    }
 }
 
 impl Model for Sums {

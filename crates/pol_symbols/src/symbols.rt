@@ -15,7 +15,6 @@ use pol_symtab::{SymbolTable, read_whole_table};
 use std::alloc::Global;
 
 /// The eight symbol tables of a policy.
-#[derive(Drop)]
 pub struct Symbols<'a> {
     pub commons: CommonList<'a>,
     pub classes: ClassTable<'a>,
@@ -25,6 +24,22 @@ pub struct Symbols<'a> {
     pub booleans: SymbolTable<'a, Boolean>,
     pub levels: SymbolTable<'a, Sensitivity>,
     pub categories: SymbolTable<'a, Category>,
+}
+
+// Its parts go in one call, wherever it is dropped.
+impl Drop for Symbols<'_> {
+    fn drop(self) {
+        let Symbols {
+            commons,
+            classes,
+            roles,
+            types,
+            users,
+            booleans,
+            levels,
+            categories,
+        } = self;
+    }
 }
 
 impl<'a> Symbols<'a> {

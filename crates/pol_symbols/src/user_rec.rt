@@ -3,7 +3,6 @@ use pol_cursor::{ByteList, OwnedList};
 use pol_mls::{LevelRec, RangeRec};
 
 /// A user, owned.
-#[derive(Drop)]
 pub struct UserRec {
     /// From 1 to the table's nprim.
     pub value: u32,
@@ -17,6 +16,20 @@ pub struct UserRec {
     pub range: RangeRec,
     /// The level that it has by default.
     pub level: LevelRec,
+}
+
+// Its parts go in one call, wherever it is dropped.
+impl Drop for UserRec {
+    fn drop(self) {
+        let UserRec {
+            value,
+            bounds,
+            name,
+            roles,
+            range,
+            level,
+        } = self;
+    }
 }
 
 pub type UserRecList = OwnedList<UserRec>;

@@ -21,7 +21,6 @@ use std::alloc::{AllocError, Global};
 use std::marker::Model;
 
 /// A symbol table, by the places of its records. Contracts see its nprim and the list of its records, each with its place.
-#[derive(Drop)]
 pub struct SymbolTable<'a, K: SymbolKind + Drop> {
     nprim: u32,
     records: Records<'a, K>,
@@ -31,6 +30,19 @@ pub struct SymbolTable<'a, K: SymbolKind + Drop> {
     by_name: Vec<u32>,
     // By value: how many primary names are below the name of its primary record.
     ranks: Vec<Option<u32>>,
+}
+
+// Its parts go in one call, wherever it is dropped.
+impl<'a, K: SymbolKind + Drop> Drop for SymbolTable<'a, K> {
+    fn drop(self) {
+        let SymbolTable {
+            nprim,
+            records,
+            by_value,
+            by_name,
+            ranks,
+        } = self;
+    }
 }
 
 impl<'a, K: SymbolKind + Drop> Model for SymbolTable<'a, K> {

@@ -7,10 +7,16 @@ use std::alloc::{AllocError, Global};
 use std::marker::Model;
 
 /// The names and primary values of the records before one in its table.
-#[derive(Drop)]
 pub struct Taken<'a> {
     names: TakenNames<'a>,
     values: TakenValues,
+}
+
+// Its parts go in one call, wherever it is dropped.
+impl Drop for Taken<'_> {
+    fn drop(self) {
+        let Taken { names, values } = self;
+    }
 }
 
 impl<'a> Model for Taken<'a> {
@@ -67,8 +73,14 @@ impl<'a> Taken<'a> {
 }
 
 /// What a record is read under: the greatest value of its table, and what the records before it have taken.
-#[derive(Drop)]
 pub struct TableContext<'a> {
     pub nprim: u32,
     pub taken: Taken<'a>,
+}
+
+// Its parts go in one call, wherever it is dropped.
+impl Drop for TableContext<'_> {
+    fn drop(self) {
+        let TableContext { nprim, taken } = self;
+    }
 }

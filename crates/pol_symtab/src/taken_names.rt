@@ -9,7 +9,6 @@ use std::alloc::{AllocError, Global};
 use std::marker::Model;
 
 /// Names, each once, in the order in which they were taken. Contracts see the list.
-#[derive(Drop)]
 pub(crate) struct TakenNames<'a> {
     names: Vec<&'a [u8]>,
     // The slots of libsepol's hash table are numbered by these bits.
@@ -21,6 +20,20 @@ pub(crate) struct TakenNames<'a> {
     last_slot: u32,
     // The names again, once they do not rise.
     set: IndexSet<&'a [u8]>,
+}
+
+// Its parts go in one call, wherever it is dropped.
+impl Drop for TakenNames<'_> {
+    fn drop(self) {
+        let TakenNames {
+            names,
+            mask,
+            rises,
+            last,
+            last_slot,
+            set,
+        } = self;
+    }
 }
 
 impl<'a> Model for TakenNames<'a> {

@@ -10,11 +10,17 @@ use std::alloc::{AllocError, Global};
 use std::marker::Model;
 
 /// Primary values, each once, in the order in which they were taken. Contracts see the list, and for how many more there is room.
-#[derive(Drop)]
 pub(crate) struct TakenValues {
     values: Vec<u32>,
     // The bit of each of them is set, and no other. Values are at most nprim, so that these are few.
     bits: Vec<u64>,
+}
+
+// Its parts go in one call, wherever it is dropped.
+impl Drop for TakenValues {
+    fn drop(self) {
+        let TakenValues { values, bits } = self;
+    }
 }
 
 impl Model for TakenValues {

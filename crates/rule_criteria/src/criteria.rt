@@ -29,7 +29,6 @@ pub struct Criterion {
 }
 
 /// What a search asks for: rules of some kinds that meet each criterion that is given.
-#[derive(Drop)]
 pub struct Criteria {
     /// Whether a kind is asked for: allow, auditallow, dontaudit, allowxperm, auditallowxperm, dontauditxperm, type_transition,
     /// type_change, type_member, role_allow, role_transition, range_transition.
@@ -48,6 +47,22 @@ pub struct Criteria {
     pub default: Option<Criterion>,
     /// A list of names, plain or equal, or a pattern.
     pub bools: Option<Criterion>,
+}
+
+// Its parts go in one call, wherever it is dropped.
+impl Drop for Criteria {
+    fn drop(self) {
+        let Criteria {
+            kinds,
+            source,
+            target,
+            class,
+            perms,
+            xperms,
+            default,
+            bools,
+        } = self;
+    }
 }
 
 impl Mode {

@@ -22,11 +22,21 @@ use std::marker::Model;
 ///
 /// The rules stand by their stored sources and by their stored targets. The stored ends that hold a type are the type itself and
 /// the attributes of its row in the policy's map of types, so that the rules of a type are found without looking at others.
-#[derive(Drop)]
 pub struct ChosenRules<'p> {
     policy: &'p Policy<'p>,
     types: &'p TypeMap,
     table: EndTable,
+}
+
+// Its parts go in one call, wherever it is dropped.
+impl Drop for ChosenRules<'_> {
+    fn drop(self) {
+        let ChosenRules {
+            policy,
+            types,
+            table,
+        } = self;
+    }
 }
 
 impl<'p> Model for ChosenRules<'p> {

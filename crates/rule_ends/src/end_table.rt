@@ -10,13 +10,25 @@ use std::alloc::{AllocError, Global};
 use value_groups::Groups;
 
 /// Rules with their ends, by their places in the list, and the places by source and by target.
-#[derive(Drop)]
 pub struct EndTable {
     pub rules: Vec<u32>,
     pub sources: Vec<u32>,
     pub targets: Vec<u32>,
     pub by_source: Groups,
     pub by_target: Groups,
+}
+
+// Its parts go in one call, wherever it is dropped.
+impl Drop for EndTable {
+    fn drop(self) {
+        let EndTable {
+            rules,
+            sources,
+            targets,
+            by_source,
+            by_target,
+        } = self;
+    }
 }
 
 impl EndTable {

@@ -80,10 +80,16 @@ struct KeptText {
 
 /// The texts of a policy's rules, of which those that rules have in common are kept: so many at most, and none that is long. A text
 /// takes the place of another. Contracts see the policy.
-#[derive(Drop)]
 pub(crate) struct KeptTexts<'p, 'a> {
     texts: RuleTexts<'p, 'a>,
     slots: Vec<Option<KeptText>>,
+}
+
+// Its parts go in one call, wherever it is dropped.
+impl Drop for KeptTexts<'_, '_> {
+    fn drop(self) {
+        let KeptTexts { texts, slots } = self;
+    }
 }
 
 impl<'p, 'a> Model for KeptTexts<'p, 'a> {

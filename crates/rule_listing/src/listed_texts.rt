@@ -21,11 +21,17 @@ use std::marker::Model;
 /// made once where its rules come together, and so is most of what stands behind the ends of rules that give the same permissions or the
 /// same default, and of those that stand under the same condition. The name of each type that is a target is looked up once. Contracts
 /// see the policy.
-#[derive(Drop)]
 pub struct ListedTexts<'p, 'a> {
     texts: KeptTexts<'p, 'a>,
     head: KeptHead,
     names: TypeNames<'a>,
+}
+
+// Its parts go in one call, wherever it is dropped.
+impl Drop for ListedTexts<'_, '_> {
+    fn drop(self) {
+        let ListedTexts { texts, head, names } = self;
+    }
 }
 
 impl<'p, 'a> Model for ListedTexts<'p, 'a> {

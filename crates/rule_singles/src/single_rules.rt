@@ -19,10 +19,16 @@ use std::marker::Model;
 
 /// Rules with the sources and the targets that are listed of them: an entry a rule, over sets that are each kept once. Contracts see the
 /// rules, each with its sources and its targets.
-#[derive(Drop)]
 pub struct SingleRules {
     entries: Vec<Entry>,
     pool: Pool,
+}
+
+// Its parts go in one call, wherever it is dropped.
+impl Drop for SingleRules {
+    fn drop(self) {
+        let SingleRules { entries, pool } = self;
+    }
 }
 
 impl Model for SingleRules {

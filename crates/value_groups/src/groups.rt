@@ -7,11 +7,17 @@ use std::alloc::{AllocError, Global};
 use std::marker::Model;
 
 /// The places of a list of values, grouped by value. Contracts see the places of each value, by value from 0 on.
-#[derive(Drop)]
 pub struct Groups {
     // By value: where its places begin, which is where those of the value before it end.
     starts: Vec<usize>,
     places: Vec<u32>,
+}
+
+// Its parts go in one call, wherever it is dropped.
+impl Drop for Groups {
+    fn drop(self) {
+        let Groups { starts, places } = self;
+    }
 }
 
 impl Model for Groups {
