@@ -28,10 +28,11 @@ pub fn make_commons(alloc: Global) -> Result<CommonRecList, AllocError>
 pub fn make_classes(alloc: Global) -> Result<ClassRecList, AllocError>
     ensures { IfOk result (λ list. list ≡ made_classes) }
 {
-    let file = file_class(alloc, b"file", 1, b"entrypoint")?;
-    let dir = file_class(alloc, b"dir", 2, b"search")?;
-    let process = process_class(alloc)?;
-    Ok(OwnedList::from_vec(vec![in alloc; file, dir, process]?))
+    let mut classes = Vec::new(alloc);
+    classes.push(file_class(alloc, b"file", 1, b"entrypoint")?)?;
+    classes.push(file_class(alloc, b"dir", 2, b"search")?)?;
+    classes.push(process_class(alloc)?)?;
+    Ok(OwnedList::from_vec(classes))
 }
 
 // A class of files with a permission of its own.
@@ -85,27 +86,27 @@ fn permission(alloc: Global, text: &[u8], value: u32) -> Result<PermissionRec, A
 fn file_permissions(alloc: Global) -> Result<PermissionRecList, AllocError>
     ensures { IfOk result (λ list. list ≡ file_permissions) }
 {
-    Ok(OwnedList::from_vec(vec![in alloc;
-        permission(alloc, b"ioctl", 1)?,
-        permission(alloc, b"read", 2)?,
-        permission(alloc, b"write", 3)?,
-        permission(alloc, b"getattr", 4)?,
-        permission(alloc, b"append", 5)?,
-        permission(alloc, b"execute", 6)?,
-    ]?))
+    let mut permissions = Vec::new(alloc);
+    permissions.push(permission(alloc, b"ioctl", 1)?)?;
+    permissions.push(permission(alloc, b"read", 2)?)?;
+    permissions.push(permission(alloc, b"write", 3)?)?;
+    permissions.push(permission(alloc, b"getattr", 4)?)?;
+    permissions.push(permission(alloc, b"append", 5)?)?;
+    permissions.push(permission(alloc, b"execute", 6)?)?;
+    Ok(OwnedList::from_vec(permissions))
 }
 
 #[tactic(auto, unfolding(crate::specs::MadeSymbols::process_permissions))]
 fn process_permissions(alloc: Global) -> Result<PermissionRecList, AllocError>
     ensures { IfOk result (λ list. list ≡ process_permissions) }
 {
-    Ok(OwnedList::from_vec(vec![in alloc;
-        permission(alloc, b"transition", 1)?,
-        permission(alloc, b"setexec", 2)?,
-        permission(alloc, b"dyntransition", 3)?,
-        permission(alloc, b"setcurrent", 4)?,
-        permission(alloc, b"signal", 5)?,
-    ]?))
+    let mut permissions = Vec::new(alloc);
+    permissions.push(permission(alloc, b"transition", 1)?)?;
+    permissions.push(permission(alloc, b"setexec", 2)?)?;
+    permissions.push(permission(alloc, b"dyntransition", 3)?)?;
+    permissions.push(permission(alloc, b"setcurrent", 4)?)?;
+    permissions.push(permission(alloc, b"signal", 5)?)?;
+    Ok(OwnedList::from_vec(permissions))
 }
 
 // The constraint on transitions.

@@ -1,5 +1,7 @@
-ghost use Rattle.std.specs.Prelude.{◌≡◌, [], IfOk};
+ghost use Rattle.std.specs.Prelude.{◌≡◌, ◌∷◌, [], IfOk, OnOk};
 ghost use Rattle.pol_make.specs.Made.{Allowed, made};
+ghost use Rattle.pol_make.specs.SetNodes.{set_of};
+ghost use Rattle.pol_make.specs.MadeRules.{made_rules, made_rows, made_sids};
 ghost use Rattle.pol_make.specs.MadeSymbols.{made_nprims, made_commons, made_classes, made_roles, made_types, made_users, made_booleans, made_levels, made_categories};
 
 use crate::make_classes::{make_classes, make_commons};
@@ -7,11 +9,6 @@ use crate::make_rules::{make_rows, make_rules, make_sids};
 use crate::make_symbols::{make_booleans, make_categories, make_levels, make_users};
 use crate::make_types::{make_roles, make_types};
 use crate::sets::set_of;
-use pol_classes::ClassRecList;
-use pol_commons::CommonRecList;
-use pol_cursor::OwnedList;
-use pol_datums::{BooleanRecList, CategoryRecList, RoleRecList, SensitivityRecList, TypeRecList};
-use pol_symbols::UserRecList;
 use pol_tree::Tree;
 use std::alloc::{AllocError, Global};
 
@@ -22,45 +19,30 @@ pub fn make(alloc: Global, n: u32) -> Result<Tree, AllocError>
     requires { Allowed n }
     ensures { IfOk result (λ tree. tree ≡ made n) }
 {
-    let capabilities = set_of(alloc, &[1])?;
-    let permissive = set_of(alloc, &[])?;
-    let symbols = make_symbols(alloc, n)?;
-    let avtab = make_rules(alloc, n)?;
-    let sid = make_sids(alloc)?;
-    let typemap = make_rows(alloc, n)?;
-    Ok(Tree {
-        version: 31,
-        config: 5,
-        capabilities,
-        permissive,
-        nprims: nprims(n),
-        commons: symbols.commons,
-        classes: symbols.classes,
-        roles: symbols.roles,
-        types: symbols.types,
-        users: symbols.users,
-        booleans: symbols.booleans,
-        levels: symbols.levels,
-        categories: symbols.categories,
-        avtab,
-        condlist: nothing(alloc),
-        roletrans: nothing(alloc),
-        roleallow: nothing(alloc),
-        nametrans: nothing(alloc),
-        namegroup: nothing(alloc),
-        sid,
-        fs: nothing(alloc),
-        port: nothing(alloc),
-        netif: nothing(alloc),
-        node: nothing(alloc),
-        fsuse: nothing(alloc),
-        node6: nothing(alloc),
-        ibpkey: nothing(alloc),
-        ibendport: nothing(alloc),
-        genfs: nothing(alloc),
-        rangetrans: nothing(alloc),
-        typemap,
-    })
+    let mut tree = Tree::empty(alloc)?;
+    make_front(alloc, n, &mut tree)?;
+    make_symbols(alloc, n, &mut tree)?;
+    make_lists(alloc, n, &mut tree)?;
+    Ok(tree)
+}
+
+// Makes what stands before the symbol tables. Classes and permissions that the policy does not know are allowed, and it has levels.
+fn make_front(alloc: Global, n: u32, tree: &mut Tree) -> Result<(), AllocError>
+    requires { Allowed n }
+    ensures { OnOk result (tree.new ≡ record tree.old {
+      version = 31;
+      config = 5;
+      capabilities = set_of (1 ∷ []);
+      permissive = set_of [];
+      nprims = made_nprims n;
+    }) }
+{
+    tree.version = 31;
+    tree.config = 5;
+    tree.capabilities = set_of(alloc, &[1])?;
+    tree.permissive = set_of(alloc, &[])?;
+    tree.nprims = nprims(n);
+    Ok(())
 }
 
 // The greatest value of each symbol table.
@@ -72,29 +54,10 @@ fn nprims(n: u32) -> [u32; 8]
     [1, 3, 2, n + n / 20, 1, 2, 1, 1024]
 }
 
-// A list without records.
-fn nothing<T: Drop>(alloc: Global) -> OwnedList<T>
-    ensures { result ≡ [] }
-{
-    OwnedList::from_vec(Vec::new(alloc))
-}
-
-// The records of the symbol tables.
-#[derive(Drop)]
-struct SymbolLists {
-    commons: CommonRecList,
-    classes: ClassRecList,
-    roles: RoleRecList,
-    types: TypeRecList,
-    users: UserRecList,
-    booleans: BooleanRecList,
-    levels: SensitivityRecList,
-    categories: CategoryRecList,
-}
-
-fn make_symbols(alloc: Global, n: u32) -> Result<SymbolLists, AllocError>
+// Makes the records of the symbol tables.
+fn make_symbols(alloc: Global, n: u32, tree: &mut Tree) -> Result<(), AllocError>
     requires { Allowed n }
-    ensures { IfOk result (λ lists. lists ≡ record {
+    ensures { OnOk result (tree.new ≡ record tree.old {
       commons = made_commons;
       classes = made_classes;
       roles = made_roles n;
@@ -105,14 +68,24 @@ fn make_symbols(alloc: Global, n: u32) -> Result<SymbolLists, AllocError>
       categories = made_categories;
     }) }
 {
-    Ok(SymbolLists {
-        commons: make_commons(alloc)?,
-        classes: make_classes(alloc)?,
-        roles: make_roles(alloc, n)?,
-        types: make_types(alloc, n)?,
-        users: make_users(alloc)?,
-        booleans: make_booleans(alloc)?,
-        levels: make_levels(alloc)?,
-        categories: make_categories(alloc, 1024)?,
-    })
+    tree.commons = make_commons(alloc)?;
+    tree.classes = make_classes(alloc)?;
+    tree.roles = make_roles(alloc, n)?;
+    tree.types = make_types(alloc, n)?;
+    tree.users = make_users(alloc)?;
+    tree.booleans = make_booleans(alloc)?;
+    tree.levels = make_levels(alloc)?;
+    tree.categories = make_categories(alloc, 1024)?;
+    Ok(())
+}
+
+// Makes the lists behind them that have records.
+fn make_lists(alloc: Global, n: u32, tree: &mut Tree) -> Result<(), AllocError>
+    requires { Allowed n }
+    ensures { OnOk result (tree.new ≡ record tree.old { avtab = made_rules n; sid = made_sids; typemap = made_rows n }) }
+{
+    tree.avtab = make_rules(alloc, n)?;
+    tree.sid = make_sids(alloc)?;
+    tree.typemap = make_rows(alloc, n)?;
+    Ok(())
 }
