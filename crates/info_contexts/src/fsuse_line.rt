@@ -1,34 +1,14 @@
 // The lines of how the files of file systems get their contexts.
-ghost use Rattle.std.specs.Prelude.{◌≡◌, ◌++◌, OnOk};
-ghost use Rattle.info_contexts.specs.FsUseLines.{fsuse_line};
-
 use crate::contexts::push_context;
 use crate::entry_names::EntryNames;
-use crate::table_lines::{LinedTable, TableLines};
-use pol_contexts::{FsUseList, FsUseView};
+use crate::table_lines::{LinedEntry, TableLines};
+use pol_contexts::{FsUseList, FsUseRec, FsUseView};
 use pol_cursor::Names;
-use pol_symbols::Symbols;
 use pol_texts::{behaviour_word, push_name_text};
 use std::alloc::{AllocError, Global};
 
 /// The lines of how the files of file systems get their contexts.
-pub type FsUseLines<'p, 'a> = TableLines<'p, 'a, FsUseList<'a>>;
-
-impl<'a> LinedTable for FsUseList<'a> {
-    ghost use Rattle.info_contexts.specs.FsUseLines.{fsuse_listing};
-
-    ghost listing = { fsuse_listing };
-
-    #[tactic(auto, using(info_lines::proofs::ListingLines::line_at))]
-    fn push_entry(
-        &self,
-        symbols: &Symbols<'_>,
-        number: u32,
-        buffer: &mut Vec<u8>,
-    ) -> Result<(), AllocError> {
-        push_fsuse(buffer, &self.view(number), symbols)
-    }
-}
+pub type FsUseLines<'p, 'a> = TableLines<'p, 'a, FsUseRec, 30>;
 
 impl<'a> EntryNames for FsUseList<'a> {
     ghost use Rattle.std.specs.Prelude.{map};
@@ -41,19 +21,22 @@ impl<'a> EntryNames for FsUseList<'a> {
     }
 }
 
-// Appends the line of an entry.
-#[tactic(auto, unfolding(crate::specs::FsUseLines::fsuse_line))]
-fn push_fsuse<N: Names>(
-    buffer: &mut Vec<u8>,
-    entry: &FsUseView<'_>,
-    names: &N,
-) -> Result<(), AllocError>
-    ensures { OnOk result (buffer.new.items ≡ buffer.old.items ++ fsuse_line (N.named names.now) entry.now.value) }
-{
-    buffer.extend_from_slice(behaviour_word(entry.behaviour()).as_bytes())?;
-    buffer.push(b' ')?;
-    push_name_text(buffer, entry.name())?;
-    buffer.push(b' ')?;
-    push_context(buffer, &entry.context(), names)?;
-    Ok(buffer.push(b';')?)
+impl LinedEntry for FsUseRec {
+    ghost use Rattle.info_contexts.specs.FsUseLines.{fsuse_line};
+
+    ghost line = { fsuse_line };
+
+    #[tactic(auto, unfolding(crate::specs::FsUseLines::fsuse_line))]
+    fn push_line<N: Names>(
+        buffer: &mut Vec<u8>,
+        entry: &FsUseView<'_>,
+        names: &N,
+    ) -> Result<(), AllocError> {
+        buffer.extend_from_slice(behaviour_word(entry.behaviour()).as_bytes())?;
+        buffer.push(b' ')?;
+        push_name_text(buffer, entry.name())?;
+        buffer.push(b' ')?;
+        push_context(buffer, &entry.context(), names)?;
+        Ok(buffer.push(b';')?)
+    }
 }

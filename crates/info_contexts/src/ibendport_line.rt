@@ -1,46 +1,32 @@
 // The lines of the contexts of InfiniBand devices at ports.
 ghost use Rattle.std.specs.Prelude.{◌≡◌, ◌++◌, OnOk};
-ghost use Rattle.info_contexts.specs.IbEndPortLines.{device_text, ibendport_line};
+ghost use Rattle.info_contexts.specs.IbEndPortLines.{device_text};
 
 use crate::contexts::push_context;
-use crate::table_lines::{LinedTable, TableLines};
-use pol_contexts::{IbEndPortList, IbEndPortView};
+use crate::table_lines::{LinedEntry, TableLines};
+use pol_contexts::{IbEndPortRec, IbEndPortView};
 use pol_cursor::Names;
-use pol_symbols::Symbols;
 use pol_texts::{push_decimal, push_name_text};
 use std::alloc::AllocError;
 
 /// The lines of the contexts of InfiniBand devices at their ports.
-pub type IbEndPortLines<'p, 'a> = TableLines<'p, 'a, IbEndPortList<'a>>;
+pub type IbEndPortLines<'p, 'a> = TableLines<'p, 'a, IbEndPortRec, 33>;
 
-impl<'a> LinedTable for IbEndPortList<'a> {
-    ghost use Rattle.info_contexts.specs.IbEndPortLines.{ibendport_listing};
+impl LinedEntry for IbEndPortRec {
+    ghost use Rattle.info_contexts.specs.IbEndPortLines.{ibendport_line};
 
-    ghost listing = { ibendport_listing };
+    ghost line = { ibendport_line };
 
-    #[tactic(auto, using(info_lines::proofs::ListingLines::line_at))]
-    fn push_entry(
-        &self,
-        symbols: &Symbols<'_>,
-        number: u32,
+    #[tactic(auto, unfolding(crate::specs::IbEndPortLines::ibendport_line))]
+    fn push_line<N: Names>(
         buffer: &mut Vec<u8>,
+        port: &IbEndPortView<'_>,
+        names: &N,
     ) -> Result<(), AllocError> {
-        push_ibendport(buffer, &self.view(number), symbols)
+        push_device(buffer, port.name(), port.port())?;
+        buffer.push(b' ')?;
+        push_context(buffer, &port.context(), names)
     }
-}
-
-// Appends the line of an entry.
-#[tactic(auto, unfolding(crate::specs::IbEndPortLines::ibendport_line))]
-fn push_ibendport<N: Names>(
-    buffer: &mut Vec<u8>,
-    port: &IbEndPortView<'_>,
-    names: &N,
-) -> Result<(), AllocError>
-    ensures { OnOk result (buffer.new.items ≡ buffer.old.items ++ ibendport_line (N.named names.now) port.now.value) }
-{
-    push_device(buffer, port.name(), port.port())?;
-    buffer.push(b' ')?;
-    push_context(buffer, &port.context(), names)
 }
 
 // Appends the word, the name of a device and the number of its port.

@@ -1,47 +1,33 @@
 // The lines of the contexts of InfiniBand partition keys.
 ghost use Rattle.std.specs.Prelude.{◌≡◌, ◌++◌, OnOk};
-ghost use Rattle.info_contexts.specs.IbPkeyLines.{prefixed_text, ibpkey_line};
+ghost use Rattle.info_contexts.specs.IbPkeyLines.{prefixed_text};
 
 use crate::contexts::push_context;
-use crate::table_lines::{LinedTable, TableLines};
-use pol_contexts::{IbPkeyList, IbPkeyView};
+use crate::table_lines::{LinedEntry, TableLines};
+use pol_contexts::{IbPkeyRec, IbPkeyView};
 use pol_cursor::Names;
-use pol_symbols::Symbols;
 use pol_texts::{push_groups_text, push_keys_text};
 use std::alloc::AllocError;
 
 /// The lines of the contexts of InfiniBand partition keys.
-pub type IbPkeyLines<'p, 'a> = TableLines<'p, 'a, IbPkeyList<'a>>;
+pub type IbPkeyLines<'p, 'a> = TableLines<'p, 'a, IbPkeyRec, 32>;
 
-impl<'a> LinedTable for IbPkeyList<'a> {
-    ghost use Rattle.info_contexts.specs.IbPkeyLines.{ibpkey_listing};
+impl LinedEntry for IbPkeyRec {
+    ghost use Rattle.info_contexts.specs.IbPkeyLines.{ibpkey_line};
 
-    ghost listing = { ibpkey_listing };
+    ghost line = { ibpkey_line };
 
-    #[tactic(auto, using(info_lines::proofs::ListingLines::line_at))]
-    fn push_entry(
-        &self,
-        symbols: &Symbols<'_>,
-        number: u32,
+    #[tactic(auto, unfolding(crate::specs::IbPkeyLines::ibpkey_line))]
+    fn push_line<N: Names>(
         buffer: &mut Vec<u8>,
+        keys: &IbPkeyView<'_>,
+        names: &N,
     ) -> Result<(), AllocError> {
-        push_ibpkey(buffer, &self.view(number), symbols)
+        buffer.extend_from_slice(b"ibpkeycon ")?;
+        push_prefixed(buffer, &keys.prefix(), keys.low(), keys.high())?;
+        buffer.push(b' ')?;
+        push_context(buffer, &keys.context(), names)
     }
-}
-
-// Appends the line of an entry.
-#[tactic(auto, unfolding(crate::specs::IbPkeyLines::ibpkey_line))]
-fn push_ibpkey<N: Names>(
-    buffer: &mut Vec<u8>,
-    keys: &IbPkeyView<'_>,
-    names: &N,
-) -> Result<(), AllocError>
-    ensures { OnOk result (buffer.new.items ≡ buffer.old.items ++ ibpkey_line (N.named names.now) keys.now.value) }
-{
-    buffer.extend_from_slice(b"ibpkeycon ")?;
-    push_prefixed(buffer, &keys.prefix(), keys.low(), keys.high())?;
-    buffer.push(b' ')?;
-    push_context(buffer, &keys.context(), names)
 }
 
 // Appends a prefix and the keys under it.

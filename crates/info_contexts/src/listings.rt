@@ -85,50 +85,31 @@ pub fn node_lines<'p, 'a>(
     ensures { result ≡ node_listing policy.now.symbols policy.now.labels.contexts.node
         ++ node6_listing policy.now.symbols policy.now.labels.contexts.node6 }
 {
-    ChainedLines::new(ipv4_lines(policy), ipv6_lines(policy))
-}
-
-// Those of IPv4 addresses.
-#[tactic(auto, using(info_lines::proofs::FileOrder::all_there, info_lines::proofs::FileOrder::all_lines, info_lines::proofs::FileOrder::as_many))]
-fn ipv4_lines<'p, 'a>(policy: &'p Policy<'a>) -> FileLines<NodeLines<'p, 'a>>
-    ensures { result ≡ node_listing policy.now.symbols policy.now.labels.contexts.node }
-{
-    let entries = &policy.contexts().node;
-    FileLines::new(TableLines::new(entries, policy.symbols()), entries.len())
-}
-
-// Those of IPv6 addresses.
-#[tactic(auto, using(info_lines::proofs::FileOrder::all_there, info_lines::proofs::FileOrder::all_lines, info_lines::proofs::FileOrder::as_many))]
-fn ipv6_lines<'p, 'a>(policy: &'p Policy<'a>) -> FileLines<Node6Lines<'p, 'a>>
-    ensures { result ≡ node6_listing policy.now.symbols policy.now.labels.contexts.node6 }
-{
-    let entries = &policy.contexts().node6;
-    FileLines::new(TableLines::new(entries, policy.symbols()), entries.len())
+    let contexts = policy.contexts();
+    let symbols = policy.symbols();
+    ChainedLines::new(
+        TableLines::all(&contexts.node, symbols),
+        TableLines::all(&contexts.node6, symbols),
+    )
 }
 
 /// The lines of ranges of ports.
-#[tactic(auto, using(info_lines::proofs::FileOrder::all_there, info_lines::proofs::FileOrder::all_lines, info_lines::proofs::FileOrder::as_many))]
 pub fn port_lines<'p, 'a>(policy: &'p Policy<'a>) -> FileLines<PortLines<'p, 'a>>
     ensures { result ≡ port_listing policy.now.symbols policy.now.labels.contexts.port }
 {
-    let entries = &policy.contexts().port;
-    FileLines::new(TableLines::new(entries, policy.symbols()), entries.len())
+    TableLines::all(&policy.contexts().port, policy.symbols())
 }
 
 /// The lines of InfiniBand partition keys.
-#[tactic(auto, using(info_lines::proofs::FileOrder::all_there, info_lines::proofs::FileOrder::all_lines, info_lines::proofs::FileOrder::as_many))]
 pub fn ibpkey_lines<'p, 'a>(policy: &'p Policy<'a>) -> FileLines<IbPkeyLines<'p, 'a>>
     ensures { result ≡ ibpkey_listing policy.now.symbols policy.now.labels.contexts.ibpkey }
 {
-    let entries = &policy.contexts().ibpkey;
-    FileLines::new(TableLines::new(entries, policy.symbols()), entries.len())
+    TableLines::all(&policy.contexts().ibpkey, policy.symbols())
 }
 
 /// The lines of InfiniBand devices at ports.
-#[tactic(auto, using(info_lines::proofs::FileOrder::all_there, info_lines::proofs::FileOrder::all_lines, info_lines::proofs::FileOrder::as_many))]
 pub fn ibendport_lines<'p, 'a>(policy: &'p Policy<'a>) -> FileLines<IbEndPortLines<'p, 'a>>
     ensures { result ≡ ibendport_listing policy.now.symbols policy.now.labels.contexts.ibendport }
 {
-    let entries = &policy.contexts().ibendport;
-    FileLines::new(TableLines::new(entries, policy.symbols()), entries.len())
+    TableLines::all(&policy.contexts().ibendport, policy.symbols())
 }

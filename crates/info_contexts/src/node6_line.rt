@@ -1,47 +1,33 @@
 // The lines of the contexts of IPv6 addresses.
 ghost use Rattle.std.specs.Prelude.{◌≡◌, ◌++◌, OnOk};
-ghost use Rattle.info_contexts.specs.NodeLines.{masked6_text, node6_line};
+ghost use Rattle.info_contexts.specs.NodeLines.{masked6_text};
 
 use crate::contexts::push_context;
-use crate::table_lines::{LinedTable, TableLines};
-use pol_contexts::{Node6List, Node6View};
+use crate::table_lines::{LinedEntry, TableLines};
+use pol_contexts::{Node6Rec, Node6View};
 use pol_cursor::Names;
-use pol_symbols::Symbols;
 use pol_texts::push_groups_text;
 use std::alloc::AllocError;
 
 /// The lines of the contexts of IPv6 addresses.
-pub type Node6Lines<'p, 'a> = TableLines<'p, 'a, Node6List<'a>>;
+pub type Node6Lines<'p, 'a> = TableLines<'p, 'a, Node6Rec, 31>;
 
-impl<'a> LinedTable for Node6List<'a> {
-    ghost use Rattle.info_contexts.specs.NodeLines.{node6_listing};
+impl LinedEntry for Node6Rec {
+    ghost use Rattle.info_contexts.specs.NodeLines.{node6_line};
 
-    ghost listing = { node6_listing };
+    ghost line = { node6_line };
 
-    #[tactic(auto, using(info_lines::proofs::ListingLines::line_at))]
-    fn push_entry(
-        &self,
-        symbols: &Symbols<'_>,
-        number: u32,
+    #[tactic(auto, unfolding(crate::specs::NodeLines::node6_line))]
+    fn push_line<N: Names>(
         buffer: &mut Vec<u8>,
+        node: &Node6View<'_>,
+        names: &N,
     ) -> Result<(), AllocError> {
-        push_node6(buffer, &self.view(number), symbols)
+        buffer.extend_from_slice(b"nodecon ")?;
+        push_masked6(buffer, &node.address(), &node.mask())?;
+        buffer.push(b' ')?;
+        push_context(buffer, &node.context(), names)
     }
-}
-
-// Appends the line of an entry.
-#[tactic(auto, unfolding(crate::specs::NodeLines::node6_line))]
-fn push_node6<N: Names>(
-    buffer: &mut Vec<u8>,
-    node: &Node6View<'_>,
-    names: &N,
-) -> Result<(), AllocError>
-    ensures { OnOk result (buffer.new.items ≡ buffer.old.items ++ node6_line (N.named names.now) node.now.value) }
-{
-    buffer.extend_from_slice(b"nodecon ")?;
-    push_masked6(buffer, &node.address(), &node.mask())?;
-    buffer.push(b' ')?;
-    push_context(buffer, &node.context(), names)
 }
 
 // Appends an address and a mask.

@@ -23,7 +23,7 @@ mod sid_rec;
 mod tables;
 
 pub use address_rec::AddressRec;
-pub use entry::{EntryKind, EntryView};
+pub use entry::{Entry, EntryKind, EntryView, Standing};
 pub use fsuse_rec::FsUseRec;
 pub use ibendport_rec::IbEndPortRec;
 pub use ibpkey_rec::IbPkeyRec;
