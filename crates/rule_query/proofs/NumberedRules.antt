@@ -8,7 +8,7 @@ use Rattle.pol_rules.specs.declared.rule.RuleEnds.{RuleEnds}
 use Rattle.pol_rules.specs.DeclaredRules.{IsDeclaredRule}
 use Rattle.pol_rules.specs.StoredRules.{ends_of, stored_rules}
 use Rattle.pol_rules.proofs.RulesDeclared.{rule_is_declared, rule_with_ends}
-use Rattle.rule_query.specs.Inner.NumberedRules.{no_rule, rule_at}
+use Rattle.rule_query.specs.Inner.NumberedRules.{IsRuleAt, no_rule, rule_at}
 
 pub is_there : (policy : Parts) (number : ℕ) → number < length (stored_rules policy) → slice_get (stored_rules policy) number ≡ Some (rule_at policy number)
 unfolding rule_at
@@ -20,6 +20,9 @@ ends_are policy number ends lt e = same_Some ends (ends_of (rule_at policy numbe
 -- a rule that has ends is there
 pub has_ends : (policy : Parts) (number : ℕ) (ends : RuleEnds) → option_map ends_of (slice_get (stored_rules policy) number) ≡ Some ends → number < length (stored_rules policy)
 has_ends policy number ends e = let found = rule_with_ends policy number ends e in slice_get_within (stored_rules policy) number found.0 found.1
+
+pub rule_is_at : (policy : Parts) (number : ℕ) (ends : RuleEnds) → option_map ends_of (slice_get (stored_rules policy) number) ≡ Some ends → IsRuleAt policy number ends
+rule_is_at policy number ends e = let within = has_ends policy number ends e in record { within = within; ends_are = ends_are policy number ends within e }
 
 pub is_declared : (bytes : List ℕ) (policy : Parts) (number : ℕ) → accept bytes ≡ Ok policy → number < length (stored_rules policy) → IsDeclaredRule policy (rule_at policy number)
 is_declared bytes policy number accepted lt = rule_is_declared bytes policy number (rule_at policy number) accepted (is_there policy number lt)

@@ -4,7 +4,6 @@ ghost use Rattle.pol_rules.specs.Inner.RuleRecords.{rule_of};
 ghost use Rattle.pol_rules.specs.StoredRules.{ends_of, rules_of_branch, rules_of_node, stored_rules};
 ghost use Rattle.rule_query.specs.Inner.Gathering.{HasMet, PassesOver, StandFrom};
 
-use crate::numbered_rule::NumberedRule;
 use crate::query::Query;
 use crate::tests::Test;
 use pol_read::{Condition, Policy, RuleEnds, RuleRecord, vector_ends};
@@ -206,8 +205,9 @@ impl Query {
         requires found { HasMet policy.now self.now number found.old }
         ensures { OnOk result (HasMet policy.now self.now (number + 1) found.new) }
     {
-        let rule = NumberedRule::with_ends(policy, number, ends);
-        if self.passes(policy.symbols(), &rule) {
+        // the policy was accepted, and so what its rules name is declared
+        let _ = policy.bytes();
+        if self.passes(policy, number, ends) {
             found.add_ends(number, ends)?;
         }
         Ok(())

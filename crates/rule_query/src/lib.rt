@@ -9,7 +9,6 @@ mod gathering;
 mod given;
 mod listed;
 mod marked_set;
-mod numbered_rule;
 mod query;
 mod refusing;
 mod resolving;

@@ -4,14 +4,13 @@ ghost use Rattle.pol_rules.specs.StoredRules.{stored_rules};
 ghost use Rattle.rule_order.specs.ListedOrder.{in_rule_order};
 ghost use Rattle.rule_criteria.specs.declared.Criteria.{Criteria};
 ghost use Rattle.rule_query.specs.Meeting.{meets, meeting};
+ghost use Rattle.rule_query.specs.Inner.NumberedRules.{IsRuleAt, rule_at};
 ghost use Rattle.rule_query.specs.Inner.Resolved.{IsQueryOf};
 ghost use Rattle.rule_query.specs.Inner.Tests.{passes, rule_test, source_types, target_types};
 
-use crate::numbered_rule::NumberedRule;
 use crate::tests::Test;
 use pol_bitmap::Set;
-use pol_read::Policy;
-use pol_symbols::Symbols;
+use pol_read::{Policy, RuleEnds};
 use rule_order::RuleKeys;
 use rule_tests::is_kind_asked;
 use std::alloc::{AllocError, Global};
@@ -26,20 +25,22 @@ pub struct Query {
 impl Query {
     /// Whether the stored rule of that number meets the criteria of the query, in the policy in which they were looked up. Takes no
     /// memory.
-    #[tactic(auto, using(crate::proofs::Passing::meets_at))]
     pub fn meets(&self, policy: &Policy<'_>, n: u32) -> bool
         requires { n < length (stored_rules policy.now) }
         ensures { (criteria : Criteria) → IsQueryOf policy.now criteria self.now → result ≡ meets policy.now criteria n }
     {
-        self.passes(policy.symbols(), &NumberedRule::of(policy, n))
+        // the policy was accepted, and so what its rules name is declared
+        let _ = policy.bytes();
+        self.passes(policy, n, policy.rule_ends(n))
     }
 
-    // Whether a rule is of a kind that is asked, and passes all tests.
+    // Whether the stored rule of that number, which has these ends, is of a kind that is asked, and passes all tests.
     #[inline(always)]
-    pub(crate) fn passes(&self, symbols: &Symbols<'_>, rule: &NumberedRule<'_, '_>) -> bool
-        ensures { result ≡ passes symbols.now self.now rule.now }
+    pub(crate) fn passes(&self, policy: &Policy<'_>, number: u32, ends: RuleEnds) -> bool
+        requires { IsRuleAt policy.now number ends }
+        ensures { result ≡ passes policy.now.symbols self.now (rule_at policy.now number) }
     {
-        is_kind_asked(&self.kinds, rule.ends().kind) && all_pass(&self.tests, symbols, rule)
+        is_kind_asked(&self.kinds, ends.kind) && all_pass(&self.tests, policy, number, ends)
     }
 
     /// The least number of a stored rule, at or above a number, that meets the criteria. `None` exactly where there is none. Takes no
@@ -90,13 +91,14 @@ impl Query {
     }
 }
 
-// Whether a rule passes all tests.
+// Whether that rule passes all tests.
 #[inline(always)]
-fn all_pass(tests: &[Test], symbols: &Symbols<'_>, rule: &NumberedRule<'_, '_>) -> bool
-    ensures { result ≡ list_all (rule_test symbols.now rule.now) tests.now }
+fn all_pass(tests: &[Test], policy: &Policy<'_>, number: u32, ends: RuleEnds) -> bool
+    requires { IsRuleAt policy.now number ends }
+    ensures { result ≡ list_all (rule_test policy.now.symbols (rule_at policy.now number)) tests.now }
 {
     for test in tests {
-        if !test.passes(symbols, rule) {
+        if !test.passes(policy, number, ends) {
             return false;
         }
     }

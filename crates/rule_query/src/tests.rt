@@ -1,15 +1,15 @@
 // What a rule is compared with, criterion by criterion.
-ghost use Rattle.std.specs.Prelude.{◌≡◌};
+ghost use Rattle.std.specs.Prelude.{◌≡◌, ◌<◌, length};
 ghost use Rattle.pol_rules.specs.DeclaredRules.{default_table};
+ghost use Rattle.pol_rules.specs.StoredRules.{stored_rules};
+ghost use Rattle.rule_query.specs.Inner.NumberedRules.{IsRuleAt, rule_at};
 ghost use Rattle.rule_query.specs.Inner.Tests.{class_test, condition_test, default_test, reads_rule, rule_test};
 
 use crate::ends::Ends;
 use crate::marked_set::has_value;
-use crate::numbered_rule::NumberedRule;
 use pol_bitmap::Set;
 use pol_fields::TableKind;
-use pol_read::{Condition, RuleEnds, RuleKind, RulePart};
-use pol_symbols::Symbols;
+use pol_read::{Condition, Policy, RuleEnds, RuleKind, RulePart};
 use rule_tests::{NumberTest, PermissionTest};
 
 /// What meets a criterion, by values and numbers.
@@ -33,26 +33,50 @@ impl Test {
         !matches!(self, Test::Source(_) | Test::Target(_) | Test::Class(_))
     }
 
-    /// Whether a rule passes. Takes no memory.
-    pub fn passes(&self, symbols: &Symbols<'_>, rule: &NumberedRule<'_, '_>) -> bool
-        ensures { result ≡ rule_test symbols.now rule.now self.now }
+    /// Whether the stored rule of that number, which has these ends, passes. The whole rule is found only where more of it is asked.
+    /// Takes no memory.
+    pub fn passes(&self, policy: &Policy<'_>, number: u32, ends: RuleEnds) -> bool
+        requires { IsRuleAt policy.now number ends }
+        ensures { result ≡ rule_test policy.now.symbols (rule_at policy.now number) self.now }
     {
         let RuleEnds {
             kind,
             source,
             target,
             class,
-        } = rule.ends();
+        } = ends;
         match self {
             Test::Source(ends) => ends.has(kind.source_table(), source),
             Test::Target(ends) => ends.has(kind.target_table(), target),
             Test::Class(classes) => has_class(classes, kind, class),
-            Test::Permissions(test) => test.meets(symbols, class, &rule.part()),
-            Test::Numbers(test) => test.meets(&rule.part()),
-            Test::Default(ends) => has_default(ends, kind, &rule.part()),
-            Test::Condition(nodes) => is_under(nodes, rule.condition()),
+            Test::Permissions(test) => test.meets(
+                policy.symbols(),
+                class,
+                &part_of(policy, number),
+            ),
+            Test::Numbers(test) => test.meets(&part_of(policy, number)),
+            Test::Default(ends) => has_default(ends, kind, &part_of(policy, number)),
+            Test::Condition(nodes) => is_under(nodes, condition_of(policy, number)),
         }
     }
+}
+
+// What a stored rule gives besides its ends.
+#[tactic(auto, using(crate::proofs::NumberedRules::is_there))]
+fn part_of<'a>(policy: &Policy<'a>, number: u32) -> RulePart<'a>
+    requires { number < length (stored_rules policy.now) }
+    ensures { result ≡ (rule_at policy.now number).part }
+{
+    policy.rule(number).part
+}
+
+// The condition that a stored rule stands under.
+#[tactic(auto, using(crate::proofs::NumberedRules::is_there))]
+fn condition_of(policy: &Policy<'_>, number: u32) -> Option<Condition>
+    requires { number < length (stored_rules policy.now) }
+    ensures { result ≡ (rule_at policy.now number).condition }
+{
+    policy.rule(number).condition
 }
 
 // Whether the class of a rule is one of these. A role allow has none.

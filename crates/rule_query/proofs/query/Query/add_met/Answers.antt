@@ -1,13 +1,22 @@
 use Rattle.std.proofs.Common.{sym, ◌∙◌}
+use Rattle.rule_query.specs.Inner.NumberedRules.{rule_at}
 use Rattle.rule_query.proofs.MetRules.{met_failing, met_passing}
+use Rattle.rule_query.proofs.NumberedRules.{has_ends, is_declared, is_there, rule_is_at}
 use Rattle.rule_query.proofs.query.Query.add_met.Goals as goal
+
+pub passes-requires : goal.passes-requires
+passes-requires c = rule_is_at c.args.policy.now c.args.number c.args.ends c.requires.rule
 
 pub returns-in_ok-add_ends : goal.returns-in_ok-add_ends
 returns-in_ok-add_ends c =
-    met_passing c.args.policy.now c.args.self.now c.with_ends-rule.result c.args.number c.with_ends-rule.ensures.is c.args.found.now c.add_ends.new.self c.with_ends-rule.ensures.declared
-    (sym (rw c.symbols.ensures at c.passes.ensures) ∙ c.if-passes.true) c.in_ok-add_ends.ensures c.requires.found
+    let policy = c.args.policy.now in
+    let within = has_ends policy c.args.number c.args.ends c.requires.rule in
+    met_passing policy c.args.self.now (rule_at policy c.args.number) c.args.number (is_there policy c.args.number within) c.args.found.now c.add_ends.new.self
+    (is_declared c.bytes.result.now policy c.args.number c.bytes.ensures.accepted within) (sym c.passes.ensures ∙ c.if-passes.true) c.in_ok-add_ends.ensures c.requires.found
 
 pub returns-else-passes : goal.returns-else-passes
 returns-else-passes c =
-    met_failing c.args.policy.now c.args.self.now c.with_ends-rule.result c.args.number c.with_ends-rule.ensures.is c.args.found.now c.with_ends-rule.ensures.declared
-    (sym (rw c.symbols.ensures at c.passes.ensures) ∙ c.if-passes.false) c.requires.found
+    let policy = c.args.policy.now in
+    let within = has_ends policy c.args.number c.args.ends c.requires.rule in
+    met_failing policy c.args.self.now (rule_at policy c.args.number) c.args.number (is_there policy c.args.number within) c.args.found.now
+    (is_declared c.bytes.result.now policy c.args.number c.bytes.ensures.accepted within) (sym c.passes.ensures ∙ c.if-passes.false) c.requires.found
