@@ -2,13 +2,13 @@
 use crate::contexts::push_context;
 use crate::entry_names::EntryNames;
 use crate::table_lines::{LinedEntry, TableLines};
-use pol_contexts::{FsUseList, FsUseRec, FsUseView};
+use pol_contexts::{FSUSE_ROW, FsUseList, FsUseRec, FsUseView};
 use pol_cursor::Names;
 use pol_texts::{behaviour_word, push_name_text};
 use std::alloc::{AllocError, Global};
 
 /// The lines of how the files of file systems get their contexts.
-pub type FsUseLines<'p, 'a> = TableLines<'p, 'a, FsUseRec, 30>;
+pub type FsUseLines<'p, 'a> = TableLines<'p, 'a, FsUseRec, FSUSE_ROW>;
 
 impl<'a> EntryNames for FsUseList<'a> {
     ghost use Rattle.std.specs.Prelude.{map};

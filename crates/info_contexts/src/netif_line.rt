@@ -2,13 +2,13 @@
 use crate::contexts::push_context;
 use crate::entry_names::EntryNames;
 use crate::table_lines::{LinedEntry, TableLines};
-use pol_contexts::{NetifList, NetifRec, NetifView};
+use pol_contexts::{NETIF_ROW, NetifList, NetifRec, NetifView};
 use pol_cursor::Names;
 use pol_texts::push_name_text;
 use std::alloc::{AllocError, Global};
 
 /// The lines of the contexts of network interfaces.
-pub type NetifLines<'p, 'a> = TableLines<'p, 'a, NetifRec, 28>;
+pub type NetifLines<'p, 'a> = TableLines<'p, 'a, NetifRec, NETIF_ROW>;
 
 impl<'a> EntryNames for NetifList<'a> {
     ghost use Rattle.std.specs.Prelude.{map};

@@ -43,21 +43,40 @@ pub type IbPkeyView<'a> = EntryView<'a, IbPkeyRec>;
 
 pub type IbEndPortView<'a> = EntryView<'a, IbEndPortRec>;
 
-// The kinds, each with the code of its table.
-pub type Sid = EntryKind<SidRec, 25>;
+// The codes of the records of the nine tables, as in their fields.
+pub const SID_ROW: u8 = 25;
 
-pub type Fs = EntryKind<FsRec, 26>;
+pub const FS_ROW: u8 = 26;
 
-pub type Port = EntryKind<PortRec, 27>;
+pub const PORT_ROW: u8 = 27;
 
-pub type Netif = EntryKind<NetifRec, 28>;
+pub const NETIF_ROW: u8 = 28;
 
-pub type Node = EntryKind<NodeRec, 29>;
+pub const NODE_ROW: u8 = 29;
 
-pub type FsUse = EntryKind<FsUseRec, 30>;
+pub const FSUSE_ROW: u8 = 30;
 
-pub type Node6 = EntryKind<Node6Rec, 31>;
+pub const NODE6_ROW: u8 = 31;
 
-pub type IbPkey = EntryKind<IbPkeyRec, 32>;
+pub const IBPKEY_ROW: u8 = 32;
 
-pub type IbEndPort = EntryKind<IbEndPortRec, 33>;
+pub const IBENDPORT_ROW: u8 = 33;
+
+// The kinds, each with the code of its records.
+pub type Sid = EntryKind<SidRec, SID_ROW>;
+
+pub type Fs = EntryKind<FsRec, FS_ROW>;
+
+pub type Port = EntryKind<PortRec, PORT_ROW>;
+
+pub type Netif = EntryKind<NetifRec, NETIF_ROW>;
+
+pub type Node = EntryKind<NodeRec, NODE_ROW>;
+
+pub type FsUse = EntryKind<FsUseRec, FSUSE_ROW>;
+
+pub type Node6 = EntryKind<Node6Rec, NODE6_ROW>;
+
+pub type IbPkey = EntryKind<IbPkeyRec, IBPKEY_ROW>;
+
+pub type IbEndPort = EntryKind<IbEndPortRec, IBENDPORT_ROW>;

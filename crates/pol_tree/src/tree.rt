@@ -1,4 +1,5 @@
 ghost use Rattle.std.specs.Prelude.{◌≡◌, [], IfOk};
+ghost use Rattle.pol_bitmap.specs.Nodes.{bits_of};
 ghost use Rattle.pol_tree.specs.PolicyTree.{empty_tree};
 
 use pol_avtab::AvRecList;
@@ -106,7 +107,9 @@ impl Drop for Tree {
 impl Tree {
     /// A policy that has nothing in it yet.
     pub fn empty(alloc: Global) -> Result<Tree, AllocError>
-        ensures { IfOk result (λ tree. tree ≡ record empty_tree { capabilities = tree.capabilities; permissive = tree.permissive }) }
+        ensures rest { IfOk result (λ tree. tree ≡ record empty_tree { capabilities = tree.capabilities; permissive = tree.permissive }) }
+        ensures capabilities { IfOk result (λ tree. bits_of tree.capabilities ≡ []) }
+        ensures permissive { IfOk result (λ tree. bits_of tree.permissive ≡ []) }
     {
         let capabilities = Set::empty(alloc)?;
         let permissive = Set::empty(alloc)?;

@@ -1,8 +1,8 @@
 use Rattle.std.proofs.Common.{refl}
 use Rattle.pol_tree.proofs.tree.Tree.empty.Goals as goal
 
-pub returns : goal.returns
-returns c = rw (
+pub returns-clause-rest : goal.returns-clause-rest
+returns-clause-rest c = rw (
   c.nothing.ensures,
   c.nothing-2.ensures,
   c.nothing-3.ensures,
