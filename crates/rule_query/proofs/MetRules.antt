@@ -1,15 +1,16 @@
 -- Rules that are gathered in file order: one rule more, and where those of the next conditional node stand.
-use Rattle.std.proofs.Common.{◌≡◌, ℕ, suc, ◌+◌, ◌-◌, ◌<◌, Bool, true, false, Ok, Some, List, [], ◌∷◌, ◌++◌, length, slice_get, refl, sym, ap, subst, ◌∙◌, append-nil, arith}
+use Rattle.std.proofs.Common.{◌≡◌, ℕ, suc, ◌+◌, ◌-◌, ◌<◌, Bool, true, false, Ok, Some, List, [], ◌∷◌, ◌++◌, length, map, slice_get, refl, sym, ap, subst, ◌∙◌, append-nil, arith}
 use Rattle.std.specs.Prelude.{◌&&◌}
 use Rattle.std.specs.List.{flat_map, list_all, range_with_len}
 use Rattle.std.proofs.lemmas.List.{length-append}
 use Rattle.std.proofs.lemmas.Option.{slice_get_within}
 use Rattle.pol_cursor.specs.References.{Placed}
 use Rattle.pol_conditionals.specs.declared.CondNodeRec.{CondNodeRec}
+use Rattle.pol_conditionals.specs.CondNodeRecord.{branch_rules}
 use Rattle.pol_file.specs.declared.Parts.{Parts}
 use Rattle.pol_file.specs.Acceptance.{accept}
 use Rattle.pol_rules.specs.DeclaredRules.{IsDeclaredRule}
-use Rattle.pol_rules.specs.StoredRules.{StoredRule, rules_of_node, stored_rules}
+use Rattle.pol_rules.specs.StoredRules.{StoredRule, av_rule, rules_of_branch, rules_of_node, stored_rules}
 use Rattle.pol_rules.proofs.RuleSums.{get_right}
 use Rattle.pol_rules.proofs.RulesDeclared.{rule_is_declared}
 use Rattle.rule_order.specs.ListedOrder.{GatheredRules}
@@ -45,12 +46,6 @@ module _ (policy : Parts) (query : Query) (rule : StoredRule) (n : ℕ) (there :
         (meets_at policy criteria query rule n false is declared there (sym failing));
   }
 
-  -- one of a kind that is not asked
-  pub met_unasked : (bytes : List ℕ) (found : GatheredRules) → accept bytes ≡ Ok policy → is_kind_asked query.kinds rule.kind ≡ false → HasMet policy query n found → HasMet policy query (n + 1) found
-  met_unasked bytes found accepted none met =
-      let failing : passes policy.symbols query rule ≡ false = ap (λ (b : Bool). b && list_all (rule_test policy.symbols rule) query.tests.items) none in
-      met_failing found (rule_is_declared bytes policy n rule accepted there) failing met
-
 -- ---- rules that stand one behind the other
 
 stand_same : (policy : Parts) (first : ℕ) (xs ys : List StoredRule) → xs ≡ ys → StandFrom policy first xs → StandFrom policy first ys
@@ -63,7 +58,21 @@ stand_right policy first next xs ys e stand = record {
       ap (slice_get (stored_rules policy)) place ∙ stand.at (length xs + i) (omega (arith, length-append xs ys)) ∙ get_right xs ys (length xs + i) i refl;
 }
 
+-- the first of them, and those behind it
+module _ (policy : Parts) (first : ℕ) (rules more : List StoredRule) (rule : StoredRule) (e : rules ≡ rule ∷ more) (stand : StandFrom policy first rules) where
+  pub stand_first : slice_get (stored_rules policy) first ≡ Some rule
+  stand_first =
+      let here : first ≡ first + 0 = omega arith in
+      ap (slice_get (stored_rules policy)) here ∙ (stand_same policy first rules (rule ∷ more) e stand).at 0 (omega arith)
+
+  pub stand_behind : StandFrom policy (first + 1) more
+  stand_behind = stand_right policy first (first + 1) (rule ∷ []) more (omega arith) (stand_same policy first rules (rule ∷ more) e stand)
+
 -- ---- those under conditions
+
+-- those of a branch of the node that is there
+pub branch_there : (nodes : List (Placed CondNodeRec)) (i : ℕ) (branch : Bool) (node : Placed CondNodeRec) → slice_get nodes i ≡ Some node → map (av_rule (Some (record { node = i; branch = branch }))) (branch_rules node branch) ≡ rules_of_branch nodes i branch
+branch_there nodes i branch node e = rw e refl
 
 -- those of the nodes from a number on
 abbrev pub rules_from_node : List (Placed CondNodeRec) → ℕ → List StoredRule

@@ -70,8 +70,8 @@ one_missing kind true true true true marked first second e = sym (sym e ∙ mark
 
 pub passes_over : (query : Query) (sources targets : Option MarkedValues) → AreSources query.tests.items sources → AreTargets query.tests.items targets → PassesOver query (record { kinds = low_marks query.kinds; sources = sources; targets = targets })
 passes_over query sources targets are_sources are_targets = record {
-  at = λ symbols av e.
-      let rule : StoredRule = av_rule None av in
+  at = λ symbols condition av e.
+      let rule : StoredRule = av_rule condition av in
       let kind = kind_of av.value.specified in
       one_missing (is_kind_marked (low_marks query.kinds) av.value) (is_value_asked sources rule.source) (is_value_asked targets rule.target)
       (is_kind_asked query.kinds rule.kind) (list_all (rule_test symbols rule) query.tests.items)
@@ -128,7 +128,7 @@ passed_at : (policy : Parts) (query : Query) (marks : VectorMarks) (n : ℕ) →
 unfolding standing_at passes_at
 passed_at policy query marks n over lt e =
     ⊎_elim
-    (λ some. ap (is_passing policy query) (table_first policy n some.0 some.2) ∙ over.at policy.symbols some.0 (sym (ap (is_standing (may_be_asked marks)) some.2) ∙ e))
+    (λ some. ap (is_passing policy query) (table_first policy n some.0 some.2) ∙ over.at policy.symbols None some.0 (sym (ap (is_standing (may_be_asked marks)) some.2) ∙ e))
     (λ past. absurd (omega (arith, past.0, lt)))
     (slice_get_cases policy.rules.table n).1
 

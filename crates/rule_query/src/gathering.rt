@@ -1,14 +1,14 @@
 // The rules that meet a query, gathered section by section, where they stand.
 ghost use Rattle.std.specs.Prelude.{◌≡◌, ◌+◌, ◌<◌, ◌≤◌, [], Some, IfOk, OnOk, length, option_map, slice_get};
-ghost use Rattle.pol_rules.specs.Inner.RuleRecords.{rule_of};
-ghost use Rattle.pol_rules.specs.StoredRules.{ends_of, rules_of_branch, rules_of_node, stored_rules};
+ghost use Rattle.pol_rules.specs.StoredRules.{av_rule, ends_of, rules_of_branch, rules_of_node, stored_rules};
 ghost use Rattle.rule_query.specs.Inner.Gathering.{HasMet, PassesOver, StandFrom};
 
 use crate::query::Query;
 use crate::tests::Test;
-use pol_read::{Condition, Policy, RuleEnds, RuleRecord, vector_ends};
+use pol_avtab::AvView;
+use pol_read::{Condition, Policy, RuleEnds, vector_ends};
 use rule_order::RuleKeys;
-use rule_tests::{AskedVectors, is_kind_asked};
+use rule_tests::AskedVectors;
 use std::alloc::AllocError;
 
 impl Query {
@@ -24,8 +24,9 @@ impl Query {
         ensures { OnOk result (HasMet policy.now self.now (length (stored_rules policy.now)) found.new) }
     {
         let count = policy.rule_count();
-        self.add_of_table(policy, found)?;
-        let next = self.add_under_conditions(policy, found)?;
+        let asked = self.asked_vectors();
+        self.add_of_table(policy, &asked, found)?;
+        let next = self.add_under_conditions(policy, &asked, found)?;
         for number in next..count {
             self.add_met(policy, number, policy.rule_ends(number), found)?;
         }
@@ -33,16 +34,21 @@ impl Query {
     }
 
     // Adds those of the table of access vectors, 128 rules at a time.
-    fn add_of_table(&self, policy: &Policy<'_>, found: &mut RuleKeys<'_>) -> Result<(), AllocError>
-        requires { HasMet policy.now self.now 0 found.old }
+    fn add_of_table(
+        &self,
+        policy: &Policy<'_>,
+        asked: &AskedVectors<'_>,
+        found: &mut RuleKeys<'_>,
+    ) -> Result<(), AllocError>
+        requires asked { PassesOver self.now asked.now }
+        requires found { HasMet policy.now self.now 0 found.old }
         ensures { OnOk result (HasMet policy.now self.now (length policy.now.rules.table) found.new) }
     {
-        let asked = self.asked_vectors();
         let count = policy.table().len();
         let mut from = 0;
         while from < count {
             let to = from + (count - from).min(128);
-            self.add_block(policy, &asked, from, to, found)?;
+            self.add_block(policy, asked, from, to, found)?;
             from = to;
         }
         Ok(())
@@ -112,14 +118,16 @@ impl Query {
     fn add_under_conditions(
         &self,
         policy: &Policy<'_>,
+        asked: &AskedVectors<'_>,
         found: &mut RuleKeys<'_>,
     ) -> Result<u32, AllocError>
-        requires { HasMet policy.now self.now (length policy.now.rules.table) found.old }
+        requires asked { PassesOver self.now asked.now }
+        requires found { HasMet policy.now self.now (length policy.now.rules.table) found.old }
         ensures { IfOk result (λ next. HasMet policy.now self.now next found.new) }
     {
         let mut next = policy.table().len();
         for node in 0..policy.conditionals().len() {
-            next = self.add_of_node(policy, node, next, found)?;
+            next = self.add_of_node(policy, asked, node, next, found)?;
         }
         Ok(next)
     }
@@ -128,10 +136,12 @@ impl Query {
     fn add_of_node(
         &self,
         policy: &Policy<'_>,
+        asked: &AskedVectors<'_>,
         node: u32,
         first: u32,
         found: &mut RuleKeys<'_>,
     ) -> Result<u32, AllocError>
+        requires asked { PassesOver self.now asked.now }
         requires node { node < length policy.now.rules.conditionals }
         requires rules { StandFrom policy.now first (rules_of_node policy.now.rules.conditionals node) }
         requires found { HasMet policy.now self.now first found.old }
@@ -143,53 +153,57 @@ impl Query {
             node,
             branch: false,
         };
-        let next = self.add_of_branch(policy, when_true, first, found)?;
-        self.add_of_branch(policy, when_false, next, found)
+        let next = self.add_of_branch(policy, asked, when_true, first, found)?;
+        self.add_of_branch(policy, asked, when_false, next, found)
     }
 
     // Adds those of one branch of a node, in the same way.
     fn add_of_branch(
         &self,
         policy: &Policy<'_>,
+        asked: &AskedVectors<'_>,
         condition: Condition,
         first: u32,
         found: &mut RuleKeys<'_>,
     ) -> Result<u32, AllocError>
+        requires asked { PassesOver self.now asked.now }
         requires node { condition.node < length policy.now.rules.conditionals }
         requires rules { StandFrom policy.now first (rules_of_branch policy.now.rules.conditionals condition.node condition.branch) }
         requires found { HasMet policy.now self.now first found.old }
         ensures next { IfOk result (λ next. next ≡ first + length (rules_of_branch policy.now.rules.conditionals condition.node condition.branch)) }
         ensures found { IfOk result (λ next. HasMet policy.now self.now next found.new) }
     {
-        let nodes = policy.conditionals();
-        let count = nodes.branch_len(condition.node, condition.branch);
-        for i in 0..count {
-            let view = nodes.branch_view(condition.node, condition.branch, i);
-            let record = RuleRecord::Vector(view, Some(condition));
-            self.add_record(policy, first + i, &record, found)?;
+        let node = policy.conditionals().view(condition.node);
+        let mut number = first;
+        for view in node.rules(condition.branch) {
+            self.add_conditional(policy, asked, number, &view, condition, found)?;
+            number += 1;
         }
-        Ok(first + count)
+        Ok(number)
     }
 
-    // Adds the rule of a number, which is read from a record, if it meets the criteria.
+    // Adds the rule of a number, which is an access vector under a condition, if it meets the criteria.
     #[inline(always)]
-    fn add_record(
+    fn add_conditional(
         &self,
         policy: &Policy<'_>,
+        asked: &AskedVectors<'_>,
         number: u32,
-        from: &RuleRecord<'_>,
+        view: &AvView<'_>,
+        condition: Condition,
         found: &mut RuleKeys<'_>,
     ) -> Result<(), AllocError>
-        requires rule { slice_get (stored_rules policy.now) number ≡ Some (rule_of from.now) }
+        requires asked { PassesOver self.now asked.now }
+        requires rule { slice_get (stored_rules policy.now) number ≡ Some (av_rule (Some condition) view.now) }
         requires found { HasMet policy.now self.now number found.old }
         ensures { OnOk result (HasMet policy.now self.now (number + 1) found.new) }
     {
         // the policy was accepted, and so what its rules name is declared
         let _ = policy.bytes();
-        if !is_kind_asked(&self.kinds, from.kind()) {
+        if !asked.may_be(view) {
             return Ok(());
         }
-        self.add_met(policy, number, from.ends(), found)
+        self.add_met(policy, number, vector_ends(view.key()), found)
     }
 
     // Adds the rule of a number, which has these ends, if it meets the criteria.

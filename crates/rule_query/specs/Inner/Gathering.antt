@@ -5,6 +5,7 @@ use Rattle.pol_cursor.specs.References.{Placed}
 use Rattle.pol_avtab.specs.declared.AvRec.{AvRec}
 use Rattle.pol_symbols.specs.declared.Symbols.{Symbols}
 use Rattle.pol_file.specs.declared.Parts.{Parts}
+use Rattle.pol_rules.specs.declared.Condition.{Condition}
 use Rattle.pol_rules.specs.StoredRules.{StoredRule, av_rule, stored_rules}
 use Rattle.rule_criteria.specs.declared.Criteria.{Criteria}
 use Rattle.rule_order.specs.ListedOrder.{GatheredRules}
@@ -27,9 +28,9 @@ pub record StandFrom (policy : Parts) (first : ℕ) (rules : List StoredRule) : 
 
 -- ---- those of the table
 
--- no access vector passes that the marks pass over
+-- no access vector passes that the marks pass over, under a condition or under none
 pub record PassesOver (query : Query) (marks : VectorMarks) : Type 0 where
-  pub at : (symbols : Symbols) (av : Placed AvRec) → may_be_asked marks av.value ≡ false → passes symbols query (av_rule None av) ≡ false
+  pub at : (symbols : Symbols) (condition : Option Condition) (av : Placed AvRec) → may_be_asked marks av.value ≡ false → passes symbols query (av_rule condition av) ≡ false
 
 -- a rule passes, where there is one
 abbrev pub is_passing : Parts → Query → Option StoredRule → Bool

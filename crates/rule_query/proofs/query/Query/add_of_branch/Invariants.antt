@@ -1,6 +1,13 @@
-use Rattle.std.proofs.Common.{◌+◌}
-use Rattle.rule_query.specs.Inner.Gathering.{HasMet}
+use Rattle.std.proofs.Common.{◌≡◌, ◌+◌, Some, length, map}
+use Rattle.pol_rules.specs.StoredRules.{av_rule, rules_of_branch}
+use Rattle.rule_query.specs.Inner.Gathering.{HasMet, StandFrom}
 use Rattle.rule_query.proofs.query.Query.add_of_branch.Given as goal
 
-abbrev pub invariant-loop-i : goal.invariant-loop-i
-invariant-loop-i l = HasMet l.policy l.self (l.first + l.i) l.found
+abbrev pub invariant-loop-view : goal.invariant-loop-view
+invariant-loop-view l =
+    let left = map (av_rule (Some l.condition)) l.view-iterator in
+    record {
+      rules : StandFrom l.policy l.number left;
+      end : l.number + length left ≡ l.first + length (rules_of_branch l.policy.rules.conditionals l.condition.node l.condition.branch);
+      found : HasMet l.policy l.self l.number l.found;
+    }
