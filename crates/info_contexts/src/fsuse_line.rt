@@ -1,25 +1,13 @@
 // The lines of how the files of file systems get their contexts.
 use crate::contexts::push_context;
-use crate::entry_names::EntryNames;
-use crate::table_lines::{LinedEntry, TableLines};
-use pol_contexts::{FSUSE_ROW, FsUseList, FsUseRec, FsUseView};
+use crate::table_lines::{LinedEntry, NamedEntry, TableLines};
+use pol_contexts::{FSUSE_ROW, FsUseRec, FsUseView};
 use pol_cursor::Names;
 use pol_texts::{behaviour_word, push_name_text};
-use std::alloc::{AllocError, Global};
+use std::alloc::AllocError;
 
 /// The lines of how the files of file systems get their contexts.
 pub type FsUseLines<'p, 'a> = TableLines<'p, 'a, FsUseRec, FSUSE_ROW>;
-
-impl<'a> EntryNames for FsUseList<'a> {
-    ghost use Rattle.std.specs.Prelude.{map};
-
-    ghost names = { λ entries. map (λ entry. entry.value.name) entries };
-
-    #[tactic(auto, using(info_lines::proofs::ListingLines::line_at))]
-    fn is_named(&self, _: Global, number: u32, name: &[u8]) -> Result<bool, AllocError> {
-        Ok(self.view(number).name() == name)
-    }
-}
 
 impl LinedEntry for FsUseRec {
     ghost use Rattle.info_contexts.specs.FsUseLines.{fsuse_line};
@@ -38,5 +26,13 @@ impl LinedEntry for FsUseRec {
         buffer.push(b' ')?;
         push_context(buffer, &entry.context(), names)?;
         Ok(buffer.push(b';')?)
+    }
+}
+
+impl NamedEntry for FsUseRec {
+    ghost name = { λ entry. entry.name };
+
+    fn name<'a>(entry: &FsUseView<'a>) -> &'a [u8] {
+        entry.name()
     }
 }

@@ -37,7 +37,6 @@ pub fn sid_lines<'p, 'a>(
 }
 
 /// The lines of how the files of the file systems of the name get their contexts, or of all where none is given.
-#[tactic(auto, using(crate::proofs::NamedEntries::chosen_there, crate::proofs::NamedEntries::chosen_lines, info_lines::proofs::FileOrder::as_many))]
 pub fn fsuse_lines<'p, 'a>(
     alloc: Global,
     policy: &'p Policy<'a>,
@@ -45,10 +44,7 @@ pub fn fsuse_lines<'p, 'a>(
 ) -> Result<NumberedLines<FsUseLines<'p, 'a>>, AllocError>
     ensures { IfOk result (λ lines. lines ≡ fsuse_listing_of policy.now.symbols (option_map (λ name. name.now) name.entry) policy.now.labels.contexts.fsuse) }
 {
-    let entries = &policy.contexts().fsuse;
-    let numbers = numbers_of_name(alloc, entries, entries.len(), name)?;
-    let lines = TableLines::new(entries, policy.symbols());
-    Ok(NumberedLines::new(lines, numbers))
+    TableLines::named(alloc, &policy.contexts().fsuse, policy.symbols(), name)
 }
 
 /// The lines of the paths of the file systems of the name that have no labels of their own, or of all where none is given.
@@ -64,7 +60,6 @@ pub fn genfs_lines<'p, 'a>(
 }
 
 /// The lines of the network interfaces of the name, or of all where none is given.
-#[tactic(auto, using(crate::proofs::NamedEntries::chosen_there, crate::proofs::NamedEntries::chosen_lines, info_lines::proofs::FileOrder::as_many))]
 pub fn netif_lines<'p, 'a>(
     alloc: Global,
     policy: &'p Policy<'a>,
@@ -72,10 +67,7 @@ pub fn netif_lines<'p, 'a>(
 ) -> Result<NumberedLines<NetifLines<'p, 'a>>, AllocError>
     ensures { IfOk result (λ lines. lines ≡ netif_listing_of policy.now.symbols (option_map (λ name. name.now) name.entry) policy.now.labels.contexts.netif) }
 {
-    let entries = &policy.contexts().netif;
-    let numbers = numbers_of_name(alloc, entries, entries.len(), name)?;
-    let lines = TableLines::new(entries, policy.symbols());
-    Ok(NumberedLines::new(lines, numbers))
+    TableLines::named(alloc, &policy.contexts().netif, policy.symbols(), name)
 }
 
 /// The lines of nodes: of IPv4 addresses, and then of IPv6 addresses.

@@ -1,13 +1,15 @@
 // The lines of tables of contexts.
-ghost use Rattle.std.specs.Prelude.{◌≡◌, map};
+ghost use Rattle.std.specs.Prelude.{◌≡◌, IfOk, map, option_map};
 ghost use Rattle.pol_symbols.specs.PolicySymbols.{name_in};
 ghost use Rattle.info_lines.specs.Inner.Listings.{HasLine, line_of};
+ghost use Rattle.info_contexts.specs.NamedEntries.{of_name};
 
-use info_lines::{FileLines, LineText};
+use crate::entry_names::{EntryNames, numbers_of_name};
+use info_lines::{FileLines, LineText, NumberedLines};
 use pol_contexts::{Entry, EntryKind, EntryView, Standing};
 use pol_cursor::{Names, Records};
 use pol_symbols::Symbols;
-use std::alloc::AllocError;
+use std::alloc::{AllocError, Global};
 use std::marker::Model;
 
 /// An entry that has a line.
@@ -25,6 +27,27 @@ pub trait LinedEntry: Entry {
         names: &N,
     ) -> Result<(), AllocError>
         ensures { OnOk result (buffer.new.items ≡ buffer.old.items ++ line (N.named names.now) entry.now.value) };
+}
+
+/// An entry that has a line, and a name that it is asked for by.
+pub trait NamedEntry: LinedEntry {
+    ghost use Rattle.std.specs.Prelude.{◌≡◌, ℕ, List};
+
+    /// The name of an entry.
+    ghost name: { Self → List ℕ };
+
+    /// The name of the entry that a view shows.
+    fn name<'a>(entry: &EntryView<'a, Self>) -> &'a [u8]
+        ensures { result.now ≡ name entry.now.value };
+}
+
+impl<'a, R: NamedEntry, const ROW: u8> EntryNames for Records<'a, EntryKind<R, ROW>> {
+    ghost names = { λ entries. map (λ entry. R.name entry.value) entries };
+
+    #[tactic(auto, using(info_lines::proofs::ListingLines::line_at))]
+    fn is_named(&self, _: Global, number: u32, name: &[u8]) -> Result<bool, AllocError> {
+        Ok(R::name(&self.view(number)) == name)
+    }
 }
 
 /// The lines of a table, by numbers in file order. Contracts see the listing.
@@ -63,6 +86,23 @@ impl<'p, 'a, R: LinedEntry, const ROW: u8> TableLines<'p, 'a, R, ROW> {
         ensures { result ≡ map (λ entry. R.line (name_in symbols.now) entry.value) entries.now }
     {
         FileLines::new(TableLines::new(entries, symbols), entries.len())
+    }
+}
+
+impl<'p, 'a, R: NamedEntry, const ROW: u8> TableLines<'p, 'a, R, ROW> {
+    /// Those of the name, or all where none is given, in file order.
+    #[tactic(auto, using(crate::proofs::NamedEntries::chosen_there, crate::proofs::NamedEntries::chosen_lines, info_lines::proofs::FileOrder::as_many))]
+    pub fn named(
+        alloc: Global,
+        entries: &'p Records<'a, EntryKind<R, ROW>>,
+        symbols: &'p Symbols<'a>,
+        name: Option<&[u8]>,
+    ) -> Result<NumberedLines<TableLines<'p, 'a, R, ROW>>, AllocError>
+        ensures { IfOk result (λ lines. lines ≡ map (λ entry. R.line (name_in symbols.now) entry.value) (of_name (λ entry. R.name entry.value) (option_map (λ name. name.now) name.entry) entries.now)) }
+    {
+        let numbers = numbers_of_name(alloc, entries, entries.len(), name)?;
+        let lines = TableLines::new(entries, symbols);
+        Ok(NumberedLines::new(lines, numbers))
     }
 }
 
