@@ -19,9 +19,9 @@ pub fn sort_by_rule_order(
     ensures sorted { IfOk result (λ sorted. sorted.items ≡ in_rule_order policy.now numbers.now) }
     ensures rules { IfOk result (λ sorted. AreRules policy.now sorted.items) }
 {
-    let mut keys = RuleKeys::with_capacity(alloc, policy, numbers.len())?;
+    let mut keys = RuleKeys::with_capacity(alloc, numbers.len())?;
     for number in numbers {
-        keys.add_ends(*number, policy.rule_ends(*number))?;
+        keys.add_ends(policy, *number, policy.rule_ends(*number))?;
     }
-    keys.sorted(alloc)
+    keys.sorted(alloc, policy)
 }

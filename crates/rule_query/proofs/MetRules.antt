@@ -1,48 +1,47 @@
 -- Rules that are gathered in file order: one rule more, and where those of the next conditional node stand.
-use Rattle.std.proofs.Common.{◌≡◌, ℕ, suc, ◌+◌, ◌-◌, ◌<◌, Bool, true, false, Ok, Some, List, [], ◌∷◌, ◌++◌, length, map, slice_get, refl, sym, ap, subst, ◌∙◌, append-nil, arith}
-use Rattle.std.specs.Prelude.{◌&&◌}
-use Rattle.std.specs.List.{flat_map, list_all, range_with_len}
+use Rattle.std.proofs.Common.{◌≡◌, ℕ, suc, ◌+◌, ◌-◌, ◌<◌, Bool, true, false, Some, List, [], ◌∷◌, ◌++◌, length, map, slice_get, refl, sym, ap, subst, ◌∙◌, append-nil, arith}
+use Rattle.std.specs.List.{flat_map, range_with_len}
 use Rattle.std.proofs.lemmas.List.{length-append}
 use Rattle.std.proofs.lemmas.Option.{slice_get_within}
 use Rattle.pol_cursor.specs.References.{Placed}
 use Rattle.pol_conditionals.specs.declared.CondNodeRec.{CondNodeRec}
 use Rattle.pol_conditionals.specs.CondNodeRecord.{branch_rules}
 use Rattle.pol_file.specs.declared.Parts.{Parts}
-use Rattle.pol_file.specs.Acceptance.{accept}
 use Rattle.pol_rules.specs.DeclaredRules.{IsDeclaredRule}
 use Rattle.pol_rules.specs.StoredRules.{StoredRule, av_rule, rules_of_branch, rules_of_node, stored_rules}
-use Rattle.pol_rules.proofs.RuleSums.{get_right}
-use Rattle.pol_rules.proofs.RulesDeclared.{rule_is_declared}
-use Rattle.rule_order.specs.ListedOrder.{GatheredRules}
+use Rattle.pol_rules.proofs.RuleSums.{get_left, get_right}
+use Rattle.rule_order.specs.declared.keys.Key.{Key}
+use Rattle.rule_order.specs.Inner.Keys.{AreGathered}
 use Rattle.rule_query.specs.declared.query.Query.{Query}
 use Rattle.rule_query.specs.Inner.Gathering.{HasMet, StandFrom}
 use Rattle.rule_query.specs.Meeting.{meets}
-use Rattle.rule_tests.specs.AskedKinds.{is_kind_asked}
-use Rattle.rule_query.specs.Inner.Tests.{passes, rule_test}
+use Rattle.rule_query.specs.Inner.Tests.{passes}
 use Rattle.rule_query.proofs.Passing.{kept_next, meets_at}
 
 -- ---- one rule more
 
 module _ (policy : Parts) (query : Query) (rule : StoredRule) (n : ℕ) (there : slice_get (stored_rules policy) n ≡ Some rule) where
   -- a rule that passes
-  pub met_passing : (old new : GatheredRules) → IsDeclaredRule policy rule → passes policy.symbols query rule ≡ true → new ≡ record { policy = old.policy; numbers = old.numbers ++ n ∷ [] } → HasMet policy query n old → HasMet policy query (n + 1) new
+  pub met_passing : (old new : List Key) → IsDeclaredRule policy rule → passes policy.symbols query rule ≡ true → ((numbers : List ℕ) → AreGathered policy numbers old → AreGathered policy (numbers ++ n ∷ []) new) → HasMet policy query n old → HasMet policy query (n + 1) new
   met_passing old new declared passing added met = record {
-    policy_is = ap (λ (found : GatheredRules). found.policy) added ∙ met.policy_is;
     within = omega (arith, slice_get_within (stored_rules policy) n rule there);
     few = met.few;
-    numbers = λ criteria is.
-        kept_next (meets policy criteria) n old.numbers new.numbers true (met.numbers criteria is) (ap (λ (found : GatheredRules). found.numbers) added)
+    numbers = met.numbers ++ n ∷ [];
+    gathered = added met.numbers met.gathered;
+    meet = λ criteria is.
+        kept_next (meets policy criteria) n met.numbers (met.numbers ++ n ∷ []) true (met.meet criteria is) refl
         (meets_at policy criteria query rule n true is declared there (sym passing));
   }
 
   -- one that does not
-  pub met_failing : (found : GatheredRules) → IsDeclaredRule policy rule → passes policy.symbols query rule ≡ false → HasMet policy query n found → HasMet policy query (n + 1) found
+  pub met_failing : (found : List Key) → IsDeclaredRule policy rule → passes policy.symbols query rule ≡ false → HasMet policy query n found → HasMet policy query (n + 1) found
   met_failing found declared failing met = record {
-    policy_is = met.policy_is;
     within = omega (arith, slice_get_within (stored_rules policy) n rule there);
     few = met.few;
-    numbers = λ criteria is.
-        kept_next (meets policy criteria) n found.numbers found.numbers false (met.numbers criteria is) (sym (append-nil found.numbers))
+    numbers = met.numbers;
+    gathered = met.gathered;
+    meet = λ criteria is.
+        kept_next (meets policy criteria) n met.numbers met.numbers false (met.meet criteria is) (sym (append-nil met.numbers))
         (meets_at policy criteria query rule n false is declared there (sym failing));
   }
 
@@ -87,3 +86,11 @@ stand_next policy next after i lt e stand =
     let nodes = policy.rules.conditionals in
     stand_right policy next after (rules_of_node nodes i) (rules_from_node nodes (i + 1)) e
     (stand_same policy next (rules_from_node nodes i) (rules_of_node nodes i ++ rules_from_node nodes (i + 1)) (one_node nodes i lt) stand)
+
+-- those of the first of them stand there
+pub stand_here : (policy : Parts) (next i : ℕ) → i < length policy.rules.conditionals → StandFrom policy next (rules_from_node policy.rules.conditionals i) → StandFrom policy next (rules_of_node policy.rules.conditionals i)
+stand_here policy next i lt stand =
+    let here = rules_of_node policy.rules.conditionals i in
+    let behind = rules_from_node policy.rules.conditionals (i + 1) in
+    let all = stand_same policy next (rules_from_node policy.rules.conditionals i) (here ++ behind) (one_node policy.rules.conditionals i lt) stand in
+    record { at = λ n within. all.at n (omega (arith, within, length-append here behind)) ∙ get_left here behind n within }

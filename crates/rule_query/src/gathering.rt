@@ -1,6 +1,7 @@
 // The rules that meet a query, gathered section by section, where they stand.
 ghost use Rattle.std.specs.Prelude.{◌≡◌, ◌+◌, ◌<◌, ◌≤◌, [], Some, IfOk, OnOk, length, option_map, slice_get};
 ghost use Rattle.pol_rules.specs.StoredRules.{av_rule, ends_of, rules_of_branch, rules_of_node, stored_rules};
+ghost use Rattle.rule_order.specs.Inner.Keys.{AreGathered};
 ghost use Rattle.rule_query.specs.Inner.Gathering.{HasMet, PassesOver, StandFrom};
 
 use crate::query::Query;
@@ -17,10 +18,9 @@ impl Query {
     pub(crate) fn add_all(
         &self,
         policy: &Policy<'_>,
-        found: &mut RuleKeys<'_>,
+        found: &mut RuleKeys,
     ) -> Result<(), AllocError>
-        requires policy { found.old.policy ≡ policy.now }
-        requires none { found.old.numbers ≡ [] }
+        requires { AreGathered policy.now [] found.old }
         ensures { OnOk result (HasMet policy.now self.now (length (stored_rules policy.now)) found.new) }
     {
         let count = policy.rule_count();
@@ -38,7 +38,7 @@ impl Query {
         &self,
         policy: &Policy<'_>,
         asked: &AskedVectors<'_>,
-        found: &mut RuleKeys<'_>,
+        found: &mut RuleKeys,
     ) -> Result<(), AllocError>
         requires asked { PassesOver self.now asked.now }
         requires found { HasMet policy.now self.now 0 found.old }
@@ -78,7 +78,7 @@ impl Query {
         asked: &AskedVectors<'_>,
         from: u32,
         to: u32,
-        found: &mut RuleKeys<'_>,
+        found: &mut RuleKeys,
     ) -> Result<(), AllocError>
         requires rising { from ≤ to }
         requires within { to ≤ length policy.now.rules.table }
@@ -104,7 +104,7 @@ impl Query {
         &self,
         policy: &Policy<'_>,
         number: u32,
-        found: &mut RuleKeys<'_>,
+        found: &mut RuleKeys,
     ) -> Result<(), AllocError>
         requires within { number < length policy.now.rules.table }
         requires found { HasMet policy.now self.now number found.old }
@@ -119,7 +119,7 @@ impl Query {
         &self,
         policy: &Policy<'_>,
         asked: &AskedVectors<'_>,
-        found: &mut RuleKeys<'_>,
+        found: &mut RuleKeys,
     ) -> Result<u32, AllocError>
         requires asked { PassesOver self.now asked.now }
         requires found { HasMet policy.now self.now (length policy.now.rules.table) found.old }
@@ -139,7 +139,7 @@ impl Query {
         asked: &AskedVectors<'_>,
         node: u32,
         first: u32,
-        found: &mut RuleKeys<'_>,
+        found: &mut RuleKeys,
     ) -> Result<u32, AllocError>
         requires asked { PassesOver self.now asked.now }
         requires node { node < length policy.now.rules.conditionals }
@@ -164,7 +164,7 @@ impl Query {
         asked: &AskedVectors<'_>,
         condition: Condition,
         first: u32,
-        found: &mut RuleKeys<'_>,
+        found: &mut RuleKeys,
     ) -> Result<u32, AllocError>
         requires asked { PassesOver self.now asked.now }
         requires node { condition.node < length policy.now.rules.conditionals }
@@ -191,7 +191,7 @@ impl Query {
         number: u32,
         view: &AvView<'_>,
         condition: Condition,
-        found: &mut RuleKeys<'_>,
+        found: &mut RuleKeys,
     ) -> Result<(), AllocError>
         requires asked { PassesOver self.now asked.now }
         requires rule { slice_get (stored_rules policy.now) number ≡ Some (av_rule (Some condition) view.now) }
@@ -213,7 +213,7 @@ impl Query {
         policy: &Policy<'_>,
         number: u32,
         ends: RuleEnds,
-        found: &mut RuleKeys<'_>,
+        found: &mut RuleKeys,
     ) -> Result<(), AllocError>
         requires rule { option_map ends_of (slice_get (stored_rules policy.now) number) ≡ Some ends }
         requires found { HasMet policy.now self.now number found.old }
@@ -222,7 +222,7 @@ impl Query {
         // the policy was accepted, and so what its rules name is declared
         let _ = policy.bytes();
         if self.passes(policy, number, ends) {
-            found.add_ends(number, ends)?;
+            found.add_ends(policy, number, ends)?;
         }
         Ok(())
     }

@@ -85,9 +85,9 @@ impl Query {
         ensures { (criteria : Criteria) → IsQueryOf policy.now criteria self.now → IfOk result (λ numbers. numbers.items ≡ in_rule_order policy.now (meeting policy.now criteria)) }
     {
         // room for those of the table, where nearly all rules stand: memory that nothing is written to is not used
-        let mut found = RuleKeys::with_capacity(alloc, policy, policy.table().len() as usize)?;
+        let mut found = RuleKeys::with_capacity(alloc, policy.table().len() as usize)?;
         self.add_all(policy, &mut found)?;
-        found.sorted(alloc)
+        found.sorted(alloc, policy)
     }
 }
 

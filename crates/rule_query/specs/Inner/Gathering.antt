@@ -8,19 +8,21 @@ use Rattle.pol_file.specs.declared.Parts.{Parts}
 use Rattle.pol_rules.specs.declared.Condition.{Condition}
 use Rattle.pol_rules.specs.StoredRules.{StoredRule, av_rule, stored_rules}
 use Rattle.rule_criteria.specs.declared.Criteria.{Criteria}
-use Rattle.rule_order.specs.ListedOrder.{GatheredRules}
+use Rattle.rule_order.specs.declared.keys.Key.{Key}
+use Rattle.rule_order.specs.Inner.Keys.{AreGathered}
 use Rattle.rule_tests.specs.Inner.AskedVectors.{VectorMarks, may_be_asked}
 use Rattle.rule_query.specs.declared.query.Query.{Query}
 use Rattle.rule_query.specs.Meeting.{meets}
 use Rattle.rule_query.specs.Inner.Resolved.{IsQueryOf}
 use Rattle.rule_query.specs.Inner.Tests.{passes}
 
--- those of the rules below a number that meet the criteria of a query, and no others
-pub record HasMet (policy : Parts) (query : Query) (below : ℕ) (found : GatheredRules) : Type 0 where
-  pub policy_is : found.policy ≡ policy
+-- the keys of those of the rules below a number that meet the criteria of a query, and of no others
+pub record HasMet (policy : Parts) (query : Query) (below : ℕ) (found : List Key) : Type 0 where
   pub within : below ≤ length (stored_rules policy)
   pub few : length (stored_rules policy) ≤ 400000000
-  pub numbers : (criteria : Criteria) → IsQueryOf policy criteria query → found.numbers ≡ filter (meets policy criteria) (range_with_len 0 below)
+  pub numbers : List ℕ
+  pub gathered : AreGathered policy numbers found
+  pub meet : (criteria : Criteria) → IsQueryOf policy criteria query → numbers ≡ filter (meets policy criteria) (range_with_len 0 below)
 
 -- rules stand among those of a policy, one behind the other, from a number on
 pub record StandFrom (policy : Parts) (first : ℕ) (rules : List StoredRule) : Type 0 where

@@ -1,6 +1,6 @@
-use Rattle.std.proofs.Common.{◌≡◌}
+use Rattle.std.proofs.Common.{◌≡◌, ℕ, List}
 use Rattle.std.proofs.lemmas.Result.{IfOk-weaker}
-use Rattle.rule_order.specs.Inner.Keys.{AreSortedNumbers, numbers_in}
+use Rattle.rule_order.specs.Inner.Keys.{AreGathered, AreSortedNumbers}
 use Rattle.rule_order.specs.ListedOrder.{AreRules, in_rule_order}
 use Rattle.rule_order.proofs.GatheredKeys.{numbers_in_order, numbers_are_rules}
 use Rattle.rule_order.proofs.SortedNumbers.{are_declared}
@@ -8,13 +8,13 @@ use Rattle.rule_order.proofs.rule_keys.RuleKeys.sorted.Goals as goal
 
 pub returns-clause-sorted : goal.returns-clause-sorted
 returns-clause-sorted c =
-    let policy = c.self.inside.policy.now in
+    let policy = c.args.policy.now in
     let keys = c.self.inside.keys in
     let declared = are_declared c.bytes.result.now policy c.bytes.ensures.accepted in
-    rw (← c.self.view_is) (IfOk-weaker c.sorted_numbers.result (λ v. AreSortedNumbers keys v.items) (λ v. v.items ≡ in_rule_order policy (numbers_in keys)) (λ v are. numbers_in_order policy keys v.items c.self.invariant are declared) c.sorted_numbers.ensures)
+    rw (← c.self.view_is) (IfOk-weaker c.sorted_numbers.result (λ v. AreSortedNumbers keys v.items) (λ v. (numbers : List ℕ) → AreGathered policy numbers keys → v.items ≡ in_rule_order policy numbers) (λ v are numbers gathered. numbers_in_order policy keys numbers v.items gathered are declared) c.sorted_numbers.ensures)
 
 pub returns-clause-rules : goal.returns-clause-rules
 returns-clause-rules c =
-    let policy = c.self.inside.policy.now in
+    let policy = c.args.policy.now in
     let keys = c.self.inside.keys in
-    rw (← c.self.view_is) (IfOk-weaker c.sorted_numbers.result (λ v. AreSortedNumbers keys v.items) (λ v. AreRules policy v.items) (λ v are. numbers_are_rules policy keys v.items c.self.invariant are) c.sorted_numbers.ensures)
+    rw (← c.self.view_is) (IfOk-weaker c.sorted_numbers.result (λ v. AreSortedNumbers keys v.items) (λ v. (numbers : List ℕ) → AreGathered policy numbers keys → AreRules policy v.items) (λ v are numbers gathered. numbers_are_rules policy keys numbers v.items gathered are) c.sorted_numbers.ensures)
