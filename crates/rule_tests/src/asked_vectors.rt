@@ -43,12 +43,12 @@ impl<'s> AskedVectors<'s> {
         }
     }
 
-    /// Whether an access vector may be asked.
+    /// Whether an access vector may be asked. Its kind is looked at first.
     #[inline(always)]
     pub fn may_be(&self, view: &AvView<'_>) -> bool
         ensures { result ≡ may_be_asked self.now view.now.value }
     {
-        self.has(view)
+        self.kinds.has(view) && self.has(view)
     }
 
     /// Puts the numbers of the rules of a table that may be asked, from one number up to another, at the front of other numbers, and
