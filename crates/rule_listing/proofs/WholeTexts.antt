@@ -29,6 +29,14 @@ vector_added policy av before =
     let rule = av_rule None av in
     sym (append-nil (before ++ begun_text policy.symbols (ends_of rule) ++ ended_text policy.symbols rule)) ∙ whole_added policy rule before
 
+-- whose ends stand there, and what it gives behind them
+pub ended_added : (policy told : Parts) (av : Placed AvRec) (before begun : List ℕ) → told ≡ policy → begun ≡ before ++ begun_text policy.symbols (ends_of (av_rule None av))
+    → begun ++ ended_text told.symbols (av_rule None av) ≡ before ++ rule_text policy (av_rule None av)
+ended_added policy told av before begun same was =
+    let rule = av_rule None av in
+    ap (λ (text : List ℕ). text ++ ended_text told.symbols rule) was ∙ ap (λ (p : Parts). before ++ begun_text policy.symbols (ends_of rule) ++ ended_text p.symbols rule) same
+    ∙ vector_added policy av before
+
 -- the text of the stored rule of a number
 pub text_of_stored : (policy : Parts) (number : ℕ) (rule : StoredRule) → slice_get (stored_rules policy) number ≡ Some rule → rule_text policy rule ≡ text_of_rule policy number
 unfolding text_of_rule

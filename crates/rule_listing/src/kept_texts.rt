@@ -3,13 +3,12 @@
 ghost use Rattle.std.specs.Prelude.{◌≡◌, ◌<◌, ◌++◌, [], None, OnOk, IfOk, IfSome};
 ghost use Rattle.pol_symbols.specs.PolicySymbols.{name_in};
 ghost use Rattle.pol_rules.specs.DeclaredRules.{StandsUnder};
-ghost use Rattle.pol_rules.specs.StoredRules.{av_rule, stored};
+ghost use Rattle.pol_rules.specs.StoredRules.{stored};
 ghost use Rattle.pol_file.specs.declared.Parts.{Parts};
 ghost use Rattle.rule_text.specs.ConditionTexts.{condition_text};
 ghost use Rattle.rule_listing.specs.Inner.KeptTexts.{AreKept, IsKept, ended_text, text_of};
 
-use pol_avtab::AvView;
-use pol_read::{Condition, Policy, Rule, RuleKind, RulePart, vector_rule};
+use pol_read::{Condition, Policy, Rule, RuleKind, RulePart};
 use rule_text::{RuleTexts, push_condition, push_end};
 use std::alloc::{AllocError, Global};
 use std::marker::Model;
@@ -29,30 +28,22 @@ pub(crate) enum TextKey {
         class: u32,
         mask: u32,
     },
-    /// A class and a default by its value, as the rules of a kind give it, with the end behind it.
-    Default {
-        kind: RuleKind,
-        class: u32,
-        value: u32,
-    },
     /// A condition that rules stand under.
     Under(Condition),
 }
 
 impl TextKey {
-    // What a rule gives, with the end behind it, where it gives it by one number and names no new object.
+    // The permissions that a rule gives, with the end behind them, where it gives some and names no new object.
     #[inline(always)]
     fn of(rule: &Rule<'_>) -> Option<TextKey>
         ensures { (policy : Parts) → IfSome result (λ key. text_of policy key ≡ ended_text policy.symbols (stored rule.now)) }
     {
-        if rule.name.is_some() {
-            return None;
-        }
-        let kind = rule.kind;
-        let class = rule.class;
-        match rule.part {
-            RulePart::Perms(mask) => Some(TextKey::Perms { kind, class, mask }),
-            RulePart::Default(value) => Some(TextKey::Default { kind, class, value }),
+        match (&rule.part, rule.name) {
+            (RulePart::Perms(mask), None) => Some(TextKey::Perms {
+                kind: rule.kind,
+                class: rule.class,
+                mask: *mask,
+            }),
             _ => None,
         }
     }
@@ -63,7 +54,6 @@ impl TextKey {
     {
         let (group, number) = match self {
             TextKey::Perms { class, mask, .. } => (class, mask),
-            TextKey::Default { class, value, .. } => (class, value),
             TextKey::Under(condition) => (u32::from(condition.branch), condition.node),
         };
         let mixed = (group.wrapping_mul(0x85EB_CA6B) ^ number).wrapping_mul(0x9E37_79B1);
@@ -123,7 +113,7 @@ impl<'p, 'a> KeptTexts<'p, 'a> {
     }
 
     /// Adds the class of a rule, what the rule gives, and the end.
-    #[inline(never)]
+    #[inline(always)]
     pub(crate) fn push_ended(
         &mut self,
         rule: &Rule<'a>,
@@ -132,30 +122,23 @@ impl<'p, 'a> KeptTexts<'p, 'a> {
         ensures policy { self.new ≡ self.old }
         ensures text { OnOk result (buffer.new.items ≡ buffer.old.items ++ ended_text self.old.symbols (stored rule.now)) }
     {
-        if let Some(text) = self.ended(rule) {
-            return buffer.extend_from_slice(text);
+        match self.ended(rule) {
+            Some(text) => buffer.extend_from_slice(text),
+            None => self.push_kept(rule, buffer),
         }
+    }
+
+    // The same, which is made, and kept where rules have it in common.
+    #[inline(never)]
+    fn push_kept(&mut self, rule: &Rule<'a>, buffer: &mut Vec<u8>) -> Result<(), AllocError>
+        ensures policy { self.new ≡ self.old }
+        ensures text { OnOk result (buffer.new.items ≡ buffer.old.items ++ ended_text self.old.symbols (stored rule.now)) }
+    {
         let start = buffer.len();
         self.push_made(rule, buffer)?;
         match TextKey::of(rule) {
             Some(key) => self.keep(key, &buffer[start..]),
             None => Ok(()),
-        }
-    }
-
-    /// Adds the class of an access vector, what it gives, and the end. Where that text is kept, no rule is put together.
-    #[inline(always)]
-    pub(crate) fn push_vector(
-        &mut self,
-        view: &AvView<'a>,
-        buffer: &mut Vec<u8>,
-    ) -> Result<(), AllocError>
-        ensures policy { self.new ≡ self.old }
-        ensures text { OnOk result (buffer.new.items ≡ buffer.old.items ++ ended_text self.old.symbols (av_rule None view.now)) }
-    {
-        match self.ended(&vector_rule(view, None)) {
-            Some(text) => buffer.extend_from_slice(text),
-            None => self.push_ended(&vector_rule(view, None), buffer),
         }
     }
 

@@ -3,7 +3,8 @@
 ghost use Rattle.std.specs.Prelude.{◌≡◌, ◌<◌, ◌++◌, None, OnOk, IfOk, length};
 ghost use Rattle.pol_rules.specs.StoredRules.{av_rule, stored, stored_rules};
 ghost use Rattle.pol_rules.specs.DeclaredRules.{StandsUnder};
-ghost use Rattle.rule_listing.specs.Inner.KeptTexts.{begun_text};
+ghost use Rattle.pol_rules.specs.declared.rule.RulePart.TheVariants.{Default};
+ghost use Rattle.rule_listing.specs.Inner.KeptTexts.{begun_text, ended_with};
 ghost use Rattle.rule_text.specs.Inner.TypeNames.{AreNamesOf};
 ghost use Rattle.rule_text.specs.RuleTexts.{rule_text, text_of_rule};
 
@@ -11,16 +12,15 @@ use crate::kept_head::KeptHead;
 use crate::kept_texts::KeptTexts;
 use crate::listed_rule::ListedRule;
 use pol_avtab::AvView;
-use pol_read::{Policy, Rule, RuleEnds, vector_ends};
+use pol_read::{Policy, Rule, RuleEnds, RuleKind, RulePart, vector_ends, vector_rule};
 use pol_symbols::Symbols;
-use rule_text::{RuleTexts, TypeNames};
+use rule_text::{RuleTexts, TypeNames, default_table, push_class};
 use std::alloc::{AllocError, Global};
 use std::marker::Model;
 
 /// The texts of whole rules of a policy, where many are written one after the other: what stands before the targets of a source is
-/// made once where its rules come together, and so is most of what stands behind the ends of rules that give the same permissions or the
-/// same default, and of those that stand under the same condition. The name of each type that is a target is looked up once. Contracts
-/// see the policy.
+/// made once where its rules come together, and so is what stands behind the ends of rules that give the same permissions, and of those
+/// that stand under the same condition. The name of each type that is a target or a default is looked up once. Contracts see the policy.
 pub struct ListedTexts<'p, 'a> {
     texts: KeptTexts<'p, 'a>,
     head: KeptHead,
@@ -91,7 +91,32 @@ impl<'p, 'a> ListedTexts<'p, 'a> {
         ensures text { OnOk result (buffer.new.items ≡ buffer.old.items ++ rule_text self.old (av_rule None view.now)) }
     {
         self.push_ends(vector_ends(view.key()), buffer)?;
-        self.texts.push_vector(view, buffer)
+        let rule = vector_rule(view, None);
+        match rule.part {
+            RulePart::Default(value) => self.push_default(rule.kind, rule.class, value, buffer),
+            _ => self.texts.push_ended(&rule, buffer),
+        }
+    }
+
+    // Adds the class of a rule, its default, and the end.
+    #[tactic(auto, unfolding(rule_text::specs::Inner::RuleFrames::given_text, rule_text::specs::RuleTexts::part_text, rule_text::specs::RuleTexts::file_name_text))]
+    #[inline(always)]
+    fn push_default(
+        &mut self,
+        kind: RuleKind,
+        class: u32,
+        value: u32,
+        buffer: &mut Vec<u8>,
+    ) -> Result<(), AllocError>
+        ensures policy { self.new ≡ self.old }
+        ensures text { OnOk result (buffer.new.items ≡ buffer.old.items ++ ended_with self.old.symbols kind class (Default value) None) }
+    {
+        let symbols = self.texts.policy().symbols();
+        push_class(buffer, symbols, kind, class)?;
+        buffer.push(b' ')?;
+        self.names
+            .push(symbols, default_table(kind), value, buffer)?;
+        Ok(buffer.push(b';')?)
     }
 
     // Adds the text of any rule.
@@ -122,7 +147,7 @@ impl<'p, 'a> ListedTexts<'p, 'a> {
         let symbols = self.texts.policy().symbols();
         self.head.push(symbols, ends.kind, ends.source, buffer)?;
         self.names
-            .push_target(symbols, ends.kind, ends.target, buffer)
+            .push(symbols, ends.kind.target_table(), ends.target, buffer)
     }
 }
 

@@ -39,7 +39,7 @@ impl<'p, 'a> RuleFrame<'p, 'a> {
         ensures names { AreNamesOf self.now.symbols.now names.new }
         ensures text { OnOk result (buffer.new.items ≡ buffer.old.items ++ frame_target self.now target) }
     {
-        names.push_target(self.symbols, self.kind, target, buffer)
+        names.push(self.symbols, self.kind.target_table(), target, buffer)
     }
 
     /// What stands behind a target, with the line feed.

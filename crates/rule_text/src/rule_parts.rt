@@ -39,8 +39,8 @@ fn keyword(kind: RuleKind) -> &'static [u8]
     }
 }
 
-// The table that declares the defaults of the rules of a kind.
-fn default_table(kind: RuleKind) -> TableKind
+/// The table that declares the defaults of the rules of a kind.
+pub fn default_table(kind: RuleKind) -> TableKind
     ensures { result ≡ default_table kind }
 {
     match kind {
@@ -77,9 +77,9 @@ pub(crate) fn push_target(
     push_name(buffer, kind.target_table(), target, symbols)
 }
 
-/// Adds the class of a rule of a kind.
+/// Adds the class of a rule of a kind, behind a colon. A role allow has none.
 #[tactic(auto, unfolding(crate::specs::RuleTexts::class_text))]
-pub(crate) fn push_class(
+pub fn push_class(
     buffer: &mut Vec<u8>,
     symbols: &Symbols<'_>,
     kind: RuleKind,

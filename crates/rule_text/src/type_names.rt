@@ -4,12 +4,10 @@ ghost use Rattle.std.specs.Prelude.{◌≡◌, ◌++◌, IfOk, OnOk};
 ghost use Rattle.pol_fields.specs.declared.TableKind.TheVariants.{Types};
 ghost use Rattle.pol_mls.specs.MlsTexts.{name_of};
 ghost use Rattle.pol_symbols.specs.PolicySymbols.{name_in};
-ghost use Rattle.pol_rules.specs.RuleOrder.{target_table};
 ghost use Rattle.rule_text.specs.Inner.TypeNames.{AreNamesOf};
 
-use crate::rule_parts::push_target;
 use pol_fields::TableKind;
-use pol_read::RuleKind;
+use pol_mls::push_name;
 use pol_symbols::Symbols;
 use std::alloc::{AllocError, Global};
 
@@ -43,21 +41,22 @@ impl<'a> TypeNames<'a> {
         }
     }
 
-    /// Adds the name of a target of a rule of a kind. The tables of the policy are handed in.
-    pub fn push_target(
+    /// Adds the name of a value of a table, which is held where it is that of a type. The tables of the policy are handed in.
+    #[inline(always)]
+    pub fn push(
         &mut self,
         symbols: &Symbols<'a>,
-        kind: RuleKind,
-        target: u32,
+        table: TableKind,
+        value: u32,
         buffer: &mut Vec<u8>,
     ) -> Result<(), AllocError>
         requires { AreNamesOf symbols.now self.old }
         ensures names { AreNamesOf symbols.now self.new }
-        ensures text { OnOk result (buffer.new.items ≡ buffer.old.items ++ name_of (name_in symbols.now) (target_table kind) target) }
+        ensures text { OnOk result (buffer.new.items ≡ buffer.old.items ++ name_of (name_in symbols.now) table value) }
     {
-        match kind {
-            RuleKind::RoleAllow => push_target(buffer, symbols, kind, target),
-            _ => buffer.extend_from_slice(self.name(symbols, target)),
+        match table {
+            TableKind::Types => buffer.extend_from_slice(self.name(symbols, value)),
+            _ => push_name(buffer, table, value, symbols),
         }
     }
 

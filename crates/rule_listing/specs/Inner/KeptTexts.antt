@@ -13,7 +13,7 @@ use Rattle.rule_listing.specs.declared.kept_head.HeadKey.{HeadKey}
 use Rattle.rule_listing.specs.declared.kept_head.KeptHead.{KeptHead}
 use Rattle.rule_listing.specs.declared.kept_texts.KeptText.{KeptText}
 use Rattle.rule_listing.specs.declared.kept_texts.TextKey.{TextKey}
-use Rattle.rule_listing.specs.declared.kept_texts.TextKey.TheVariants.{Perms, Default, Under}
+use Rattle.rule_listing.specs.declared.kept_texts.TextKey.TheVariants.{Perms, Under}
 use Rattle.rule_text.specs.Inner.RuleFrames.{head_text, given_text}
 use Rattle.rule_text.specs.RuleTexts.{ends_text, file_name_text, keyword}
 use Rattle.rule_text.specs.ConditionTexts.{condition_text}
@@ -40,7 +40,6 @@ ended_text symbols rule = ended_with symbols rule.kind rule.class rule.part rule
 -- the text of what a key stands for
 abbrev pub text_of : Parts → TextKey → List ℕ
 text_of policy (Perms kind class mask) = ended_with policy.symbols kind class (parts.Perms mask) None
-text_of policy (Default kind class value) = ended_with policy.symbols kind class (parts.Default value) None
 text_of policy (Under condition) = condition_text (name_in policy.symbols) policy.rules.conditionals (Some condition)
 
 -- What a slot keeps, if it does, is the text of its key.
