@@ -30,4 +30,4 @@ pub use node_line::NodeLines;
 pub use node6_line::Node6Lines;
 pub use port_line::PortLines;
 pub use sid_line::SidLines;
-pub use table_lines::{LinedEntry, TableLines};
+pub use table_lines::{LinedEntry, NamedEntry, TableLines};

@@ -1,6 +1,6 @@
 //! The texts that rules have in common, as far as they were written last.
 
-ghost use Rattle.std.specs.Prelude.{◌≡◌, ◌<◌, ◌++◌, [], None, OnOk, IfOk, IfSome};
+ghost use Rattle.std.specs.Prelude.{◌≡◌, ◌<◌, ◌++◌, [], OnOk, IfOk, IfSome};
 ghost use Rattle.pol_symbols.specs.PolicySymbols.{name_in};
 ghost use Rattle.pol_rules.specs.DeclaredRules.{StandsUnder};
 ghost use Rattle.pol_rules.specs.StoredRules.{stored};
@@ -124,13 +124,13 @@ impl<'p, 'a> KeptTexts<'p, 'a> {
     {
         match self.ended(rule) {
             Some(text) => buffer.extend_from_slice(text),
-            None => self.push_kept(rule, buffer),
+            None => self.push_new(rule, buffer),
         }
     }
 
-    // The same, which is made, and kept where rules have it in common.
+    // Adds that text where it is not kept yet, and keeps it where rules have it in common.
     #[inline(never)]
-    fn push_kept(&mut self, rule: &Rule<'a>, buffer: &mut Vec<u8>) -> Result<(), AllocError>
+    fn push_new(&mut self, rule: &Rule<'a>, buffer: &mut Vec<u8>) -> Result<(), AllocError>
         ensures policy { self.new ≡ self.old }
         ensures text { OnOk result (buffer.new.items ≡ buffer.old.items ++ ended_text self.old.symbols (stored rule.now)) }
     {
