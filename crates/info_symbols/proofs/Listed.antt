@@ -1,5 +1,5 @@
 -- The lines of records by their numbers.
-use Rattle.std.proofs.Common.{◌≡◌, ℕ, ◌<◌, Bool, List, [], ◌∷◌, Option, Some, None, map, length, slice_get, refl, sym, ap}
+use Rattle.std.proofs.Common.{◌≡◌, ℕ, ◌<◌, Bool, List, [], ◌∷◌, Option, Some, None, map, length, slice_get, refl, sym, ap, ◌∙◌, arith}
 use Rattle.std.specs.Prelude.{true, false, nat_eq, IsTrue, ◌↔◌, option_map}
 use Rattle.std.specs.List.{All, Contains, filter, list_any}
 use Rattle.std.specs.Cmp.{nat_eq_equiv}
@@ -10,26 +10,55 @@ use Rattle.std.proofs.lemmas.List.Elements.{All-filter, All-head, All-tail}
 use Rattle.std.proofs.lemmas.Option.{get_or_from_slice_get}
 use Rattle.pol_fields.specs.declared.TableKind.{TableKind}
 use Rattle.pol_fields.specs.declared.TableKind.TheVariants.{Commons, Classes, Roles, Types, Users, Booleans, Levels, Categories}
+use Rattle.pol_symtab.specs.Inner.Namings.{its_name}
 use Rattle.pol_symtab.proofs.Searches.{place_of, not_true}
 use Rattle.pol_symbols.specs.declared.symbols.Symbols.{Symbols}
-use Rattle.pol_symbols.specs.PolicySymbols.{count_in}
+use Rattle.pol_symbols.specs.PolicySymbols.{count_in, record_names}
+use Rattle.pol_symbols.specs.Inner.TableNames.{names_in}
+use Rattle.pol_symbols.proofs.TableNames.{count_by_names, record_names_by}
 use Rattle.pol_file.specs.declared.parts.Parts.{Parts}
 use Rattle.info_symbols.specs.declared.type_sets.TypeSet.{TypeSet}
 use Rattle.info_symbols.specs.TypeListings.{type_line, type_lines, set_listing, set_numbers_listed}
 use Rattle.info_lines.specs.NameOrder.{numbers_listed}
-use Rattle.info_symbols.specs.SymbolLines.{symbol_lines}
+use Rattle.info_symbols.specs.SymbolLines.{symbol_lines, symbol_statements}
 use Rattle.info_lines.specs.Inner.Listings.{HasLine, line_of}
 use Rattle.info_symbols.specs.SymbolListings.{lines_at, symbol_listing}
 
-pub as_many : (symbols : Symbols) (table : TableKind) (expand : Bool) → length (symbol_lines symbols table expand) ≡ count_in symbols table
-as_many symbols Commons expand = length-map symbols.commons.records _
-as_many symbols Classes expand = length-map symbols.classes.records _
-as_many symbols Roles expand = length-map symbols.roles.records _
-as_many symbols Types expand = length-map symbols.types.records _
-as_many symbols Users expand = length-map symbols.users.records _
-as_many symbols Booleans expand = length-map symbols.booleans.records _
-as_many symbols Levels expand = length-map symbols.levels.records _
-as_many symbols Categories expand = length-map symbols.categories.records _
+-- ---- as many lines as records
+
+statements : (symbols : Symbols) (table : TableKind) → length (symbol_statements symbols table) ≡ count_in symbols table
+statements symbols Commons = length-map symbols.commons.records _
+statements symbols Classes = length-map symbols.classes.records _
+statements symbols Roles = length-map symbols.roles.records _
+statements symbols Types = length-map symbols.types.records _
+statements symbols Users = length-map symbols.users.records _
+statements symbols Booleans = length-map symbols.booleans.records _
+statements symbols Levels = length-map symbols.levels.records _
+statements symbols Categories = length-map symbols.categories.records _
+
+names : (symbols : Symbols) (table : TableKind) → length (record_names symbols table) ≡ count_in symbols table
+names symbols table = ap length (sym (record_names_by symbols table)) ∙ length-map (names_in symbols table).records (λ symbol. its_name symbol.value) ∙ count_by_names symbols table
+
+as_many : (symbols : Symbols) (table : TableKind) (expand : Bool) → length (symbol_lines symbols table expand) ≡ count_in symbols table
+as_many symbols table true = statements symbols table
+as_many symbols table false = names symbols table
+
+-- ---- the line of a record
+
+module _ (symbols : Symbols) (table : TableKind) (number : ℕ) where
+  pub has_record : (expand : Bool) → HasLine (symbol_lines symbols table expand) number → number < count_in symbols table
+  has_record expand has = omega (arith, has, as_many symbols table expand)
+
+  pub has_statement : (expand : Bool) → expand ≡ true → HasLine (symbol_lines symbols table expand) number → HasLine (symbol_statements symbols table) number
+  has_statement expand is has = omega (arith, has, as_many symbols table expand, statements symbols table)
+
+  pub statement_at : (expand : Bool) → expand ≡ true → line_of (symbol_lines symbols table expand) number ≡ line_of (symbol_statements symbols table) number
+  statement_at expand is = rw is refl
+
+  pub name_at : (expand : Bool) (name : List ℕ) → expand ≡ false → slice_get (record_names symbols table) number ≡ Some name → line_of (symbol_lines symbols table expand) number ≡ name
+  name_at expand name is at = rw is (get_or_from_slice_get (record_names symbols table) number name [] at)
+
+-- ---- the lines that are listed
 
 pub have_lines : (symbols : Symbols) (table : TableKind) (expand : Bool) (numbers : List ℕ) → All (λ n. n < count_in symbols table) numbers → All (HasLine (symbol_lines symbols table expand)) numbers
 have_lines symbols table expand numbers within = rw (as_many symbols table expand) within

@@ -1,5 +1,5 @@
--- The lines of classes and commons.
-use Rattle.std.specs.Prelude.{ℕ, ◌++◌, ◌==◌, [], Bool, true, false, List, length, codes, if◌then◌else◌}
+-- The statements of classes and commons.
+use Rattle.std.specs.Prelude.{ℕ, ◌++◌, ◌==◌, [], List, length, codes, if◌then◌else◌}
 use Rattle.pol_commons.specs.declared.permission_rec.PermissionRec.{PermissionRec}
 use Rattle.pol_commons.specs.declared.common_rec.CommonRec.{CommonRec}
 use Rattle.pol_classes.specs.declared.class_rec.ClassRec.{ClassRec}
@@ -13,12 +13,10 @@ inherits_text common = if length common == 0 then [] else codes " inherits " ++ 
 abbrev pub own_text : List PermissionRec → List ℕ
 own_text permissions = if length permissions == 0 then [] else codes " " ++ permission_set permissions
 
--- expanded: class NAME inherits COMMON { PERMISSIONS }
-unfoldable pub class_line : Bool → ClassRec → List ℕ
-class_line false class = class.name
-class_line true class = codes "class " ++ class.name ++ inherits_text class.common ++ own_text class.permissions
+-- class NAME inherits COMMON { PERMISSIONS }
+unfoldable pub class_statement : ClassRec → List ℕ
+class_statement class = codes "class " ++ class.name ++ inherits_text class.common ++ own_text class.permissions
 
--- expanded: common NAME { PERMISSIONS }
-unfoldable pub common_line : Bool → CommonRec → List ℕ
-common_line false common = common.name
-common_line true common = codes "common " ++ common.name ++ codes " " ++ permission_set common.permissions
+-- common NAME { PERMISSIONS }
+unfoldable pub common_statement : CommonRec → List ℕ
+common_statement common = codes "common " ++ common.name ++ codes " " ++ permission_set common.permissions

@@ -1,5 +1,5 @@
--- The lines of sensitivities and categories.
-use Rattle.std.specs.Prelude.{ℕ, ◌++◌, Bool, true, false, List, codes}
+-- The statements of sensitivities and categories.
+use Rattle.std.specs.Prelude.{ℕ, ◌++◌, List, codes}
 use Rattle.pol_fields.specs.declared.TableKind.TheVariants.{Levels, Categories}
 use Rattle.pol_mls.specs.declared.level_rec.LevelRec.{LevelRec}
 use Rattle.pol_mls.specs.MlsTexts.{level_text}
@@ -17,13 +17,11 @@ whole_level level = record { sens = level.sens; categories = level.categories }
 unfoldable pub level_part : Symbols → SensitivityRec → List ℕ
 level_part symbols level = codes "; level " ++ level_text (name_in symbols) (whole_level level) ++ codes ";"
 
--- expanded: sensitivity NAME alias ALIASES; level LEVEL;
-unfoldable pub sensitivity_line : Symbols → Bool → SensitivityRec → List ℕ
-sensitivity_line symbols false level = level.name
-sensitivity_line symbols true level =
+-- sensitivity NAME alias ALIASES; level LEVEL;
+unfoldable pub sensitivity_statement : Symbols → SensitivityRec → List ℕ
+sensitivity_statement symbols level =
     codes "sensitivity " ++ level.name ++ alias_text (alias_names symbols Levels level.sens) ++ level_part symbols level
 
--- expanded: category NAME alias ALIASES;
-unfoldable pub category_line : Symbols → Bool → CategoryRec → List ℕ
-category_line symbols false category = category.name
-category_line symbols true category = codes "category " ++ category.name ++ alias_text (alias_names symbols Categories category.value) ++ codes ";"
+-- category NAME alias ALIASES;
+unfoldable pub category_statement : Symbols → CategoryRec → List ℕ
+category_statement symbols category = codes "category " ++ category.name ++ alias_text (alias_names symbols Categories category.value) ++ codes ";"

@@ -1,5 +1,5 @@
--- The lines of roles, as seinfo of SETools prints them.
-use Rattle.std.specs.Prelude.{ℕ, ◌++◌, ◌==◌, [], Bool, true, false, List, length, codes, if◌then◌else◌}
+-- The statements of roles, as seinfo of SETools prints them.
+use Rattle.std.specs.Prelude.{ℕ, ◌++◌, ◌==◌, [], List, length, codes, if◌then◌else◌}
 use Rattle.pol_fields.specs.declared.TableKind.TheVariants.{Types}
 use Rattle.pol_bitmap.specs.Nodes.{bits_of}
 use Rattle.pol_datums.specs.declared.RoleRec.{RoleRec}
@@ -11,7 +11,6 @@ use Rattle.info_lines.specs.NameSets.{names_of_bits}
 abbrev pub types_text : List (List ℕ) → List ℕ
 types_text types = if length types == 0 then [] else codes " types " ++ set_text types
 
--- expanded: role NAME types SET;
-unfoldable pub role_line : Symbols → Bool → RoleRec → List ℕ
-role_line symbols false role = role.name
-role_line symbols true role = codes "role " ++ role.name ++ types_text (names_of_bits symbols Types (bits_of role.types)) ++ codes ";"
+-- role NAME types SET;
+unfoldable pub role_statement : Symbols → RoleRec → List ℕ
+role_statement symbols role = codes "role " ++ role.name ++ types_text (names_of_bits symbols Types (bits_of role.types)) ++ codes ";"

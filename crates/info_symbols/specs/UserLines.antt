@@ -1,5 +1,5 @@
--- The lines of users, as seinfo of SETools prints them.
-use Rattle.std.specs.Prelude.{ℕ, ◌++◌, Bool, true, false, List, codes}
+-- The statements of users, as seinfo of SETools prints them.
+use Rattle.std.specs.Prelude.{ℕ, ◌++◌, List, codes}
 use Rattle.pol_fields.specs.declared.TableKind.TheVariants.{Roles}
 use Rattle.pol_bitmap.specs.Nodes.{bits_of}
 use Rattle.pol_mls.specs.MlsTexts.{level_text, range_text}
@@ -17,7 +17,6 @@ roles_text symbols user = codes " roles " ++ set_text (names_of_bits symbols Rol
 abbrev pub levels_text : Symbols → UserRec → List ℕ
 levels_text symbols user = codes " level " ++ level_text (name_in symbols) user.level ++ codes " range " ++ range_text (name_in symbols) user.range
 
--- expanded: user NAME roles SET level LEVEL range RANGE;
-unfoldable pub user_line : Symbols → Bool → UserRec → List ℕ
-user_line symbols false user = user.name
-user_line symbols true user = codes "user " ++ user.name ++ roles_text symbols user ++ levels_text symbols user ++ codes ";"
+-- user NAME roles SET level LEVEL range RANGE;
+unfoldable pub user_statement : Symbols → UserRec → List ℕ
+user_statement symbols user = codes "user " ++ user.name ++ roles_text symbols user ++ levels_text symbols user ++ codes ";"

@@ -1,25 +1,18 @@
-//! The lines of classes and commons.
+//! The statements of classes and commons.
 
 ghost use Rattle.std.specs.Prelude.{◌≡◌, ◌++◌, OnOk};
-ghost use Rattle.info_symbols.specs.ClassLines.{class_line, common_line, inherits_text, own_text};
+ghost use Rattle.info_symbols.specs.ClassLines.{class_statement, common_statement, inherits_text, own_text};
 
 use crate::permission_sets::push_permissions;
 use pol_classes::ClassView;
 use pol_commons::{CommonView, PermissionList};
 use std::alloc::AllocError;
 
-/// Adds the line of a class.
-#[tactic(auto, unfolding(crate::specs::ClassLines::class_line))]
-pub(crate) fn push_class(
-    buffer: &mut Vec<u8>,
-    class: &ClassView<'_>,
-    expand: bool,
-) -> Result<(), AllocError>
-    ensures { OnOk result (buffer.new.items ≡ buffer.old.items ++ class_line expand class.now.value) }
+/// Adds the statement of a class.
+#[tactic(auto, unfolding(crate::specs::ClassLines::class_statement))]
+pub(crate) fn push_class(buffer: &mut Vec<u8>, class: &ClassView<'_>) -> Result<(), AllocError>
+    ensures { OnOk result (buffer.new.items ≡ buffer.old.items ++ class_statement class.now.value) }
 {
-    if !expand {
-        return buffer.extend_from_slice(class.name());
-    }
     buffer.extend_from_slice(b"class ")?;
     buffer.extend_from_slice(class.name())?;
     push_inherits(buffer, class.common())?;
@@ -48,18 +41,11 @@ fn push_own(buffer: &mut Vec<u8>, permissions: PermissionList<'_>) -> Result<(),
     push_permissions(buffer, permissions)
 }
 
-/// Adds the line of a common.
-#[tactic(auto, unfolding(crate::specs::ClassLines::common_line))]
-pub(crate) fn push_common(
-    buffer: &mut Vec<u8>,
-    common: &CommonView<'_>,
-    expand: bool,
-) -> Result<(), AllocError>
-    ensures { OnOk result (buffer.new.items ≡ buffer.old.items ++ common_line expand common.now.value) }
+/// Adds the statement of a common.
+#[tactic(auto, unfolding(crate::specs::ClassLines::common_statement))]
+pub(crate) fn push_common(buffer: &mut Vec<u8>, common: &CommonView<'_>) -> Result<(), AllocError>
+    ensures { OnOk result (buffer.new.items ≡ buffer.old.items ++ common_statement common.now.value) }
 {
-    if !expand {
-        return buffer.extend_from_slice(common.name());
-    }
     buffer.extend_from_slice(b"common ")?;
     buffer.extend_from_slice(common.name())?;
     buffer.extend_from_slice(b" ")?;

@@ -1,9 +1,9 @@
-//! The lines of sensitivities and categories.
+//! The statements of sensitivities and categories.
 
-ghost use Rattle.std.specs.Prelude.{◌≡◌, ◌++◌, OnOk};
+ghost use Rattle.std.specs.Prelude.{◌≡◌, ◌++◌, true, OnOk};
 ghost use Rattle.pol_fields.specs.declared.TableKind.TheVariants.{Levels, Categories};
 ghost use Rattle.info_symbols.specs.Inner.AliasLists.{AreAliases};
-ghost use Rattle.info_symbols.specs.MlsLines.{category_line, level_part, sensitivity_line};
+ghost use Rattle.info_symbols.specs.MlsLines.{category_statement, level_part, sensitivity_statement};
 
 use crate::aliases::{Aliases, push_aliases};
 use pol_datums::{CategoryView, SensitivityView};
@@ -11,21 +11,17 @@ use pol_mls::level_text;
 use pol_symbols::Symbols;
 use std::alloc::AllocError;
 
-/// Adds the line of a sensitivity. The aliases are those of its table where it is expanded.
-#[tactic(auto, unfolding(crate::specs::MlsLines::sensitivity_line))]
+/// Adds the statement of a sensitivity, with the aliases of its table.
+#[tactic(auto, unfolding(crate::specs::MlsLines::sensitivity_statement))]
 pub(crate) fn push_sensitivity(
     buffer: &mut Vec<u8>,
     symbols: &Symbols<'_>,
     aliases: &Aliases<'_>,
     level: &SensitivityView<'_>,
-    expand: bool,
 ) -> Result<(), AllocError>
-    requires { AreAliases expand symbols.now Levels aliases.now }
-    ensures { OnOk result (buffer.new.items ≡ buffer.old.items ++ sensitivity_line symbols.now expand level.now.value) }
+    requires { AreAliases true symbols.now Levels aliases.now }
+    ensures { OnOk result (buffer.new.items ≡ buffer.old.items ++ sensitivity_statement symbols.now level.now.value) }
 {
-    if !expand {
-        return buffer.extend_from_slice(level.name());
-    }
     buffer.extend_from_slice(b"sensitivity ")?;
     buffer.extend_from_slice(level.name())?;
     push_aliases(buffer, aliases, level.sens())?;
@@ -48,21 +44,17 @@ fn push_level_part(
     buffer.extend_from_slice(b";")
 }
 
-/// Adds the line of a category. The aliases are those of its table where it is expanded.
-#[tactic(auto, unfolding(crate::specs::MlsLines::category_line))]
+/// Adds the statement of a category, with the aliases of its table.
+#[tactic(auto, unfolding(crate::specs::MlsLines::category_statement))]
 pub(crate) fn push_category(
     buffer: &mut Vec<u8>,
     symbols: &Symbols<'_>,
     aliases: &Aliases<'_>,
     category: &CategoryView<'_>,
-    expand: bool,
 ) -> Result<(), AllocError>
-    requires { AreAliases expand symbols.now Categories aliases.now }
-    ensures { OnOk result (buffer.new.items ≡ buffer.old.items ++ category_line symbols.now expand category.now.value) }
+    requires { AreAliases true symbols.now Categories aliases.now }
+    ensures { OnOk result (buffer.new.items ≡ buffer.old.items ++ category_statement symbols.now category.now.value) }
 {
-    if !expand {
-        return buffer.extend_from_slice(category.name());
-    }
     buffer.extend_from_slice(b"category ")?;
     buffer.extend_from_slice(category.name())?;
     push_aliases(buffer, aliases, category.value())?;

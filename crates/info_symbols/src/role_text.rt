@@ -1,7 +1,7 @@
-//! The lines of roles.
+//! The statements of roles.
 
 ghost use Rattle.std.specs.Prelude.{◌≡◌, ◌++◌, OnOk, map};
-ghost use Rattle.info_symbols.specs.RoleLines.{role_line, types_text};
+ghost use Rattle.info_symbols.specs.RoleLines.{role_statement, types_text};
 
 use info_lines::{names_of_bits, push_set};
 use pol_datums::RoleView;
@@ -9,19 +9,15 @@ use pol_fields::TableKind;
 use pol_symbols::Symbols;
 use std::alloc::AllocError;
 
-/// Adds the line of a role.
-#[tactic(auto, unfolding(crate::specs::RoleLines::role_line))]
+/// Adds the statement of a role.
+#[tactic(auto, unfolding(crate::specs::RoleLines::role_statement))]
 pub(crate) fn push_role(
     buffer: &mut Vec<u8>,
     symbols: &Symbols<'_>,
     role: &RoleView<'_>,
-    expand: bool,
 ) -> Result<(), AllocError>
-    ensures { OnOk result (buffer.new.items ≡ buffer.old.items ++ role_line symbols.now expand role.now.value) }
+    ensures { OnOk result (buffer.new.items ≡ buffer.old.items ++ role_statement symbols.now role.now.value) }
 {
-    if !expand {
-        return buffer.extend_from_slice(role.name());
-    }
     let types = names_of_bits(
         *buffer.allocator(),
         symbols,

@@ -1,8 +1,9 @@
 //! The listings of symbol tables.
 
-ghost use Rattle.std.specs.Prelude.{◌≡◌, ◌++◌, IfOk, OnOk, option_map};
+ghost use Rattle.std.specs.Prelude.{◌≡◌, ◌++◌, true, IfOk, OnOk, option_map};
 ghost use Rattle.info_lines.specs.Inner.Listings.{HasLine, line_of};
-ghost use Rattle.info_symbols.specs.SymbolLines.{boolean_line, state_word, symbol_lines};
+ghost use Rattle.info_symbols.specs.Inner.AliasLists.{AreAliases};
+ghost use Rattle.info_symbols.specs.SymbolLines.{boolean_statement, state_word, symbol_lines, symbol_statements};
 ghost use Rattle.info_symbols.specs.SymbolListings.{symbol_listing};
 
 use crate::aliases::Aliases;
@@ -64,52 +65,50 @@ impl<'p, 'a> LineText for SymbolLines<'p, 'a> {
 
     ghost text = { line_of };
 
-    #[tactic(auto, using(info_lines::proofs::ListingLines::line_at))]
+    #[tactic(auto, using(crate::proofs::Listed::has_record, crate::proofs::Listed::has_statement, crate::proofs::Listed::name_at, crate::proofs::Listed::statement_at))]
     fn push_text(&self, number: u32, buffer: &mut Vec<u8>) -> Result<(), AllocError> {
-        let symbols = self.symbols;
-        match self.table {
-            TableKind::Commons => push_common(buffer, &symbols.commons.view(number), self.expand),
-            TableKind::Classes => push_class(buffer, &symbols.classes.view(number), self.expand),
-            TableKind::Roles => {
-                push_role(buffer, symbols, &symbols.roles.view(number), self.expand)
-            }
-            TableKind::Types => buffer.extend_from_slice(symbols.types.view(number).name()),
-            TableKind::Users => {
-                push_user(buffer, symbols, &symbols.users.view(number), self.expand)
-            }
-            TableKind::Booleans => {
-                push_boolean(buffer, &symbols.booleans.view(number), self.expand)
-            }
-            TableKind::Levels => push_sensitivity(
-                buffer,
-                symbols,
-                &self.aliases,
-                &symbols.levels.view(number),
-                self.expand,
-            ),
-            TableKind::Categories => push_category(
-                buffer,
-                symbols,
-                &self.aliases,
-                &symbols.categories.view(number),
-                self.expand,
-            ),
+        if self.expand {
+            push_statement(buffer, self.symbols, self.table, number, &self.aliases)
+        } else {
+            buffer.extend_from_slice(self.symbols.record_name(self.table, number))
         }
     }
 }
 
-// Adds the line of a boolean.
-#[tactic(auto, unfolding(crate::specs::SymbolLines::boolean_line))]
-fn push_boolean(
+// Adds the statement of the record of that number, with the aliases of its table.
+#[tactic(auto, using(info_lines::proofs::ListingLines::line_at))]
+fn push_statement(
     buffer: &mut Vec<u8>,
-    boolean: &BooleanView<'_>,
-    expand: bool,
+    symbols: &Symbols<'_>,
+    table: TableKind,
+    number: u32,
+    aliases: &Aliases<'_>,
 ) -> Result<(), AllocError>
-    ensures { OnOk result (buffer.new.items ≡ buffer.old.items ++ boolean_line expand boolean.now.value) }
+    requires there { HasLine (symbol_statements symbols.now table) number }
+    requires aliases { AreAliases true symbols.now table aliases.now }
+    ensures { OnOk result (buffer.new.items ≡ buffer.old.items ++ line_of (symbol_statements symbols.now table) number) }
 {
-    if !expand {
-        return buffer.extend_from_slice(boolean.name());
+    match table {
+        TableKind::Commons => push_common(buffer, &symbols.commons.view(number)),
+        TableKind::Classes => push_class(buffer, &symbols.classes.view(number)),
+        TableKind::Roles => push_role(buffer, symbols, &symbols.roles.view(number)),
+        TableKind::Types => buffer.extend_from_slice(symbols.types.view(number).name()),
+        TableKind::Users => push_user(buffer, symbols, &symbols.users.view(number)),
+        TableKind::Booleans => push_boolean(buffer, &symbols.booleans.view(number)),
+        TableKind::Levels => {
+            push_sensitivity(buffer, symbols, aliases, &symbols.levels.view(number))
+        }
+        TableKind::Categories => {
+            push_category(buffer, symbols, aliases, &symbols.categories.view(number))
+        }
     }
+}
+
+// Adds the statement of a boolean.
+#[tactic(auto, unfolding(crate::specs::SymbolLines::boolean_statement))]
+fn push_boolean(buffer: &mut Vec<u8>, boolean: &BooleanView<'_>) -> Result<(), AllocError>
+    ensures { OnOk result (buffer.new.items ≡ buffer.old.items ++ boolean_statement boolean.now.value) }
+{
     buffer.extend_from_slice(b"bool ")?;
     buffer.extend_from_slice(boolean.name())?;
     buffer.extend_from_slice(b" ")?;

@@ -1,7 +1,7 @@
-//! The lines of users.
+//! The statements of users.
 
 ghost use Rattle.std.specs.Prelude.{◌≡◌, ◌++◌, OnOk};
-ghost use Rattle.info_symbols.specs.UserLines.{user_line, roles_text, levels_text};
+ghost use Rattle.info_symbols.specs.UserLines.{user_statement, roles_text, levels_text};
 
 use info_lines::{names_of_bits, push_set};
 use pol_fields::TableKind;
@@ -9,19 +9,15 @@ use pol_mls::{level_text, range_text};
 use pol_symbols::{Symbols, UserView};
 use std::alloc::AllocError;
 
-/// Adds the line of a user.
-#[tactic(auto, unfolding(crate::specs::UserLines::user_line))]
+/// Adds the statement of a user.
+#[tactic(auto, unfolding(crate::specs::UserLines::user_statement))]
 pub(crate) fn push_user(
     buffer: &mut Vec<u8>,
     symbols: &Symbols<'_>,
     user: &UserView<'_>,
-    expand: bool,
 ) -> Result<(), AllocError>
-    ensures { OnOk result (buffer.new.items ≡ buffer.old.items ++ user_line symbols.now expand user.now.value) }
+    ensures { OnOk result (buffer.new.items ≡ buffer.old.items ++ user_statement symbols.now user.now.value) }
 {
-    if !expand {
-        return buffer.extend_from_slice(user.name());
-    }
     buffer.extend_from_slice(b"user ")?;
     buffer.extend_from_slice(user.name())?;
     push_roles(buffer, symbols, user)?;

@@ -20,9 +20,8 @@ use Rattle.se_outside.specs.Patterns.{IsBuiltFrom}
 use Rattle.pol_fields.specs.declared.TableKind.{TableKind}
 use Rattle.pol_bitmap.specs.declared.Node.{Node}
 use Rattle.pol_bitmap.specs.Nodes.{has_bit}
-use Rattle.pol_symbols.specs.PolicySymbols.{name_in}
+use Rattle.pol_symbols.specs.PolicySymbols.{name_in, record_values}
 use Rattle.pol_symbols.specs.declared.Symbols.{Symbols}
-use Rattle.named_values.specs.Inner.RecordValues.{record_values}
 use Rattle.named_values.proofs.Records.{kept_by_name}
 use Rattle.named_values.specs.Found.{has_pattern, has_read, is_found_in, of_name}
 

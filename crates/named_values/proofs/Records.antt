@@ -5,22 +5,17 @@ use Rattle.std.specs.List.{find, filter, list_any}
 use Rattle.std.proofs.lemmas.Bool.{eqb-true, eq-eqb}
 use Rattle.std.proofs.lemmas.List.{take_all}
 use Rattle.std.proofs.lemmas.List.Elements.{filter-append}
-use Rattle.std.proofs.lemmas.Option.{slice_get-map}
 use Rattle.pol_cursor.specs.References.{Placed}
 use Rattle.pol_fields.specs.declared.TableKind.{TableKind}
 use Rattle.pol_fields.specs.declared.TableKind.TheVariants.{Commons, Classes, Roles, Types, Users, Booleans, Levels, Categories}
 use Rattle.pol_symtab.specs.SymbolTables.{declares, primary_name}
 use Rattle.pol_datums.specs.TypeRecord.{is_primary_type}
 use Rattle.pol_datums.specs.Flags.{is_primary_flag}
-use Rattle.pol_symbols.specs.PolicySymbols.{name_in, count_in}
+use Rattle.pol_symbols.specs.PolicySymbols.{name_in, count_in, record_values}
 use Rattle.pol_symbols.specs.declared.Symbols.{Symbols}
 use Rattle.regex.specs.Patterns.{Re}
 use Rattle.named_values.specs.Found.{has_pattern, of_name}
-use Rattle.named_values.specs.Inner.RecordValues.{record_values}
 use Rattle.named_values.proofs.Tests.{same_tests, or_left, or_right, or_cases}
-
-pub get_map : {X Y : Type 0} (f : X → Y) (xs : List X) (i : ℕ) (x : X) → slice_get xs i ≡ Some x → slice_get (map f xs) i ≡ Some (f x)
-get_map f xs i x e = slice_get-map f xs i ∙ ap (option_map f) e
 
 -- ---- a value that has a name
 

@@ -3,13 +3,11 @@ ghost use Rattle.std.specs.Prelude.{◌≡◌, ℕ, List, [], ◌∷◌, ◌++�
 ghost use Rattle.std.specs.Char.{is_ascii};
 ghost use Rattle.std.specs.List.{filter, list_all};
 ghost use Rattle.pol_bitmap.specs.Nodes.{has_bit};
-ghost use Rattle.pol_symbols.specs.PolicySymbols.{name_in};
+ghost use Rattle.pol_symbols.specs.PolicySymbols.{name_in, record_values};
 ghost use Rattle.regex.specs.Strings.{regex_pattern, matcher_pattern};
 ghost use Rattle.se_outside.specs.Patterns.{IsBuiltFrom};
 ghost use Rattle.named_values.specs.Found.{has_pattern, of_name, is_found};
-ghost use Rattle.named_values.specs.Inner.RecordValues.{record_values};
 
-use crate::record_values::value_at;
 use crate::value_sets::set_of;
 use pol_bitmap::Set;
 use pol_fields::TableKind;
@@ -43,7 +41,7 @@ fn found_values(
     let mut matcher = pattern.matcher(alloc)?;
     let mut values = Vec::new(alloc);
     for number in 0..symbols.len(table) {
-        let value = value_at(symbols, table, number);
+        let value = symbols.record_value(table, number);
         let found = is_found(&mut matcher, symbols.name_of(table, value));
         push_if(&mut values, value, found)?;
     }

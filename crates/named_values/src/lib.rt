@@ -3,7 +3,6 @@
 
 mod found;
 mod looked_up;
-mod record_values;
 mod value_sets;
 
 pub use found::values_found;

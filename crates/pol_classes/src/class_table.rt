@@ -1,13 +1,16 @@
-ghost use Rattle.std.specs.Prelude.{◌≡◌, ◌<◌, Some, IfOk, is_some, option_map, slice_get, length, true};
+ghost use Rattle.std.specs.Prelude.{◌≡◌, ◌<◌, Some, IfOk, slice_get, length, true};
 ghost use Rattle.pol_cursor.specs.Outcome.{Yields};
-ghost use Rattle.pol_symtab.specs.SymbolTables.{value_named, primary_index, primary_name, rank_of};
+ghost use Rattle.pol_symtab.specs.SymbolTables.{primary_index};
+ghost use Rattle.pol_symtab.specs.Inner.Namings.{namings_of};
 ghost use Rattle.pol_classes.specs.ClassTables.{class_table_at};
 
 use crate::class_kind::{Class, ClassContext};
 use crate::class_view::ClassView;
 use pol_commons::CommonList;
 use pol_cursor::{Cursor, ReadError};
-use pol_symtab::{SymbolTable, TableContext, Taken, read_symbol_table, read_table_head};
+use pol_symtab::{
+    SymbolTable, TableContext, TableNames, Taken, read_symbol_table, read_table_head,
+};
 use std::alloc::Global;
 use std::marker::Model;
 
@@ -39,13 +42,13 @@ impl<'a> Model for ClassTable<'a> {
 }
 
 impl<'a> ClassTable<'a> {
-    /// The greatest value that the table may declare.
-    pub fn prims(&self) -> u32
-        ensures { result ≡ self.now.nprim }
+    /// What its classes name.
+    pub fn names(&self) -> &TableNames<'a>
+        ensures { result.now ≡ namings_of (λ class. class.name) (λ class. true) (λ class. class.value) self.now }
     {
         match &self.table {
-            ByTypeSets::Without(table) => table.prims(),
-            ByTypeSets::With(table) => table.prims(),
+            ByTypeSets::Without(table) => table.names(),
+            ByTypeSets::With(table) => table.names(),
         }
     }
 
@@ -70,16 +73,6 @@ impl<'a> ClassTable<'a> {
         }
     }
 
-    /// The value of the class of that name. `None` exactly where no class has it.
-    pub fn by_name(&self, name: &[u8]) -> Option<u32>
-        ensures { result ≡ value_named (λ class. class.name) (λ class. class.value) self.now.records name.now }
-    {
-        match &self.table {
-            ByTypeSets::Without(table) => table.by_name(name),
-            ByTypeSets::With(table) => table.by_name(name),
-        }
-    }
-
     /// The place in the list of the class of that value. `None` exactly where no class has it.
     pub fn by_value(&self, value: u32) -> Option<u32>
         ensures { result ≡ primary_index (λ class. true) (λ class. class.value) self.now.records value }
@@ -87,37 +80,6 @@ impl<'a> ClassTable<'a> {
         match &self.table {
             ByTypeSets::Without(table) => table.by_value(value),
             ByTypeSets::With(table) => table.by_value(value),
-        }
-    }
-
-    /// The name of the class of that value. `None` exactly where no class has it.
-    pub fn name_of(&self, value: u32) -> Option<&'a [u8]>
-        ensures { option_map (λ name. name.now) result ≡ primary_name (λ class. class.name) (λ class. true) (λ class. class.value) self.now.records value }
-    {
-        match &self.table {
-            ByTypeSets::Without(table) => table.name_of(value),
-            ByTypeSets::With(table) => table.name_of(value),
-        }
-    }
-
-    /// Whether a class has that value.
-    pub fn declares(&self, value: u32) -> bool
-        ensures { result ≡ is_some (primary_name (λ class. class.name) (λ class. true) (λ class. class.value) self.now.records value) }
-    {
-        match &self.table {
-            ByTypeSets::Without(table) => table.declares(value),
-            ByTypeSets::With(table) => table.declares(value),
-        }
-    }
-
-    /// How many names of classes are below the name of that value, in the order of their bytes. `None` exactly where no
-    /// class has the value.
-    pub fn rank(&self, value: u32) -> Option<u32>
-        ensures { result ≡ rank_of (λ class. class.name) (λ class. true) (λ class. class.value) self.now.records value }
-    {
-        match &self.table {
-            ByTypeSets::Without(table) => table.rank(value),
-            ByTypeSets::With(table) => table.rank(value),
         }
     }
 }

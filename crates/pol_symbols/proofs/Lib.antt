@@ -1,3 +1,4 @@
 pub mod UserLaws
 pub mod TableSequences
 pub mod SymbolSearch
+pub mod TableNames

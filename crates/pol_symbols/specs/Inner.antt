@@ -1,1 +1,2 @@
 pub mod UserFreshness
+pub mod TableNames

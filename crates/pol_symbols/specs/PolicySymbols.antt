@@ -1,5 +1,5 @@
 -- The eight symbol tables of a policy in the order of the file (libsepol's policydb_read), and searches through their records.
-use Rattle.std.specs.Prelude.{ℕ, Bool, true, Option, Some, None, List, [], ◌++◌, length, option_map}
+use Rattle.std.specs.Prelude.{ℕ, Bool, true, Option, Some, None, List, [], ◌++◌, length, map, option_map}
 use Rattle.std.specs.List.{find}
 use Rattle.pol_fields.specs.declared.TableKind.{TableKind}
 use Rattle.pol_fields.specs.declared.TableKind.TheVariants.{Commons, Classes, Roles, Types, Users, Booleans, Levels, Categories}
@@ -7,6 +7,7 @@ use Rattle.pol_cursor.specs.Outcome.{Reader, ◌>>=◌, done}
 use Rattle.pol_cursor.specs.References.{Placed}
 use Rattle.pol_symtab.specs.Claims.{Claims, claims_after}
 use Rattle.pol_symtab.specs.SymbolTables.{Table, table_at, table_start, declares, value_named, primary_index, primary_name, rank_of}
+use Rattle.pol_commons.specs.declared.CommonRec.{CommonRec}
 use Rattle.pol_commons.specs.declared.PermissionRec.{PermissionRec}
 use Rattle.pol_commons.specs.CommonTable.{commons_at, inherited_from}
 use Rattle.pol_commons.specs.Permissions.{mask_of, of_name, of_value}
@@ -91,49 +92,46 @@ symbols_at version = do
 
 -- ---- what a name or a value finds in a table
 
+-- What is asked of one of the tables, by what its records have: the name of each, whether it is primary, and its value.
+abbrev pub of_table : {R : Type 0} → ((A : Type 0) → (A → List ℕ) → (A → Bool) → (A → ℕ) → Table A → R) → Symbols → TableKind → R
+of_table ask symbols Commons = ask CommonRec (λ common. common.name) (λ common. true) (λ common. common.value) symbols.commons
+of_table ask symbols Classes = ask ClassRec (λ class. class.name) (λ class. true) (λ class. class.value) symbols.classes
+of_table ask symbols Roles = ask RoleRec (λ role. role.name) (λ role. true) (λ role. role.value) symbols.roles
+of_table ask symbols Types = ask TypeRec (λ t. t.name) (λ t. is_primary_type t.properties) (λ t. t.value) symbols.types
+of_table ask symbols Users = ask UserRec (λ user. user.name) (λ user. true) (λ user. user.value) symbols.users
+of_table ask symbols Booleans = ask BooleanRec (λ boolean. boolean.name) (λ boolean. true) (λ boolean. boolean.value) symbols.booleans
+of_table ask symbols Levels = ask SensitivityRec (λ level. level.name) (λ level. is_primary_flag level.isalias) (λ level. level.sens) symbols.levels
+of_table ask symbols Categories = ask CategoryRec (λ category. category.name) (λ category. is_primary_flag category.isalias) (λ category. category.value) symbols.categories
+
+-- what its records name, in file order: the names, and the values of these, those of aliases among them
+abbrev pub record_names : Symbols → TableKind → List (List ℕ)
+record_names symbols table = of_table (λ A name_of is_primary value_of t. map (λ r. name_of r.value) t.records) symbols table
+
+abbrev pub record_values : Symbols → TableKind → List ℕ
+record_values symbols table = of_table (λ A name_of is_primary value_of t. map (λ r. value_of r.value) t.records) symbols table
+
 -- the value of the record of a name, an alias or not
 abbrev pub value_in : Symbols → TableKind → List ℕ → Option ℕ
-value_in symbols Commons name = value_named (λ common. common.name) (λ common. common.value) symbols.commons.records name
-value_in symbols Classes name = value_named (λ class. class.name) (λ class. class.value) symbols.classes.records name
-value_in symbols Roles name = value_named (λ role. role.name) (λ role. role.value) symbols.roles.records name
-value_in symbols Types name = value_named (λ t. t.name) (λ t. t.value) symbols.types.records name
-value_in symbols Users name = value_named (λ user. user.name) (λ user. user.value) symbols.users.records name
-value_in symbols Booleans name = value_named (λ boolean. boolean.name) (λ boolean. boolean.value) symbols.booleans.records name
-value_in symbols Levels name = value_named (λ level. level.name) (λ level. level.sens) symbols.levels.records name
-value_in symbols Categories name = value_named (λ category. category.name) (λ category. category.value) symbols.categories.records name
+value_in symbols table = of_table (λ A name_of is_primary value_of t. value_named name_of value_of t.records) symbols table
 
 -- the place in its list of the primary record of a value
 abbrev pub index_in : Symbols → TableKind → ℕ → Option ℕ
-index_in symbols Commons value = primary_index (λ common. true) (λ common. common.value) symbols.commons.records value
-index_in symbols Classes value = primary_index (λ class. true) (λ class. class.value) symbols.classes.records value
-index_in symbols Roles value = primary_index (λ role. true) (λ role. role.value) symbols.roles.records value
-index_in symbols Types value = primary_index (λ t. is_primary_type t.properties) (λ t. t.value) symbols.types.records value
-index_in symbols Users value = primary_index (λ user. true) (λ user. user.value) symbols.users.records value
-index_in symbols Booleans value = primary_index (λ boolean. true) (λ boolean. boolean.value) symbols.booleans.records value
-index_in symbols Levels value = primary_index (λ level. is_primary_flag level.isalias) (λ level. level.sens) symbols.levels.records value
-index_in symbols Categories value = primary_index (λ category. is_primary_flag category.isalias) (λ category. category.value) symbols.categories.records value
+index_in symbols table = of_table (λ A name_of is_primary value_of t. primary_index is_primary value_of t.records) symbols table
 
 -- the name of that record
 abbrev pub name_in : Symbols → TableKind → ℕ → Option (List ℕ)
-name_in symbols Commons value = primary_name (λ common. common.name) (λ common. true) (λ common. common.value) symbols.commons.records value
-name_in symbols Classes value = primary_name (λ class. class.name) (λ class. true) (λ class. class.value) symbols.classes.records value
-name_in symbols Roles value = primary_name (λ role. role.name) (λ role. true) (λ role. role.value) symbols.roles.records value
-name_in symbols Types value = primary_name (λ t. t.name) (λ t. is_primary_type t.properties) (λ t. t.value) symbols.types.records value
-name_in symbols Users value = primary_name (λ user. user.name) (λ user. true) (λ user. user.value) symbols.users.records value
-name_in symbols Booleans value = primary_name (λ boolean. boolean.name) (λ boolean. true) (λ boolean. boolean.value) symbols.booleans.records value
-name_in symbols Levels value = primary_name (λ level. level.name) (λ level. is_primary_flag level.isalias) (λ level. level.sens) symbols.levels.records value
-name_in symbols Categories value = primary_name (λ category. category.name) (λ category. is_primary_flag category.isalias) (λ category. category.value) symbols.categories.records value
+name_in symbols table = of_table (λ A name_of is_primary value_of t. primary_name name_of is_primary value_of t.records) symbols table
 
 -- the rank of that name among the primary names of its table
 abbrev pub rank_in : Symbols → TableKind → ℕ → Option ℕ
-rank_in symbols Commons value = rank_of (λ common. common.name) (λ common. true) (λ common. common.value) symbols.commons.records value
-rank_in symbols Classes value = rank_of (λ class. class.name) (λ class. true) (λ class. class.value) symbols.classes.records value
-rank_in symbols Roles value = rank_of (λ role. role.name) (λ role. true) (λ role. role.value) symbols.roles.records value
-rank_in symbols Types value = rank_of (λ t. t.name) (λ t. is_primary_type t.properties) (λ t. t.value) symbols.types.records value
-rank_in symbols Users value = rank_of (λ user. user.name) (λ user. true) (λ user. user.value) symbols.users.records value
-rank_in symbols Booleans value = rank_of (λ boolean. boolean.name) (λ boolean. true) (λ boolean. boolean.value) symbols.booleans.records value
-rank_in symbols Levels value = rank_of (λ level. level.name) (λ level. is_primary_flag level.isalias) (λ level. level.sens) symbols.levels.records value
-rank_in symbols Categories value = rank_of (λ category. category.name) (λ category. is_primary_flag category.isalias) (λ category. category.value) symbols.categories.records value
+rank_in symbols table = of_table (λ A name_of is_primary value_of t. rank_of name_of is_primary value_of t.records) symbols table
+
+-- the greatest value that the table may declare, and how many records it has
+abbrev pub prims_in : Symbols → TableKind → ℕ
+prims_in symbols table = of_table (λ A name_of is_primary value_of t. t.nprim) symbols table
+
+abbrev pub count_in : Symbols → TableKind → ℕ
+count_in symbols table = of_table (λ A name_of is_primary value_of t. length t.records) symbols table
 
 -- ---- types
 
@@ -171,25 +169,3 @@ permission_value_in symbols class name = option_map (λ permission. permission.v
 -- their bits in an access vector
 abbrev pub permission_mask_in : Symbols → ℕ → ℕ
 permission_mask_in symbols class = mask_of (permissions_in_class symbols class)
-
--- ---- the size of a table
-
-abbrev pub prims_in : Symbols → TableKind → ℕ
-prims_in symbols Commons = symbols.commons.nprim
-prims_in symbols Classes = symbols.classes.nprim
-prims_in symbols Roles = symbols.roles.nprim
-prims_in symbols Types = symbols.types.nprim
-prims_in symbols Users = symbols.users.nprim
-prims_in symbols Booleans = symbols.booleans.nprim
-prims_in symbols Levels = symbols.levels.nprim
-prims_in symbols Categories = symbols.categories.nprim
-
-abbrev pub count_in : Symbols → TableKind → ℕ
-count_in symbols Commons = length symbols.commons.records
-count_in symbols Classes = length symbols.classes.records
-count_in symbols Roles = length symbols.roles.records
-count_in symbols Types = length symbols.types.records
-count_in symbols Users = length symbols.users.records
-count_in symbols Booleans = length symbols.booleans.records
-count_in symbols Levels = length symbols.levels.records
-count_in symbols Categories = length symbols.categories.records

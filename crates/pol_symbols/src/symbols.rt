@@ -1,9 +1,10 @@
-ghost use Rattle.std.specs.Prelude.{◌≡◌, true, is_some, option_map};
+ghost use Rattle.std.specs.Prelude.{◌≡◌, ◌<◌, Some, slice_get, true, is_some, option_map};
 ghost use Rattle.pol_cursor.specs.Outcome.{Yields};
 ghost use Rattle.std.specs.List.{find};
 ghost use Rattle.pol_symtab.specs.SymbolTables.{declares};
 ghost use Rattle.pol_commons.specs.Permissions.{of_name, of_value};
-ghost use Rattle.pol_symbols.specs.PolicySymbols.{flavour_in, permissions_of, permission_name_in, permission_value_in, permission_mask_in, prims_in, count_in, roles_at, types_at, users_at, booleans_at, levels_at, categories_at, rule_tables_at, other_tables_at, symbols_at, value_in, index_in, name_in, rank_in};
+ghost use Rattle.pol_symbols.specs.Inner.TableNames.{names_in};
+ghost use Rattle.pol_symbols.specs.PolicySymbols.{flavour_in, permissions_of, permission_name_in, permission_value_in, permission_mask_in, prims_in, count_in, roles_at, types_at, users_at, booleans_at, levels_at, categories_at, rule_tables_at, other_tables_at, symbols_at, record_names, record_values, value_in, index_in, name_in, rank_in};
 
 use crate::user_kind::User;
 use pol_classes::{ClassTable, ClassView, read_class_table};
@@ -11,7 +12,7 @@ use pol_commons::{CommonList, PermissionView, inherited_from, read_commons};
 use pol_cursor::{Cursor, Names, ReadError};
 use pol_datums::{Boolean, Category, Flavour, Role, Sensitivity, Type};
 use pol_fields::TableKind;
-use pol_symtab::{SymbolTable, read_whole_table};
+use pol_symtab::{SymbolTable, TableNames, read_whole_table};
 use std::alloc::Global;
 
 /// The eight symbol tables of a policy.
@@ -43,117 +44,95 @@ impl Drop for Symbols<'_> {
 }
 
 impl<'a> Symbols<'a> {
+    // What the records of a table name.
+    fn names(&self, table: TableKind) -> &TableNames<'a>
+        ensures { result.now ≡ names_in self.now table }
+    {
+        match table {
+            TableKind::Commons => self.commons.names(),
+            TableKind::Classes => self.classes.names(),
+            TableKind::Roles => self.roles.names(),
+            TableKind::Types => self.types.names(),
+            TableKind::Users => self.users.names(),
+            TableKind::Booleans => self.booleans.names(),
+            TableKind::Levels => self.levels.names(),
+            TableKind::Categories => self.categories.names(),
+        }
+    }
+
+    /// The name of the record of that number, from 0 on.
+    #[tactic(auto, using(crate::proofs::TableNames::count_by_names, crate::proofs::TableNames::record_names_by))]
+    pub fn record_name(&self, table: TableKind, number: u32) -> &'a [u8]
+        requires { number < count_in self.now table }
+        ensures { slice_get (record_names self.now table) number ≡ Some result.now }
+    {
+        self.names(table).name_at(number)
+    }
+
+    /// The value that it names, also where it is an alias.
+    #[tactic(auto, using(crate::proofs::TableNames::count_by_names, crate::proofs::TableNames::record_values_by))]
+    pub fn record_value(&self, table: TableKind, number: u32) -> u32
+        requires { number < count_in self.now table }
+        ensures { slice_get (record_values self.now table) number ≡ Some result }
+    {
+        self.names(table).value_at(number)
+    }
+
     /// The value of the record of that name, an alias or not. `None` exactly where no record of the table has it.
+    #[tactic(auto, using(crate::proofs::TableNames::value_by))]
     pub fn by_name(&self, table: TableKind, name: &[u8]) -> Option<u32>
         ensures { result ≡ value_in self.now table name.now }
     {
-        match table {
-            TableKind::Commons => self.commons.by_name(name),
-            TableKind::Classes => self.classes.by_name(name),
-            TableKind::Roles => self.roles.by_name(name),
-            TableKind::Types => self.types.by_name(name),
-            TableKind::Users => self.users.by_name(name),
-            TableKind::Booleans => self.booleans.by_name(name),
-            TableKind::Levels => self.levels.by_name(name),
-            TableKind::Categories => self.categories.by_name(name),
-        }
+        self.names(table).by_name(name)
     }
 
     /// The place in the table's list of the primary record of that value. `None` exactly where no primary record declares it.
+    #[tactic(auto, using(crate::proofs::TableNames::index_by))]
     pub fn by_value(&self, table: TableKind, value: u32) -> Option<u32>
         ensures { result ≡ index_in self.now table value }
     {
-        match table {
-            TableKind::Commons => self.commons.by_value(value),
-            TableKind::Classes => self.classes.by_value(value),
-            TableKind::Roles => self.roles.by_value(value),
-            TableKind::Types => self.types.by_value(value),
-            TableKind::Users => self.users.by_value(value),
-            TableKind::Booleans => self.booleans.by_value(value),
-            TableKind::Levels => self.levels.by_value(value),
-            TableKind::Categories => self.categories.by_value(value),
-        }
+        self.names(table).by_value(value)
     }
 
     /// The name of the primary record of that value. `None` exactly where no primary record declares it.
+    #[tactic(auto, using(crate::proofs::TableNames::name_by))]
     pub fn name_of(&self, table: TableKind, value: u32) -> Option<&'a [u8]>
         ensures { option_map (λ name. name.now) result ≡ name_in self.now table value }
     {
-        match table {
-            TableKind::Commons => self.commons.name_of(value),
-            TableKind::Classes => self.classes.name_of(value),
-            TableKind::Roles => self.roles.name_of(value),
-            TableKind::Types => self.types.name_of(value),
-            TableKind::Users => self.users.name_of(value),
-            TableKind::Booleans => self.booleans.name_of(value),
-            TableKind::Levels => self.levels.name_of(value),
-            TableKind::Categories => self.categories.name_of(value),
-        }
+        self.names(table).name_of(value)
     }
 
     /// Whether a primary record of the table declares that value.
+    #[tactic(auto, using(crate::proofs::TableNames::name_by))]
     pub fn declares(&self, table: TableKind, value: u32) -> bool
         ensures { result ≡ is_some (name_in self.now table value) }
     {
-        match table {
-            TableKind::Commons => self.commons.declares(value),
-            TableKind::Classes => self.classes.declares(value),
-            TableKind::Roles => self.roles.declares(value),
-            TableKind::Types => self.types.declares(value),
-            TableKind::Users => self.users.declares(value),
-            TableKind::Booleans => self.booleans.declares(value),
-            TableKind::Levels => self.levels.declares(value),
-            TableKind::Categories => self.categories.declares(value),
-        }
+        self.names(table).declares(value)
     }
 
     /// How many primary names of the table are below the name of that value, in the order of their bytes. `None` exactly
     /// where no primary record declares the value.
+    #[tactic(auto, using(crate::proofs::TableNames::rank_by))]
     pub fn rank(&self, table: TableKind, value: u32) -> Option<u32>
         ensures { result ≡ rank_in self.now table value }
     {
-        match table {
-            TableKind::Commons => self.commons.rank(value),
-            TableKind::Classes => self.classes.rank(value),
-            TableKind::Roles => self.roles.rank(value),
-            TableKind::Types => self.types.rank(value),
-            TableKind::Users => self.users.rank(value),
-            TableKind::Booleans => self.booleans.rank(value),
-            TableKind::Levels => self.levels.rank(value),
-            TableKind::Categories => self.categories.rank(value),
-        }
+        self.names(table).rank(value)
     }
 
     /// The greatest value that the table may declare.
+    #[tactic(auto, using(crate::proofs::TableNames::prims_by))]
     pub fn prims(&self, table: TableKind) -> u32
         ensures { result ≡ prims_in self.now table }
     {
-        match table {
-            TableKind::Commons => self.commons.prims(),
-            TableKind::Classes => self.classes.prims(),
-            TableKind::Roles => self.roles.prims(),
-            TableKind::Types => self.types.prims(),
-            TableKind::Users => self.users.prims(),
-            TableKind::Booleans => self.booleans.prims(),
-            TableKind::Levels => self.levels.prims(),
-            TableKind::Categories => self.categories.prims(),
-        }
+        self.names(table).prims()
     }
 
     /// How many records the table has.
+    #[tactic(auto, using(crate::proofs::TableNames::count_by_names))]
     pub fn len(&self, table: TableKind) -> u32
         ensures { result ≡ count_in self.now table }
     {
-        match table {
-            TableKind::Commons => self.commons.len(),
-            TableKind::Classes => self.classes.len(),
-            TableKind::Roles => self.roles.len(),
-            TableKind::Types => self.types.len(),
-            TableKind::Users => self.users.len(),
-            TableKind::Booleans => self.booleans.len(),
-            TableKind::Levels => self.levels.len(),
-            TableKind::Categories => self.categories.len(),
-        }
+        self.names(table).len()
     }
 
     /// Whether the value of a type is declared as an attribute or as none. `None` exactly where no primary record

@@ -14,4 +14,5 @@ pub mod SortedNames
 pub mod ByteOrder
 pub mod NameSearch
 pub mod Prefixes
+pub mod Namings
 pub mod TakenOrder

@@ -4,11 +4,11 @@ ghost use Rattle.std.specs.Prelude.{◌≡◌, ◌<◌, ◌^◌, IfOk, length, m
 ghost use Rattle.std.specs.List.{All};
 ghost use Rattle.pol_symtab.specs.Inner.NamePrefixes.{HasPrefix};
 ghost use Rattle.pol_symtab.specs.SymbolTables.{index_named};
-ghost use Rattle.pol_symtab.specs.Inner.TableIndex.{names_of, name_at, IsNameOrder, HaveDistinctNames, seen, numbered, NamesRise, AreSorted, AreNumbered, RankAll};
+ghost use Rattle.pol_symtab.specs.Inner.Namings.{its_name, is_its_primary, naming};
+ghost use Rattle.pol_symtab.specs.Inner.TableIndex.{names_of, IsNameOrder, HaveDistinctNames, seen, numbered, NamesRise, AreSorted, AreNumbered, RankAll};
 
 use crate::name_prefix::prefix_of;
-use crate::symbol::Symbol;
-use pol_cursor::Records;
+use crate::symbol_names::SymbolName;
 use std::alloc::{AllocError, Global};
 use std::cmp::Ordering;
 
@@ -22,42 +22,36 @@ pub(crate) struct Entry<'a> {
     primary: bool,
 }
 
-/// The names of the records, in the order of their bytes.
-pub(crate) fn sorted_entries<'a, K: Symbol<'a> + Drop>(
+/// Names in the order of their bytes.
+pub(crate) fn sorted_entries<'a>(
     alloc: Global,
-    records: &Records<'a, K>,
+    names: &[SymbolName<'a>],
 ) -> Result<Vec<Entry<'a>>, AllocError>
-where
-    K::View: Drop,
-    requires { HaveDistinctNames K.name_of records.now }
-    ensures sorted { IfOk result (λ entries. AreSorted K.name_of K.is_primary records.now (map seen entries.items)) }
+    requires few { length names.now < 2 ^ 32 }
+    requires distinct { HaveDistinctNames its_name (map naming names.now) }
+    ensures sorted { IfOk result (λ entries. AreSorted its_name is_its_primary (map naming names.now) (map seen entries.items)) }
     ensures few { IfOk result (λ entries. length entries.items < 2 ^ 32) }
 {
-    let mut entries = entries_of(alloc, records)?;
+    let mut entries = entries_of(alloc, names)?;
     entries.sort()?;
     Ok(entries)
 }
 
-// The names of the records, in the order of the list.
-fn entries_of<'a, K: Symbol<'a> + Drop>(
-    alloc: Global,
-    records: &Records<'a, K>,
-) -> Result<Vec<Entry<'a>>, AllocError>
-where
-    K::View: Drop,
-    ensures same { IfOk result (λ entries. map seen entries.items ≡ numbered K.name_of K.is_primary 0 records.now) }
+// Names in the order of the list.
+fn entries_of<'a>(alloc: Global, names: &[SymbolName<'a>]) -> Result<Vec<Entry<'a>>, AllocError>
+    requires { length names.now < 2 ^ 32 }
+    ensures same { IfOk result (λ entries. map seen entries.items ≡ numbered its_name is_its_primary 0 (map naming names.now)) }
     ensures prefixes { IfOk result (λ entries. All HasPrefix entries.items) }
     ensures few { IfOk result (λ entries. length entries.items < 2 ^ 32) }
 {
-    let mut entries = Vec::new(alloc);
-    for number in 0..records.len() {
-        let record = records.view(number);
-        let name = K::name(&record);
+    let mut entries = Vec::with_capacity(alloc, names.len())?;
+    for number in 0..names.len() as u32 {
+        let symbol = &names[number as usize];
         entries.push(Entry {
-            prefix: prefix_of(name),
-            name,
+            prefix: prefix_of(symbol.name),
+            name: symbol.name,
             number,
-            primary: K::is_primary(&record),
+            primary: symbol.primary,
         })?;
     }
     Ok(entries)
@@ -89,33 +83,17 @@ pub(crate) fn rank_names(alloc: Global, entries: &[Entry<'_>]) -> Result<Vec<u32
     Ok(ranks)
 }
 
-/// The name of the record of that number.
-pub(crate) fn name_in<'a, K: Symbol<'a> + Drop>(records: &Records<'a, K>, i: u32) -> &'a [u8]
-where
-    K::View: Drop,
-    requires { i < length records.now }
-    ensures { result.now ≡ name_at (names_of K.name_of records.now) i }
-{
-    K::name(&records.view(i))
-}
-
-/// The number of the record of that name, by halving the numbers in the order of the names.
-pub(crate) fn find_name<'a, K: Symbol<'a> + Drop>(
-    records: &Records<'a, K>,
-    by_name: &[u32],
-    name: &[u8],
-) -> Option<u32>
-where
-    K::View: Drop,
-    requires { IsNameOrder (names_of K.name_of records.now) by_name.now }
-    ensures { result ≡ index_named K.name_of records.now name.now }
+/// The number of a name, by halving the numbers in the order of the names.
+pub(crate) fn find_name(names: &[SymbolName<'_>], by_name: &[u32], name: &[u8]) -> Option<u32>
+    requires { IsNameOrder (names_of its_name (map naming names.now)) by_name.now }
+    ensures { result ≡ index_named its_name (map naming names.now) name.now }
 {
     let mut low = 0;
     let mut high = by_name.len();
     while low < high {
         let middle = low + (high - low) / 2;
         let number = by_name[middle];
-        match name_in(records, number).cmp(name) {
+        match names[number as usize].name.cmp(name) {
             Ordering::Less => low = middle + 1,
             Ordering::Equal => return Some(number),
             Ordering::Greater => high = middle,

@@ -1,17 +1,18 @@
-ghost use Rattle.std.specs.Prelude.{◌≡◌, ◌<◌, ◌≤◌, Some, IfOk, is_some, option_map, slice_get, length};
+ghost use Rattle.std.specs.Prelude.{◌≡◌, ◌<◌, ◌≤◌, Some, IfOk, slice_get, length};
 ghost use Rattle.pol_cursor.specs.Outcome.{Yields};
 ghost use Rattle.pol_cursor.specs.Contexts.{context_after};
 ghost use Rattle.pol_cursor.specs.References.{values_of, AreDeclared, references_in};
-ghost use Rattle.pol_symtab.specs.SymbolTables.{index_named, value_named, primary_index, primary_name, rank_of, table_records_at, table_at, table_start};
+ghost use Rattle.pol_symtab.specs.SymbolTables.{index_named, primary_index, table_records_at, table_at, table_start};
+ghost use Rattle.pol_symtab.specs.Inner.Namings.{namings_of};
 ghost use Rattle.pol_symtab.specs.Inner.TableIndex.{HaveDistinctNames, HaveDistinctValues};
 ghost use Rattle.pol_symtab.specs.declared.taken.TableContext.{TableContext};
 
-use crate::name_order::{find_name, numbers_of, rank_names, sorted_entries};
 use crate::symbol::{Symbol, SymbolKind};
 use crate::symbol_laws::symbol_laws;
+use crate::symbol_names::names_of;
 use crate::table_head::{TableHead, read_table_head};
+use crate::table_names::TableNames;
 use crate::taken::{TableContext, Taken};
-use crate::value_index::{index_values, rank_values};
 use pol_cursor::{
     Copied, Cursor, Names, OwnedList, ReadError, Records, Referring, check_records,
     read_records_after,
@@ -22,38 +23,27 @@ use std::marker::Model;
 
 /// A symbol table, by the places of its records. Contracts see its nprim and the list of its records, each with its place.
 pub struct SymbolTable<'a, K: SymbolKind + Drop> {
-    nprim: u32,
+    names: TableNames<'a>,
     records: Records<'a, K>,
-    // By value: the number of its primary record.
-    by_value: Vec<Option<u32>>,
-    // The numbers of the records, in the order of their names.
-    by_name: Vec<u32>,
-    // By value: how many primary names are below the name of its primary record.
-    ranks: Vec<Option<u32>>,
 }
 
 // Its parts go in one call, wherever it is dropped.
 impl<'a, K: SymbolKind + Drop> Drop for SymbolTable<'a, K> {
     fn drop(self) {
-        let SymbolTable {
-            nprim,
-            records,
-            by_value,
-            by_name,
-            ranks,
-        } = self;
+        let SymbolTable { names, records } = self;
     }
 }
 
 impl<'a, K: SymbolKind + Drop> Model for SymbolTable<'a, K> {
+    ghost use Rattle.std.specs.Prelude.{◌≡◌, map};
     ghost use Rattle.pol_symtab.specs.SymbolTables.{Table};
-    ghost use Rattle.pol_symtab.specs.Inner.TableIndex.{IsIndexed};
+    ghost use Rattle.pol_symtab.specs.Inner.Namings.{naming_of};
 
     ghost Value = { Table K.Owned };
 
-    ghost view = { λ t. record { nprim = t.nprim; records = t.records } };
+    ghost view = { λ t. record { nprim = t.names.nprim; records = t.records } };
 
-    ghost invariant = { λ t. IsIndexed K.name_of K.is_primary K.value_of t.records t.by_value.items t.by_name.items t.ranks.items };
+    ghost invariant = { λ t. t.names.records ≡ map (naming_of K.name_of K.is_primary K.value_of) t.records };
 }
 
 impl<'a, K: Symbol<'a> + Drop> SymbolTable<'a, K>
@@ -70,25 +60,16 @@ where
         requires values { HaveDistinctValues K.is_primary K.value_of nprim records }
         ensures { IfOk result (λ table. table ≡ record { nprim = nprim; records = records.entry }) }
     {
-        let by_value = index_values(alloc, nprim, &records)?;
-        let entries = sorted_entries(alloc, &records)?;
-        let by_name = numbers_of(alloc, &entries)?;
-        let by_number = rank_names(alloc, &entries)?;
-        let ranks = rank_values(alloc, &by_value, &by_number)?;
-        Ok(SymbolTable {
-            nprim,
-            records,
-            by_value,
-            by_name,
-            ranks,
-        })
+        let names = names_of(alloc, &records)?;
+        let names = TableNames::new(alloc, nprim, names)?;
+        Ok(SymbolTable { names, records })
     }
 
-    /// The greatest value that the table may declare.
-    pub fn prims(&self) -> u32
-        ensures { result ≡ self.now.nprim }
+    /// What its records name.
+    pub fn names(&self) -> &TableNames<'a>
+        ensures { result.now ≡ namings_of K.name_of K.is_primary K.value_of self.now }
     {
-        self.nprim
+        &self.names
     }
 
     /// How many records there are.
@@ -107,61 +88,19 @@ where
     }
 
     /// The place in the list of the record of that name, an alias or not. `None` exactly where no record has it.
+    #[tactic(auto, using(crate::proofs::Namings::index_named_by))]
     pub fn index_by_name(&self, name: &[u8]) -> Option<u32>
         ensures { result ≡ index_named K.name_of self.now.records name.now }
     {
-        find_name(&self.records, &self.by_name, name)
-    }
-
-    /// The value of the record of that name, an alias or not. `None` exactly where no record has it.
-    #[tactic(auto, using(crate::proofs::Searches::index_named_within, crate::proofs::Searches::value_named_at, crate::proofs::Searches::value_named_none))]
-    pub fn by_name(&self, name: &[u8]) -> Option<u32>
-        ensures { result ≡ value_named K.name_of K.value_of self.now.records name.now }
-    {
-        match self.index_by_name(name) {
-            Some(i) => Some(K::value(&self.view(i))),
-            None => None,
-        }
+        self.names.index_by_name(name)
     }
 
     /// The place in the list of the primary record of that value. `None` exactly where no primary record declares it.
+    #[tactic(auto, using(crate::proofs::Namings::primary_index_by))]
     pub fn by_value(&self, value: u32) -> Option<u32>
         ensures { result ≡ primary_index K.is_primary K.value_of self.now.records value }
     {
-        match self.by_value.get(value as usize) {
-            Some(entry) => *entry,
-            None => None,
-        }
-    }
-
-    /// The name of the primary record of that value. `None` exactly where no primary record declares it.
-    #[tactic(auto, using(crate::proofs::Searches::primary_within, crate::proofs::Searches::primary_name_at, crate::proofs::Searches::primary_name_none))]
-    pub fn name_of(&self, value: u32) -> Option<&'a [u8]>
-        ensures { option_map (λ name. name.now) result ≡ primary_name K.name_of K.is_primary K.value_of self.now.records value }
-    {
-        match self.by_value(value) {
-            Some(i) => Some(K::name(&self.view(i))),
-            None => None,
-        }
-    }
-
-    /// Whether a primary record declares that value.
-    #[tactic(auto, using(crate::proofs::Searches::primary_declared))]
-    pub fn declares(&self, value: u32) -> bool
-        ensures { result ≡ is_some (primary_name K.name_of K.is_primary K.value_of self.now.records value) }
-    {
-        self.by_value(value).is_some()
-    }
-
-    /// How many primary names of the table are below the name of that value, in the order of their bytes. `None` exactly where
-    /// no primary record declares the value.
-    pub fn rank(&self, value: u32) -> Option<u32>
-        ensures { result ≡ rank_of K.name_of K.is_primary K.value_of self.now.records value }
-    {
-        match self.ranks.get(value as usize) {
-            Some(rank) => *rank,
-            None => None,
-        }
+        self.names.by_value(value)
     }
 }
 

@@ -1,27 +1,26 @@
 //! Where the primary record of a value stands, and the rank of its name.
 
-ghost use Rattle.std.specs.Prelude.{◌≡◌, ◌<◌, IfOk, length, map};
+ghost use Rattle.std.specs.Prelude.{◌≡◌, ◌<◌, ◌^◌, IfOk, length, map};
+ghost use Rattle.pol_symtab.specs.Inner.Namings.{its_value, is_its_primary, naming};
 ghost use Rattle.pol_symtab.specs.Inner.TableIndex.{HaveDistinctValues, IsValueIndex, declared_at, ranked};
 
-use crate::symbol::Symbol;
-use pol_cursor::Records;
+use crate::symbol_names::SymbolName;
 use std::alloc::{AllocError, Global};
 
-/// By value from 0 to nprim: the number of its primary record.
-pub(crate) fn index_values<'a, K: Symbol<'a> + Drop>(
+/// By value from 0 to nprim: the number of its primary name.
+pub(crate) fn index_values(
     alloc: Global,
     nprim: u32,
-    records: &Records<'a, K>,
+    names: &[SymbolName<'_>],
 ) -> Result<Vec<Option<u32>>, AllocError>
-where
-    K::View: Drop,
-    requires { HaveDistinctValues K.is_primary K.value_of nprim records.now }
-    ensures { IfOk result (λ by_value. IsValueIndex K.is_primary K.value_of records.now by_value.items) }
+    requires few { length names.now < 2 ^ 32 }
+    requires values { HaveDistinctValues is_its_primary its_value nprim (map naming names.now) }
+    ensures { IfOk result (λ by_value. IsValueIndex is_its_primary its_value (map naming names.now) by_value.items) }
 {
     let mut by_value = Vec::new(alloc);
     by_value.resize(nprim as usize + 1, None)?;
-    for i in 0..records.len() {
-        match declared_value(records, i) {
+    for i in 0..names.len() as u32 {
+        match declared_value(names, i) {
             Some(value) => by_value[value as usize] = Some(i),
             None => {}
         }
@@ -29,16 +28,15 @@ where
     Ok(by_value)
 }
 
-// The value that the record of that number declares: none where it is an alias.
-fn declared_value<'a, K: Symbol<'a> + Drop>(records: &Records<'a, K>, i: u32) -> Option<u32>
-where
-    K::View: Drop,
-    requires { i < length records.now }
-    ensures { result ≡ declared_at K.is_primary K.value_of records.now i }
+// The value that the name of that number declares: none where it is an alias.
+#[tactic(auto, using(crate::proofs::Namings::naming_at))]
+fn declared_value(names: &[SymbolName<'_>], i: u32) -> Option<u32>
+    requires { i < length names.now }
+    ensures { result ≡ declared_at is_its_primary its_value (map naming names.now) i }
 {
-    let record = records.view(i);
-    if K::is_primary(&record) {
-        Some(K::value(&record))
+    let symbol = &names[i as usize];
+    if symbol.primary {
+        Some(symbol.value)
     } else {
         None
     }

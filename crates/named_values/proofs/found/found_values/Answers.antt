@@ -8,8 +8,8 @@ use Rattle.named_values.proofs.found.found_values.Goals as goal
 pub loop-number-preserved : goal.loop-number-preserved
 loop-number-preserved c = record {
   same_pattern = c.is_found-found.ensures.same ∙ c.loop-number.invariant.same_pattern;
-  found_so_far = record_more c.args.symbols.now c.args.table (matcher_pattern c.loop-number.matcher) (regex_pattern c.args.pattern.now) c.loop-number.number c.value_at-value.result c.is_found-found.result _ c.loop-number.values.items c.push_if.new.values.items
-      c.loop-number.invariant.same_pattern c.loop-number.invariant.found_so_far c.value_at-value.ensures c.is_found-found.ensures.found c.name_of.ensures c.in_ok-push_if.ensures;
+  found_so_far = record_more c.args.symbols.now c.args.table (matcher_pattern c.loop-number.matcher) (regex_pattern c.args.pattern.now) c.loop-number.number c.record_value-value.result c.is_found-found.result _ c.loop-number.values.items c.push_if.new.values.items
+      c.loop-number.invariant.same_pattern c.loop-number.invariant.found_so_far c.record_value-value.ensures c.is_found-found.ensures.found c.name_of.ensures c.in_ok-push_if.ensures;
 }
 
 pub returns : goal.returns

@@ -1,9 +1,8 @@
 use Rattle.std.proofs.Common.{◌≡◌, take}
 use Rattle.std.specs.List.{filter}
-use Rattle.pol_symbols.specs.PolicySymbols.{name_in}
+use Rattle.pol_symbols.specs.PolicySymbols.{name_in, record_values}
 use Rattle.regex.specs.Strings.{regex_pattern, matcher_pattern}
 use Rattle.named_values.specs.Found.{has_pattern, of_name}
-use Rattle.named_values.specs.Inner.RecordValues.{record_values}
 use Rattle.named_values.proofs.found.found_values.Given as goal
 
 pub record Found (same so_far : Type 0) : Type 0 where

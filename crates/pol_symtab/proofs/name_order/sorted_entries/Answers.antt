@@ -8,6 +8,7 @@ use Rattle.std.specs.List.Sorted.{IsPermutation}
 use Rattle.std.proofs.lemmas.List.{length-map}
 use Rattle.std.proofs.lemmas.List.Sorted.{All-permutation, IsPermutation-map}
 use Rattle.std.proofs.lemmas.Option.{slice_get-map, slice_get-get_or, slice_get_within, same_Some}
+use Rattle.pol_symtab.specs.Inner.Namings.{its_name, is_its_primary, naming}
 use Rattle.pol_symtab.specs.declared.name_order.Entry.{Entry}
 use Rattle.pol_symtab.specs.Inner.NamePrefixes.{HasPrefix}
 use Rattle.pol_symtab.specs.SymbolTables.{is_below}
@@ -34,9 +35,9 @@ steady entries prefixes sorted i a b at at' =
     subst (λ (n : Named). is_below b.name n.name ≡ false) (entry_is entries i a d at) (subst (λ (n : Named). is_below n.name (get_or entries i d).name.now ≡ false) (entry_is entries (i + 1) b d at') h)
 
 pub returns-clause-few : goal.returns-clause-few
-returns-clause-few g c = omega (arith, c.in_ok-sort.ensures.len, c.sort.new.self.ok.0, c.in_ok-entries.entries.ok.0, c.in_ok-entries.ensures.few)
+returns-clause-few c = omega (arith, c.in_ok-sort.ensures.len, c.sort.new.self.ok.0, c.in_ok-entries.entries.ok.0, c.in_ok-entries.ensures.few)
 
 pub returns-clause-sorted : goal.returns-clause-sorted
-returns-clause-sorted g c = sorted_names g.K.SymbolKind.name_of g.K.SymbolKind.is_primary c.args.records.now c.requires (map seen c.sort.new.self.items)
+returns-clause-sorted c = sorted_names its_name is_its_primary (map naming c.args.names.now) c.requires.distinct (map seen c.sort.new.self.items)
     (subst (λ (names : List Named). IsPermutation names (map seen c.sort.new.self.items)) c.in_ok-entries.ensures.same (IsPermutation-map seen c.in_ok-entries.entries.items c.sort.new.self.items c.in_ok-sort.ensures.permutation))
     (steady c.sort.new.self.items (All-permutation HasPrefix c.in_ok-entries.entries.items c.sort.new.self.items c.in_ok-sort.ensures.permutation c.in_ok-entries.ensures.prefixes) c.in_ok-sort.ensures.sorted)
