@@ -1,4 +1,5 @@
 ghost use Rattle.std.specs.Prelude.{◌≡◌};
+ghost use Rattle.pol_rules.specs.DeclaredRules.{default_table};
 ghost use Rattle.pol_rules.specs.RuleOrder.{source_table, target_table};
 
 use pol_avtab::XPerms;
@@ -39,6 +40,16 @@ impl RuleKind {
     {
         match self {
             RuleKind::RoleAllow => TableKind::Roles,
+            _ => TableKind::Types,
+        }
+    }
+
+    /// The table that declares their defaults, where they have any.
+    pub fn default_table(self) -> TableKind
+        ensures { result ≡ default_table self }
+    {
+        match self {
+            RuleKind::RoleTransition => TableKind::Roles,
             _ => TableKind::Types,
         }
     }

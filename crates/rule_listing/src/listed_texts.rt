@@ -5,61 +5,52 @@ ghost use Rattle.pol_rules.specs.StoredRules.{av_rule, stored, stored_rules};
 ghost use Rattle.pol_rules.specs.DeclaredRules.{StandsUnder};
 ghost use Rattle.pol_rules.specs.declared.rule.RulePart.TheVariants.{Default};
 ghost use Rattle.rule_listing.specs.Inner.KeptTexts.{begun_text, ended_with};
-ghost use Rattle.rule_text.specs.Inner.TypeNames.{AreNamesOf};
 ghost use Rattle.rule_text.specs.RuleTexts.{rule_text, text_of_rule};
 
 use crate::kept_head::KeptHead;
 use crate::kept_texts::KeptTexts;
 use crate::listed_rule::ListedRule;
 use pol_avtab::AvView;
+use pol_mls::push_name;
 use pol_read::{Policy, Rule, RuleEnds, RuleKind, RulePart, vector_ends, vector_rule};
-use pol_symbols::Symbols;
-use rule_text::{RuleTexts, TypeNames, default_table, push_class};
+use rule_text::{RuleTexts, push_class};
 use std::alloc::{AllocError, Global};
 use std::marker::Model;
 
 /// The texts of whole rules of a policy, where many are written one after the other: what stands before the targets of a source is
 /// made once where its rules come together, and so is what stands behind the ends of rules that give the same permissions, and of those
-/// that stand under the same condition. The name of each type that is a target or a default is looked up once. Contracts see the policy.
+/// that stand under the same condition. Contracts see the policy.
 pub struct ListedTexts<'p, 'a> {
     texts: KeptTexts<'p, 'a>,
     head: KeptHead,
-    names: TypeNames<'a>,
 }
 
 // Its parts go in one call, wherever it is dropped.
 impl Drop for ListedTexts<'_, '_> {
     fn drop(self) {
-        let ListedTexts { texts, head, names } = self;
+        let ListedTexts { texts, head } = self;
     }
 }
 
 impl<'p, 'a> Model for ListedTexts<'p, 'a> {
     ghost use Rattle.pol_file.specs.declared.Parts.{Parts};
     ghost use Rattle.rule_listing.specs.Inner.KeptTexts.{IsHead};
-    ghost use Rattle.rule_text.specs.Inner.TypeNames.{AreNamesOf};
 
     ghost Value = { Parts };
 
     ghost view = { λ listed. listed.texts };
 
-    ghost invariant = { λ listed. IsHead listed.texts.symbols listed.head × AreNamesOf listed.texts.symbols listed.names };
+    ghost invariant = { λ listed. IsHead listed.texts.symbols listed.head };
 }
 
 impl<'p, 'a> ListedTexts<'p, 'a> {
-    /// The texts of a policy of which so many rules are to be listed.
-    pub fn new(
-        alloc: Global,
-        policy: &'p Policy<'a>,
-        count: usize,
-    ) -> Result<ListedTexts<'p, 'a>, AllocError>
+    /// The texts of a policy.
+    pub fn new(alloc: Global, policy: &'p Policy<'a>) -> Result<ListedTexts<'p, 'a>, AllocError>
         ensures { IfOk result (λ texts. texts ≡ policy.now) }
     {
-        let symbols = policy.symbols();
         Ok(ListedTexts {
             texts: KeptTexts::none(alloc, RuleTexts::new(alloc, policy)?)?,
             head: KeptHead::none(alloc),
-            names: names_for(alloc, symbols, count)?,
         })
     }
 
@@ -114,8 +105,7 @@ impl<'p, 'a> ListedTexts<'p, 'a> {
         let symbols = self.texts.policy().symbols();
         push_class(buffer, symbols, kind, class)?;
         buffer.push(b' ')?;
-        self.names
-            .push(symbols, default_table(kind), value, buffer)?;
+        push_name(buffer, kind.default_table(), value, symbols)?;
         Ok(buffer.push(b';')?)
     }
 
@@ -146,22 +136,6 @@ impl<'p, 'a> ListedTexts<'p, 'a> {
     {
         let symbols = self.texts.policy().symbols();
         self.head.push(symbols, ends.kind, ends.source, buffer)?;
-        self.names
-            .push(symbols, ends.kind.target_table(), ends.target, buffer)
+        push_name(buffer, ends.kind.target_table(), ends.target, symbols)
     }
-}
-
-// The names of the types, which are all looked up where at least as many rules are to be listed.
-fn names_for<'a>(
-    alloc: Global,
-    symbols: &Symbols<'a>,
-    count: usize,
-) -> Result<TypeNames<'a>, AllocError>
-    ensures { IfOk result (AreNamesOf symbols.now) }
-{
-    let mut names = TypeNames::new(alloc, symbols)?;
-    if count >= symbols.types.len() as usize {
-        names.look_all_up(symbols);
-    }
-    Ok(names)
 }

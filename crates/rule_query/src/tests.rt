@@ -1,6 +1,5 @@
 // What a rule is compared with, criterion by criterion.
 ghost use Rattle.std.specs.Prelude.{◌≡◌, ◌<◌, length};
-ghost use Rattle.pol_rules.specs.DeclaredRules.{default_table};
 ghost use Rattle.pol_rules.specs.StoredRules.{stored_rules};
 ghost use Rattle.rule_query.specs.Inner.NumberedRules.{IsRuleAt, rule_at};
 ghost use Rattle.rule_query.specs.Inner.Tests.{class_test, condition_test, default_test, reads_rule, rule_test};
@@ -8,7 +7,6 @@ ghost use Rattle.rule_query.specs.Inner.Tests.{class_test, condition_test, defau
 use crate::ends::Ends;
 use crate::marked_set::has_value;
 use pol_bitmap::Set;
-use pol_fields::TableKind;
 use pol_read::{Condition, Policy, RuleEnds, RuleKind, RulePart};
 use rule_tests::{NumberTest, PermissionTest};
 
@@ -94,18 +92,8 @@ fn has_default(ends: &Ends, kind: RuleKind, part: &RulePart<'_>) -> bool
     ensures { result ≡ default_test ends.now kind part.now }
 {
     match part {
-        RulePart::Default(value) => ends.has(table_of_default(kind), *value),
+        RulePart::Default(value) => ends.has(kind.default_table(), *value),
         _ => false,
-    }
-}
-
-// The table that declares the defaults of the rules of a kind.
-fn table_of_default(kind: RuleKind) -> TableKind
-    ensures { result ≡ default_table kind }
-{
-    match kind {
-        RuleKind::RoleTransition => TableKind::Roles,
-        _ => TableKind::Types,
     }
 }
 

@@ -2,4 +2,3 @@ pub mod ClassPermissions
 pub mod IoctlRuns
 pub mod RuleFrames
 pub mod ShownNames
-pub mod TypeNames

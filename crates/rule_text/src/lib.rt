@@ -11,13 +11,11 @@ mod rule_parts;
 mod rule_texts;
 mod shown_names;
 mod single_rules;
-mod type_names;
 mod whole_rule;
 
 pub use condition_texts::push_condition;
 pub use rule_frame::RuleFrame;
-pub use rule_parts::{default_table, push_class, push_head};
+pub use rule_parts::{push_class, push_head};
 pub use rule_texts::RuleTexts;
 pub use single_rules::{push_rule, push_single};
-pub use type_names::TypeNames;
 pub use whole_rule::push_end;

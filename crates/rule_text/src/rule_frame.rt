@@ -2,10 +2,9 @@
 
 ghost use Rattle.std.specs.Prelude.{◌≡◌, ◌++◌, OnOk};
 ghost use Rattle.rule_text.specs.Inner.RuleFrames.{frame_head, frame_target};
-ghost use Rattle.rule_text.specs.Inner.TypeNames.{AreNamesOf};
 
 use crate::rule_parts::push_head;
-use crate::type_names::TypeNames;
+use pol_mls::push_name;
 use pol_read::RuleKind;
 use pol_symbols::Symbols;
 use std::alloc::AllocError;
@@ -27,19 +26,12 @@ impl<'p, 'a> RuleFrame<'p, 'a> {
         push_head(head, self.symbols, self.kind, source)
     }
 
-    /// Adds a target by its name. The names of types are handed in.
+    /// Adds a target by its name.
     #[tactic(auto, unfolding(crate::specs::Inner::RuleFrames::frame_target))]
-    pub fn push_target(
-        &self,
-        names: &mut TypeNames<'a>,
-        target: u32,
-        buffer: &mut Vec<u8>,
-    ) -> Result<(), AllocError>
-        requires { AreNamesOf self.now.symbols.now names.old }
-        ensures names { AreNamesOf self.now.symbols.now names.new }
-        ensures text { OnOk result (buffer.new.items ≡ buffer.old.items ++ frame_target self.now target) }
+    pub fn push_target(&self, target: u32, buffer: &mut Vec<u8>) -> Result<(), AllocError>
+        ensures { OnOk result (buffer.new.items ≡ buffer.old.items ++ frame_target self.now target) }
     {
-        names.push(self.symbols, self.kind.target_table(), target, buffer)
+        push_name(buffer, self.kind.target_table(), target, self.symbols)
     }
 
     /// What stands behind a target, with the line feed.

@@ -4,7 +4,6 @@ ghost use Rattle.std.specs.Prelude.{◌≡◌, ◌++◌, OnOk, option_map};
 ghost use Rattle.pol_mls.specs.MlsTexts.{name_of, range_text};
 ghost use Rattle.pol_symbols.specs.PolicySymbols.{name_in, permissions_in_class};
 ghost use Rattle.pol_rules.specs.RuleOrder.{target_table};
-ghost use Rattle.pol_rules.specs.DeclaredRules.{default_table};
 ghost use Rattle.rule_text.specs.Inner.ClassPermissions.{ShowsPart};
 ghost use Rattle.rule_text.specs.Inner.RuleFrames.{head_text};
 ghost use Rattle.rule_text.specs.RuleTexts.{keyword, class_text, part_text, file_name_text};
@@ -36,16 +35,6 @@ fn keyword(kind: RuleKind) -> &'static [u8]
         RuleKind::TypeMember => b"type_member",
         RuleKind::RoleTransition => b"role_transition",
         RuleKind::RangeTransition => b"range_transition",
-    }
-}
-
-/// The table that declares the defaults of the rules of a kind.
-pub fn default_table(kind: RuleKind) -> TableKind
-    ensures { result ≡ default_table kind }
-{
-    match kind {
-        RuleKind::RoleTransition => TableKind::Roles,
-        _ => TableKind::Types,
     }
 }
 
@@ -118,7 +107,7 @@ pub(crate) fn push_part(
         }
         RulePart::Default(value) => {
             buffer.push(b' ')?;
-            push_name(buffer, default_table(rule.kind), *value, symbols)
+            push_name(buffer, rule.kind.default_table(), *value, symbols)
         }
         RulePart::Range(range) => {
             buffer.push(b' ')?;

@@ -3,12 +3,11 @@ ghost use Rattle.std.specs.Prelude.{◌≡◌, ◌++◌, ◌<◌, ℕ, IfOk, len
 ghost use Rattle.pol_file.specs.declared.Parts.{Parts};
 ghost use Rattle.pol_rules.specs.StoredRules.{stored_rules};
 ghost use Rattle.rule_text.specs.Inner.RuleFrames.{frame_target};
-ghost use Rattle.rule_text.specs.Inner.TypeNames.{AreNamesOf};
 ghost use Rattle.se_search.specs.Inner.RowLines.{IsFrameOf, IsHeadOf, IsLast, PushesTargets};
 
 use pol_bitmap::SetBits;
 use pol_places::Row;
-use rule_text::{RuleFrame, RuleTexts, TypeNames};
+use rule_text::{RuleFrame, RuleTexts};
 use std::alloc::{AllocError, Global};
 
 /// The line of a rule with its ends left open, and what of it stands before and between the targets of a source.
@@ -96,55 +95,42 @@ fn with_source<'p, 'a>(
 }
 
 /// Adds the lines of the targets of a row, at most so many, and answers how many.
-pub fn push_targets<'a>(
-    frame: &SourceFrame<'_, 'a>,
-    names: &mut TypeNames<'a>,
+pub fn push_targets(
+    frame: &SourceFrame<'_, '_>,
     targets: &mut SetBits<'_>,
     most: u64,
     buffer: &mut Vec<u8>,
 ) -> Result<u64, AllocError>
-    requires names { AreNamesOf frame.now.frame.symbols.now names.old }
     requires between { frame.now.between.items ≡ frame.now.frame.rest.items ++ frame.now.head.items }
     requires some { 0 < most }
-    ensures names { AreNamesOf frame.now.frame.symbols.now names.new }
-    ensures targets { IfOk result (PushesTargets (λ target. frame.now.head.items ++ frame_target frame.now.frame target ++ frame.now.frame.rest.items) most targets.old targets.new buffer.old.items buffer.new.items) }
+    ensures { IfOk result (PushesTargets (λ target. frame.now.head.items ++ frame_target frame.now.frame target ++ frame.now.frame.rest.items) most targets.old targets.new buffer.old.items buffer.new.items) }
 {
     let Some(first) = targets.next() else {
         return Ok(0);
     };
     buffer.extend_from_slice(&frame.head)?;
-    frame.frame.push_target(names, first, buffer)?;
-    let others = push_others(
-        &frame.frame,
-        names,
-        &frame.between,
-        targets,
-        most - 1,
-        buffer,
-    )?;
+    frame.frame.push_target(first, buffer)?;
+    let others = push_others(&frame.frame, &frame.between, targets, most - 1, buffer)?;
     buffer.extend_from_slice(frame.frame.rest())?;
     Ok(others + 1)
 }
 
 // Adds the names of further targets, at most so many, each behind what stands between two, and answers how many.
-fn push_others<'a>(
-    frame: &RuleFrame<'_, 'a>,
-    names: &mut TypeNames<'a>,
+fn push_others(
+    frame: &RuleFrame<'_, '_>,
     between: &[u8],
     targets: &mut SetBits<'_>,
     most: u64,
     buffer: &mut Vec<u8>,
 ) -> Result<u64, AllocError>
-    requires { AreNamesOf frame.now.symbols.now names.old }
-    ensures names { AreNamesOf frame.now.symbols.now names.new }
-    ensures targets { IfOk result (PushesTargets (λ target. between.now ++ frame_target frame.now target) most targets.old targets.new buffer.old.items buffer.new.items) }
+    ensures { IfOk result (PushesTargets (λ target. between.now ++ frame_target frame.now target) most targets.old targets.new buffer.old.items buffer.new.items) }
 {
     'others: for count in 0..most {
         let Some(target) = targets.next() else {
             return Ok(count);
         };
         buffer.extend_from_slice(between)?;
-        frame.push_target(names, target, buffer)?;
+        frame.push_target(target, buffer)?;
     }
     Ok(most)
 }

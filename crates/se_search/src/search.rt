@@ -16,7 +16,7 @@ use pol_read::Policy;
 use rule_listing::ListedTexts;
 use rule_query::{Query, QueryError, resolve};
 use rule_singles::SingleRules;
-use rule_text::{RuleTexts, TypeNames};
+use rule_text::RuleTexts;
 use se_items::{WriteEnd, listed, write_page};
 use se_outside::{Patterns, Sink};
 use se_status::{Status, status_written};
@@ -91,7 +91,7 @@ fn write_rules<S: Sink>(
     let Ok(numbers) = query.sorted(alloc, policy) else {
         return Err(WriteEnd::Memory);
     };
-    let Ok(texts) = ListedTexts::new(alloc, policy, numbers.len()) else {
+    let Ok(texts) = ListedTexts::new(alloc, policy) else {
         return Err(WriteEnd::Memory);
     };
     let mut lines = RuleLines::new(texts, listed(&numbers));
@@ -117,10 +117,7 @@ fn write_singles<S: Sink>(
     let Ok(texts) = RuleTexts::new(alloc, policy) else {
         return Err(WriteEnd::Memory);
     };
-    let Ok(names) = TypeNames::new(alloc, policy.symbols()) else {
-        return Err(WriteEnd::Memory);
-    };
-    let mut lines = SingleLines::new(&texts, names, rules.places(), asks.from, asks.limit);
+    let mut lines = SingleLines::new(&texts, rules.places(), asks.from, asks.limit);
     write_lines(alloc, &mut lines, out)
 }
 

@@ -1,7 +1,6 @@
 // The lines of rules between single types, some of a row at a time.
 ghost use Rattle.std.specs.Prelude.{◌≡◌, ◌<◌, IfOk, length, map, min};
 ghost use Rattle.pol_places.specs.Members.{members};
-ghost use Rattle.rule_text.specs.Inner.TypeNames.{AreNamesOf};
 ghost use Rattle.se_items.specs.Paging.{most_items, page};
 ghost use Rattle.se_search.specs.Inner.RowLines.{IsLast};
 ghost use Rattle.se_search.specs.SearchAnswer.{single_line};
@@ -9,7 +8,7 @@ ghost use Rattle.se_search.specs.Inner.SingleLines.{AreOfRules, BeginsRow, CanBe
 
 use crate::row_lines::{RowLines, SourceFrame, frame_between, push_targets};
 use pol_places::{Place, Places, Row};
-use rule_text::{RuleTexts, TypeNames};
+use rule_text::RuleTexts;
 use std::alloc::{AllocError, Global};
 
 // The most items of a listing.
@@ -22,7 +21,6 @@ const MOST_LINES: u64 = 64;
 #[derive(Drop)]
 pub struct SingleLines<'s, 'p, 'a> {
     texts: &'s RuleTexts<'p, 'a>,
-    names: TypeNames<'a>,
     places: Places<'s>,
     // so many members are before the next line, and before the end
     passed: u64,
@@ -37,13 +35,11 @@ impl<'s, 'p, 'a> SingleLines<'s, 'p, 'a> {
     /// entry by entry.
     pub fn new(
         texts: &'s RuleTexts<'p, 'a>,
-        names: TypeNames<'a>,
         places: Places<'s>,
         from: u64,
         limit: Option<u64>,
     ) -> SingleLines<'s, 'p, 'a>
-        requires rules { AreOfRules texts.now places }
-        requires names { AreNamesOf texts.now.symbols names }
+        requires { AreOfRules texts.now places }
         ensures stands { StandsIn result }
         ensures lines { lines_left result ≡ page from limit (map (single_line texts.now) (members places.entry)) }
     {
@@ -52,7 +48,6 @@ impl<'s, 'p, 'a> SingleLines<'s, 'p, 'a> {
         let after = places.skip(passed);
         SingleLines {
             texts,
-            names,
             places,
             passed,
             end: end_of(all, passed, limit),
@@ -75,7 +70,7 @@ impl<'s, 'p, 'a> SingleLines<'s, 'p, 'a> {
         };
         let RowLines { mut row, frame } = lines;
         let most = MOST_LINES.min(self.end - self.passed);
-        let count = push_targets(&frame, &mut self.names, &mut row.targets, most, buffer)?;
+        let count = push_targets(&frame, &mut row.targets, most, buffer)?;
         if count == 0 {
             self.begin_row(*buffer.allocator(), Some(frame))?;
             return Ok(true);

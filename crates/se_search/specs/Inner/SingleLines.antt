@@ -6,7 +6,6 @@ use Rattle.pol_places.specs.declared.Place.{Place}
 use Rattle.pol_places.specs.Members.{Product, members}
 use Rattle.pol_places.specs.Inner.Standing.{StandsAt, member_in}
 use Rattle.pol_rules.specs.StoredRules.{stored_rules}
-use Rattle.rule_text.specs.Inner.TypeNames.{AreNamesOf}
 use Rattle.se_search.specs.declared.row_lines.RowLines.{RowLines}
 use Rattle.se_search.specs.declared.single_lines.SingleLines.{SingleLines}
 use Rattle.se_search.specs.Inner.RowLines.{IsFrameOf, IsHeadOf}
@@ -44,7 +43,6 @@ IsAtRow policy products passed behind (Some lines) = IsRow policy products passe
 
 pub record StandsIn (lines : SingleLines) : Type 0 where
   pub are_rules : AreOfRules lines.texts.now lines.places
-  pub names : AreNamesOf lines.texts.now.symbols lines.names
   pub within : lines.passed ≤ lines.end
   pub fits : lines.end ≤ length (members lines.places)
   pub at_row : IsAtRow lines.texts.now lines.places lines.passed lines.after lines.row
@@ -76,7 +74,6 @@ Steps old new had has false = (concat (lines_left old) ≡ []) × (has ≡ had)
 -- a row can begin: a line is left, and a place has the members before it that are passed
 pub record CanBegin (lines : SingleLines) : Type 0 where
   pub are_rules : AreOfRules lines.texts.now lines.places
-  pub names : AreNamesOf lines.texts.now.symbols lines.names
   pub more : lines.passed < lines.end
   pub fits : lines.end ≤ length (members lines.places)
   pub stands : StandsAt lines.places lines.after lines.passed

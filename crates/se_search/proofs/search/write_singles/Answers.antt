@@ -1,9 +1,7 @@
 use Rattle.std.proofs.Common.{◌≡◌, ◌∙◌, ℕ, List, ap, map, refl, subst, sym}
 use Rattle.pol_file.specs.declared.Parts.{Parts}
 use Rattle.pol_places.specs.Members.{Product, members}
-use Rattle.pol_symbols.specs.declared.Symbols.{Symbols}
 use Rattle.rule_singles.specs.Singles.{ends_of_rule}
-use Rattle.rule_text.specs.Inner.TypeNames.{AreNamesOf}
 use Rattle.se_items.specs.Paging.{page}
 use Rattle.se_items.specs.Writing.{Sends}
 use Rattle.se_words.specs.SearchRequest.{search_view}
@@ -13,19 +11,14 @@ use Rattle.se_search.proofs.FoundRules.{found-are-rules}
 use Rattle.se_search.proofs.SingleItems.{listed_are_of_rules, singles-found}
 use Rattle.se_search.proofs.search.write_singles.Goals as goal
 
-pub new-lines-requires-clause-rules : goal.new-lines-requires-clause-rules
-new-lines-requires-clause-rules g c =
+pub new-lines-requires : goal.new-lines-requires
+new-lines-requires g c =
     let policy = c.args.policy.now in
     let criteria = c.args.asks.now.criteria in
     let numbers = found_rules (search_view c.args.asks.now) policy in
     let P : Parts → Type 0 = λ policy. AreOfRules policy c.places.result in
     let Q : List Product → Type 0 = λ products. AreOfRules policy products in
     subst P (sym c.in-Ok-new.ensures) (subst Q (sym (c.places.ensures ∙ c.in-Ok.ensures)) (listed_are_of_rules policy criteria numbers (found-are-rules policy criteria numbers refl)))
-
-pub new-lines-requires-clause-names : goal.new-lines-requires-clause-names
-new-lines-requires-clause-names g c =
-    let P : Symbols → Type 0 = λ symbols. AreNamesOf symbols c.in-Ok-new-2.names in
-    subst P (c.symbols.ensures ∙ ap (λ (policy : Parts). policy.symbols) (sym c.in-Ok-new.ensures)) c.in-Ok-new-2.ensures
 
 pub returns : goal.returns
 returns g c =

@@ -21,7 +21,6 @@ returns c =
     record {
       stands = record {
         are_rules = c.requires.can.are_rules;
-        names = c.requires.can.names;
         within = omega (arith, c.requires.can.more);
         fits = c.requires.can.fits;
         at_row = row_begun lines.texts.now lines.places lines.passed c.in-Some.row c.in-Some.after c.in_ok-frame.frame at c.in_ok-frame.ensures.rule c.in_ok-frame.ensures.head;

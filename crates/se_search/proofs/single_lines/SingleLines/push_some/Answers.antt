@@ -1,6 +1,4 @@
-use Rattle.std.proofs.Common.{◌≡◌, ◌∙◌, Some, arith, subst, sym}
-use Rattle.pol_symbols.specs.declared.Symbols.{Symbols}
-use Rattle.rule_text.specs.Inner.TypeNames.{AreNamesOf}
+use Rattle.std.proofs.Common.{◌≡◌, ◌∙◌, Some, arith, sym}
 use Rattle.se_search.proofs.SingleRows.{at_some, few_turns, row_pushed}
 use Rattle.se_search.proofs.single_lines.SingleLines.push_some.Goals as goal
 
@@ -10,9 +8,9 @@ returns c =
     let is : lines.row ≡ Some c.in-Some.lines = sym c.take.ensures.value ∙ c.in-Some.is in
     let at = at_some lines.texts.now lines.places lines.passed lines.after lines.row c.in-Some.lines c.requires.at_row is in
     let pushed = row_pushed lines.texts.now lines.places lines.passed lines.end c.min-most.result c.in_ok-count.count lines.after c.in-Some.lines c.push_targets.new.targets c.args.buffer.now.items c.push_targets.new.buffer.items
-    at.0 (omega (arith, c.min-most.ensures, c.if-self.false)) c.in_ok-count.ensures.targets in
+    at.0 (omega (arith, c.min-most.ensures, c.if-self.false)) c.in_ok-count.ensures in
     record {
-      stands = record { are_rules = c.requires.are_rules; names = subst (λ (symbols : Symbols). AreNamesOf symbols c.push_targets.new.names) at.0.frame.symbols c.in_ok-count.ensures.names; within = pushed.within; fits = c.requires.fits; at_row = pushed.row };
+      stands = record { are_rules = c.requires.are_rules; within = pushed.within; fits = c.requires.fits; at_row = pushed.row };
       text = pushed.text;
       left = pushed.left;
       added = pushed.added;
