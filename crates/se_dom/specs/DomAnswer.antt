@@ -6,7 +6,7 @@ use Rattle.dom_trans.specs.Transitions.{is_transition}
 use Rattle.se_items.specs.Paging.{page}
 use Rattle.se_status.specs.Meeting.{Answer, text_unless}
 use Rattle.se_walks.specs.GraphItems.{items_from}
-use Rattle.se_walks.specs.TypeNames.{first_unknown, is_excluded, target_named, type_named, type_words}
+use Rattle.se_walks.specs.TypeNames.{ends_named, first_unknown, is_excluded, type_words}
 use Rattle.se_words.specs.DomRequest.{DomAsks}
 use Rattle.se_dom.specs.DomTexts.{dom_words}
 
@@ -22,8 +22,7 @@ is_edge asks policy a b = if asks.reverse then is_listed asks policy b a else is
 -- the transitions of the source, or all shortest walks of transitions to the target
 abbrev pub dom_items : DomAsks → Parts → List (List ℕ)
 dom_items asks policy =
-    items_from (dom_words policy) (is_edge asks policy) policy (is_excluded policy.symbols asks.excluded) asks.reverse (type_named policy asks.source.text)
-    (target_named policy asks.target)
+    items_from (dom_words policy) (is_edge asks policy) policy (is_excluded policy.symbols asks.excluded) (ends_named policy asks.source asks.target asks.reverse)
 
 -- those that are asked for
 unfoldable pub dom_text : DomAsks → Parts → List ℕ

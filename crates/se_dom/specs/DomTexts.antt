@@ -9,7 +9,7 @@ use Rattle.dom_trans.specs.declared.EntryReason.{EntryReason}
 use Rattle.dom_trans.specs.declared.Reasons.{Reasons}
 use Rattle.dom_trans.specs.ReasonLists.{reasons_between}
 use Rattle.rule_text.specs.RuleTexts.{text_of_rule}
-use Rattle.se_walks.specs.WalkTexts.{EdgeWords, ends_text}
+use Rattle.se_walks.specs.WalkTexts.{EdgeWords}
 
 -- `WORD: RULE`, after an indent
 unfoldable pub reason_line : Parts → List ℕ → List ℕ → ℕ → List ℕ
@@ -36,10 +36,10 @@ reasons_text policy indent reasons =
     ++ reason_lines policy indent (codes "dyntransition") reasons.dyntransition
     ++ reason_lines policy indent (codes "setcurrent") reasons.setcurrent
 
--- `A -> B`, and all rules of the transition
+-- what stands behind the ends of a transition: all rules of it
 unfoldable pub transition_text : Parts → List ℕ → ℕ → ℕ → List ℕ
-transition_text policy indent from to = ends_text policy.symbols from to ++ codes "\n" ++ reasons_text policy indent (reasons_between policy from to)
+transition_text policy indent from to = codes "\n" ++ reasons_text policy indent (reasons_between policy from to)
 
 -- how sedta writes the transitions of a policy
 unfoldable pub dom_words : Parts → EdgeWords
-dom_words policy = record { word = codes "Transition"; symbols = policy.symbols; edge = transition_text policy }
+dom_words policy = record { word = codes "Transition"; symbols = policy.symbols; behind = transition_text policy }

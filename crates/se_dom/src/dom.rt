@@ -1,5 +1,5 @@
 // The answer of sedta about a policy.
-ghost use Rattle.std.specs.Prelude.{◌≡◌, ◌≤◌, IfSome};
+ghost use Rattle.std.specs.Prelude.{◌≡◌};
 ghost use Rattle.std.specs.List.{concat};
 ghost use Rattle.dom_trans.specs.Inner.DomainEdges.{domain_edge};
 ghost use Rattle.pol_bitmap.specs.Nodes.{has_bit};
@@ -10,7 +10,7 @@ ghost use Rattle.se_status.specs.Meeting.{Concludes, IsPlain};
 ghost use Rattle.se_words.specs.DomRequest.{dom_view};
 ghost use Rattle.se_dom.specs.DomAnswer.{dom_answer, dom_text, is_edge};
 ghost use Rattle.se_dom.specs.DomTexts.{dom_words};
-ghost use Rattle.se_walks.specs.GraphItems.{items_to};
+ghost use Rattle.se_walks.specs.GraphItems.{AreWithin, items_between};
 ghost use Rattle.se_walks.specs.TypeNames.{is_excluded};
 
 use crate::dom_texts::DomTexts;
@@ -22,7 +22,7 @@ use rule_text::RuleTexts;
 use se_items::WriteEnd;
 use se_outside::Sink;
 use se_status::{Status, status_written};
-use se_walks::{Ends, Window, excluded_set, first_unknown, target_named, type_named, write_items};
+use se_walks::{Ends, Window, ends_named, excluded_set, first_unknown, write_items};
 use se_words::DomRequest;
 use std::alloc::Global;
 
@@ -55,16 +55,8 @@ fn write_answer<S: Sink>(
     ensures { Sends (S.written out.old) (S.written out.new) (S.faults out.old) (S.faults out.new)
         (dom_text (dom_view asks.now) policy.now) result }
 {
-    let Some(source) = type_named(policy, asks.source.text.as_bytes()) else {
+    let Some(ends) = ends_named(policy, &asks.source, &asks.target, asks.reverse) else {
         return Ok(());
-    };
-    let Some(target) = target_named(policy, &asks.target) else {
-        return Ok(());
-    };
-    let ends = Ends {
-        source,
-        target,
-        reverse: asks.reverse,
     };
     write_between(alloc, policy, asks, ends, out)
 }
@@ -79,13 +71,10 @@ fn write_between<S: Sink>(
     out: &mut S,
 ) -> Result<(), WriteEnd>
     requires reverse { ends.reverse ≡ asks.now.reverse }
-    requires source_low { 1 ≤ ends.source }
-    requires source_high { ends.source ≤ policy.now.symbols.types.nprim }
-    requires target_low { IfSome ends.target (λ target. 1 ≤ target) }
-    requires target_high { IfSome ends.target (λ target. target ≤ policy.now.symbols.types.nprim) }
+    requires types { AreWithin policy.now.symbols.types.nprim ends }
     ensures { Sends (S.written out.old) (S.written out.new) (S.faults out.old) (S.faults out.new)
-        (concat (page asks.now.from asks.now.limit (items_to (dom_words policy.now) (is_edge (dom_view asks.now) policy.now) policy.now
-        (is_excluded policy.now.symbols (dom_view asks.now).excluded) ends.reverse ends.source ends.target))) result }
+        (concat (page asks.now.from asks.now.limit (items_between (dom_words policy.now) (is_edge (dom_view asks.now) policy.now) policy.now
+        (is_excluded policy.now.symbols (dom_view asks.now).excluded) ends))) result }
 {
     let Ok(excluded) = excluded_set(alloc, policy.symbols(), &asks.excluded) else {
         return Err(WriteEnd::Memory);
@@ -108,14 +97,11 @@ fn write_graph<'q, S: Sink>(
     out: &mut S,
 ) -> Result<(), WriteEnd>
     requires map { IsPolicyMap policy.now types.now }
-    requires source_low { 1 ≤ ends.source }
-    requires source_high { ends.source ≤ policy.now.symbols.types.nprim }
-    requires target_low { IfSome ends.target (λ target. 1 ≤ target) }
-    requires target_high { IfSome ends.target (λ target. target ≤ policy.now.symbols.types.nprim) }
+    requires types { AreWithin policy.now.symbols.types.nprim ends }
     ensures { Sends (S.written out.old) (S.written out.new) (S.faults out.old) (S.faults out.new)
-        (concat (page asks.now.from asks.now.limit (items_to (dom_words policy.now)
+        (concat (page asks.now.from asks.now.limit (items_between (dom_words policy.now)
         (domain_edge (record { policy = policy.now; excluded = excluded.now; reverse = asks.now.reverse })) policy.now
-        (has_bit excluded.now) ends.reverse ends.source ends.target))) result }
+        (has_bit excluded.now) ends))) result }
 {
     let Ok(graph) = DomGraph::new(alloc, policy, types, excluded, asks.reverse) else {
         return Err(WriteEnd::Memory);
@@ -133,13 +119,10 @@ fn write_listed<S: Sink>(
     ends: Ends,
     out: &mut S,
 ) -> Result<(), WriteEnd>
-    requires source_low { 1 ≤ ends.source }
-    requires source_high { ends.source ≤ graph.now.policy.symbols.types.nprim }
-    requires target_low { IfSome ends.target (λ target. 1 ≤ target) }
-    requires target_high { IfSome ends.target (λ target. target ≤ graph.now.policy.symbols.types.nprim) }
+    requires { AreWithin graph.now.policy.symbols.types.nprim ends }
     ensures { Sends (S.written out.old) (S.written out.new) (S.faults out.old) (S.faults out.new)
-        (concat (page asks.now.from asks.now.limit (items_to (dom_words graph.now.policy) (domain_edge graph.now) graph.now.policy
-        (has_bit excluded.now) ends.reverse ends.source ends.target))) result }
+        (concat (page asks.now.from asks.now.limit (items_between (dom_words graph.now.policy) (domain_edge graph.now) graph.now.policy
+        (has_bit excluded.now) ends))) result }
 {
     let Ok(rules) = RuleTexts::new(alloc, graph.policy()) else {
         return Err(WriteEnd::Memory);

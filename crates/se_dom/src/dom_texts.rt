@@ -1,12 +1,12 @@
 // How sedta writes transitions.
 ghost use Rattle.std.specs.Prelude.{◌≡◌, ◌++◌, OnOk};
 ghost use Rattle.se_dom.specs.DomTexts.{transition_text};
-ghost use Rattle.se_walks.specs.WalkTexts.{ends_text};
 
 use crate::reason_texts::push_reasons;
 use dom_trans::DomGraph;
+use pol_symbols::Symbols;
 use rule_text::RuleTexts;
-use se_walks::{EdgeTexts, push_ends};
+use se_walks::EdgeTexts;
 use std::alloc::AllocError;
 
 /// The texts of the transitions of a graph.
@@ -29,12 +29,12 @@ impl EdgeTexts for DomTexts<'_, '_> {
     }
 
     #[tactic(auto, unfolding(crate::specs::DomTexts::dom_words))]
-    fn push_ends(&self, from: u32, to: u32, buffer: &mut Vec<u8>) -> Result<(), AllocError> {
-        push_graph_ends(self.graph, from, to, buffer)
+    fn symbols(&self) -> &Symbols<'_> {
+        self.graph.policy().symbols()
     }
 
     #[tactic(auto, unfolding(crate::specs::DomTexts::dom_words))]
-    fn push_edge(
+    fn push_behind(
         &self,
         indent: &[u8],
         from: u32,
@@ -45,19 +45,7 @@ impl EdgeTexts for DomTexts<'_, '_> {
     }
 }
 
-// Adds the ends of a transition of a graph.
-fn push_graph_ends(
-    graph: &DomGraph<'_>,
-    from: u32,
-    to: u32,
-    buffer: &mut Vec<u8>,
-) -> Result<(), AllocError>
-    ensures { OnOk result (buffer.new.items ≡ buffer.old.items ++ ends_text graph.now.policy.symbols from to) }
-{
-    push_ends(graph.policy().symbols(), from, to, buffer)
-}
-
-// Adds the ends of a transition, and the rules behind it.
+// Adds the rules behind a transition.
 #[tactic(auto, unfolding(crate::specs::DomTexts::transition_text))]
 fn push_transition(
     graph: &DomGraph<'_>,
@@ -71,8 +59,6 @@ fn push_transition(
     ensures { OnOk result (buffer.new.items ≡ buffer.old.items ++ transition_text graph.now.policy indent.now from to) }
 {
     let reasons = graph.reasons(*buffer.allocator(), from, to)?;
-    let symbols = graph.policy().symbols();
-    push_ends(symbols, from, to, buffer)?;
     buffer.extend_from_slice(b"\n")?;
-    push_reasons(rules, symbols, indent, &reasons, buffer)
+    push_reasons(rules, graph.policy().symbols(), indent, &reasons, buffer)
 }

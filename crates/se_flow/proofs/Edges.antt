@@ -6,22 +6,17 @@ use Rattle.std.specs.Prelude.{◌&&◌, not, nat_le, if◌then◌else◌}
 use Rattle.pol_bitmap.specs.declared.Node.{Node}
 use Rattle.pol_bitmap.specs.Nodes.{has_bit}
 use Rattle.pol_file.specs.declared.Parts.{Parts}
-use Rattle.pol_symbols.specs.declared.Symbols.{Symbols}
 use Rattle.perm_map.specs.PermissionMap.{Entry, Weights, weights_of}
 use Rattle.rule_ends.specs.PlainTypes.{are_two_types}
 use Rattle.flow_search.specs.Flows.{flow_weight}
 use Rattle.flow_search.specs.Inner.FlowEdges.{FlowSearch, flow_edge, is_flow}
-use Rattle.se_options.specs.Options.{named_view}
-use Rattle.se_options.specs.declared.Named.{Named}
 use Rattle.se_words.specs.FlowRequest.{FlowAsks}
-use Rattle.se_walks.specs.GraphItems.{items_to}
+use Rattle.se_walks.specs.GraphItems.{items_between}
 use Rattle.se_walks.specs.TypeNames.{is_excluded}
+use Rattle.se_walks.specs.declared.Ends.{Ends}
+use Rattle.se_walks.proofs.AskedTypes.{AreExcluded, either-way}
 use Rattle.se_flow.specs.FlowAnswer.{is_edge, is_listed}
 use Rattle.se_flow.specs.FlowTexts.{flow_words}
-
--- a set has the types that are excluded
-abbrev pub AreExcluded : FlowAsks → Parts → List Node → Type 0
-AreExcluded asks policy excluded = (type : ℕ) → has_bit excluded type ≡ is_excluded policy.symbols asks.excluded type
 
 by-two : (two : Bool) (least weight : ℕ) → 1 ≤ least → (two && nat_le least (if two then weight else 0)) ≡ nat_le least (if two then weight else 0)
 by-two true least weight le = refl
@@ -32,37 +27,26 @@ weighs : (weights : Weights) (policy : Parts) (least a b : ℕ) → 1 ≤ least 
 unfolding flow_weight
 weighs weights policy least a b le = by-two (are_two_types policy a b) least _ le
 
-flow-is : (asks : FlowAsks) (policy : Parts) (entries : List Entry) (excluded : List Node) (reverse : Bool) (a b : ℕ) → 1 ≤ asks.least → AreExcluded asks policy excluded
+flow-is : (asks : FlowAsks) (policy : Parts) (entries : List Entry) (excluded : List Node) (reverse : Bool) (a b : ℕ) → 1 ≤ asks.least → AreExcluded policy.symbols asks.excluded excluded
     → is_flow (record { policy = policy; entries = entries; least = asks.least; excluded = excluded; reverse = reverse }) a b ≡ is_listed asks policy (weights_of entries) a b
 unfolding is_flow is_listed
 flow-is asks policy entries excluded reverse a b le same =
     rw (same a, same b)
     (ap (λ weighs. weighs && not (is_excluded policy.symbols asks.excluded a) && not (is_excluded policy.symbols asks.excluded b)) (weighs (weights_of entries) policy asks.least a b le))
 
-by-reverse : (r p q s t : Bool) → p ≡ s → q ≡ t → (if r then p else q) ≡ (if r then s else t)
-by-reverse true p q s t e f = e
-by-reverse false p q s t e f = f
-
-edges-are : (asks : FlowAsks) (policy : Parts) (entries : List Entry) (excluded : List Node) → 1 ≤ asks.least → AreExcluded asks policy excluded
+edges-are : (asks : FlowAsks) (policy : Parts) (entries : List Entry) (excluded : List Node) → 1 ≤ asks.least → AreExcluded policy.symbols asks.excluded excluded
     → flow_edge (record { policy = policy; entries = entries; least = asks.least; excluded = excluded; reverse = asks.reverse }) ≡ is_edge asks policy (weights_of entries)
 edges-are asks policy entries excluded le same =
-    fun_ext (λ a. fun_ext (λ b. by-reverse asks.reverse _ _ _ _ (flow-is asks policy entries excluded asks.reverse b a le same) (flow-is asks policy entries excluded asks.reverse a b le same)))
+    fun_ext (λ a. fun_ext (λ b. either-way asks.reverse _ _ _ _ (flow-is asks policy entries excluded asks.reverse b a le same) (flow-is asks policy entries excluded asks.reverse a b le same)))
 
 -- what is listed of the graph is what is listed
-pub items-are : (asks : FlowAsks) (policy : Parts) (entries : List Entry) (excluded : List Node) (graph : FlowSearch) (reverse : Bool) (source : ℕ) (target : Option ℕ) → 1 ≤ asks.least → AreExcluded asks policy excluded
+pub items-are : (asks : FlowAsks) (policy : Parts) (entries : List Entry) (excluded : List Node) (graph : FlowSearch) (ends : Ends) → 1 ≤ asks.least → AreExcluded policy.symbols asks.excluded excluded
     → graph ≡ record { policy = policy; entries = entries; least = asks.least; excluded = excluded; reverse = asks.reverse }
-    → items_to (flow_words (weights_of graph.entries) graph.policy graph.least) (flow_edge graph) policy (has_bit excluded) reverse source target
-    ≡ items_to (flow_words (weights_of entries) policy asks.least) (is_edge asks policy (weights_of entries)) policy (is_excluded policy.symbols asks.excluded) reverse source target
-items-are asks policy entries excluded graph reverse source target le same is =
+    → items_between (flow_words (weights_of graph.entries) graph.policy graph.least) (flow_edge graph) policy (has_bit excluded) ends
+    ≡ items_between (flow_words (weights_of entries) policy asks.least) (is_edge asks policy (weights_of entries)) policy (is_excluded policy.symbols asks.excluded) ends
+items-are asks policy entries excluded graph ends le same is =
     let words = flow_words (weights_of entries) policy asks.least in
     let around : has_bit excluded ≡ is_excluded policy.symbols asks.excluded = fun_ext same in
-    ap (λ (g : FlowSearch). items_to (flow_words (weights_of g.entries) g.policy g.least) (flow_edge g) policy (has_bit excluded) reverse source target) is
-    ∙ ap (λ (edge : ℕ → ℕ → Bool). items_to words edge policy (has_bit excluded) reverse source target) (edges-are asks policy entries excluded le same)
-    ∙ ap (λ (among : ℕ → Bool). items_to words (is_edge asks policy (weights_of entries)) policy among reverse source target) around
-
--- the set that was made of the words
-pub excluded-are : (asks : FlowAsks) (policy : Parts) (excluded : List Node) (symbols : Symbols) (names given : List Named) → asks.excluded ≡ map named_view names → symbols ≡ policy.symbols → given ≡ names
-    → ((type : ℕ) → has_bit excluded type ≡ is_excluded symbols (map named_view given) type) → AreExcluded asks policy excluded
-excluded-are asks policy excluded symbols names given of is same h type =
-    let a : has_bit excluded type ≡ is_excluded policy.symbols (map named_view given) type = subst (λ (s : Symbols). has_bit excluded type ≡ is_excluded s (map named_view given) type) is (h type) in
-    a ∙ ap (λ ns. is_excluded policy.symbols ns type) (ap (map named_view) same ∙ sym of)
+    ap (λ (g : FlowSearch). items_between (flow_words (weights_of g.entries) g.policy g.least) (flow_edge g) policy (has_bit excluded) ends) is
+    ∙ ap (λ (edge : ℕ → ℕ → Bool). items_between words edge policy (has_bit excluded) ends) (edges-are asks policy entries excluded le same)
+    ∙ ap (λ (among : ℕ → Bool). items_between words (is_edge asks policy (weights_of entries)) policy among ends) around

@@ -10,7 +10,7 @@ use Rattle.se_status.specs.declared.Status.{Status}
 use Rattle.se_status.specs.declared.Status.TheVariants.{Done, BadMap, UnknownName, WriteFault, Memory}
 use Rattle.se_status.specs.Meeting.{Answer, refusal, text_unless}
 use Rattle.se_walks.specs.GraphItems.{items_from}
-use Rattle.se_walks.specs.TypeNames.{first_unknown, is_excluded, target_named, type_named, type_words}
+use Rattle.se_walks.specs.TypeNames.{ends_named, first_unknown, is_excluded, type_words}
 use Rattle.se_words.specs.FlowRequest.{FlowAsks}
 use Rattle.se_flow.specs.FlowTexts.{flow_words}
 
@@ -26,8 +26,8 @@ is_edge asks policy weights a b = if asks.reverse then is_listed asks policy wei
 -- the flows of the source, or all shortest walks of flows to the target
 abbrev pub flow_items : FlowAsks → Parts → Weights → List (List ℕ)
 flow_items asks policy weights =
-    items_from (flow_words weights policy asks.least) (is_edge asks policy weights) policy (is_excluded policy.symbols asks.excluded) asks.reverse (type_named policy asks.source.text)
-    (target_named policy asks.target)
+    items_from (flow_words weights policy asks.least) (is_edge asks policy weights) policy (is_excluded policy.symbols asks.excluded)
+    (ends_named policy asks.source asks.target asks.reverse)
 
 -- those that are asked for
 unfoldable pub flows_text : FlowAsks → Parts → Weights → List ℕ

@@ -5,18 +5,18 @@ use Rattle.pol_file.specs.declared.Parts.{Parts}
 use Rattle.perm_map.specs.PermissionMap.{Weights}
 use Rattle.flow_search.specs.Flows.{flow_rules, flow_weight}
 use Rattle.rule_text.specs.RuleTexts.{text_of_rule}
-use Rattle.se_walks.specs.WalkTexts.{EdgeWords, ends_text}
+use Rattle.se_walks.specs.WalkTexts.{EdgeWords}
 
 -- the line of a rule, after an indent
 unfoldable pub rule_line : Parts → List ℕ → ℕ → List ℕ
 rule_line policy indent number = indent ++ text_of_rule policy number ++ codes "\n"
 
--- `A -> B, weight V`, and the rules that give the flow at least a weight
+-- what stands behind the ends of a flow: `, weight V`, and the rules that give it at least a weight
 unfoldable pub flow_text : Weights → Parts → ℕ → List ℕ → ℕ → ℕ → List ℕ
 flow_text weights policy least indent from to =
-    ends_text policy.symbols from to ++ codes ", weight " ++ decimal (flow_weight weights policy from to) ++ codes "\n"
+    codes ", weight " ++ decimal (flow_weight weights policy from to) ++ codes "\n"
     ++ flat_map (rule_line policy indent) (flow_rules weights policy least from to)
 
 -- how seinfoflow writes the flows of a policy of at least a weight
 unfoldable pub flow_words : Weights → Parts → ℕ → EdgeWords
-flow_words weights policy least = record { word = codes "Flow"; symbols = policy.symbols; edge = flow_text weights policy least }
+flow_words weights policy least = record { word = codes "Flow"; symbols = policy.symbols; behind = flow_text weights policy least }

@@ -1,5 +1,5 @@
 // The answer of seinfoflow about a policy and a permission map.
-ghost use Rattle.std.specs.Prelude.{◌≡◌, ◌≤◌, IfSome, length};
+ghost use Rattle.std.specs.Prelude.{◌≡◌, ◌≤◌, length};
 ghost use Rattle.std.specs.List.{concat};
 ghost use Rattle.se_items.specs.Paging.{page};
 ghost use Rattle.se_items.specs.Writing.{Sends};
@@ -8,7 +8,7 @@ ghost use Rattle.perm_map.specs.PermissionMap.{weights_of};
 ghost use Rattle.se_words.specs.FlowRequest.{flow_view};
 ghost use Rattle.se_flow.specs.FlowAnswer.{IsOfMap, flow_answer, flows_text, is_edge};
 ghost use Rattle.se_flow.specs.FlowTexts.{flow_words};
-ghost use Rattle.se_walks.specs.GraphItems.{items_to};
+ghost use Rattle.se_walks.specs.GraphItems.{AreWithin, items_between};
 ghost use Rattle.se_walks.specs.TypeNames.{is_excluded};
 
 use crate::flow_texts::FlowTexts;
@@ -20,7 +20,7 @@ use rule_text::RuleTexts;
 use se_items::WriteEnd;
 use se_outside::Sink;
 use se_status::{Status, status_written};
-use se_walks::{Ends, Window, excluded_set, first_unknown, target_named, type_named, write_items};
+use se_walks::{Ends, Window, ends_named, excluded_set, first_unknown, write_items};
 use se_words::FlowRequest;
 use std::alloc::Global;
 
@@ -61,16 +61,8 @@ fn write_answer<'q, S: Sink>(
     ensures { Sends (S.written out.old) (S.written out.new) (S.faults out.old) (S.faults out.new)
         (flows_text (flow_view asks.now) policy.now (weights_of map.now)) result }
 {
-    let Some(source) = type_named(policy, asks.source.text.as_bytes()) else {
+    let Some(ends) = ends_named(policy, &asks.source, &asks.target, asks.reverse) else {
         return Ok(());
-    };
-    let Some(target) = target_named(policy, &asks.target) else {
-        return Ok(());
-    };
-    let ends = Ends {
-        source,
-        target,
-        reverse: asks.reverse,
     };
     write_between(alloc, policy, map, asks, ends, out)
 }
@@ -86,14 +78,11 @@ fn write_between<'q, S: Sink>(
     out: &mut S,
 ) -> Result<(), WriteEnd>
     requires reverse { ends.reverse ≡ asks.now.reverse }
-    requires source_low { 1 ≤ ends.source }
-    requires source_high { ends.source ≤ policy.now.symbols.types.nprim }
-    requires target_low { IfSome ends.target (λ target. 1 ≤ target) }
-    requires target_high { IfSome ends.target (λ target. target ≤ policy.now.symbols.types.nprim) }
+    requires types { AreWithin policy.now.symbols.types.nprim ends }
     ensures { Sends (S.written out.old) (S.written out.new) (S.faults out.old) (S.faults out.new)
-        (concat (page asks.now.from asks.now.limit (items_to (flow_words (weights_of map.now) policy.now asks.now.least)
+        (concat (page asks.now.from asks.now.limit (items_between (flow_words (weights_of map.now) policy.now asks.now.least)
         (is_edge (flow_view asks.now) policy.now (weights_of map.now)) policy.now
-        (is_excluded policy.now.symbols (flow_view asks.now).excluded) ends.reverse ends.source ends.target))) result }
+        (is_excluded policy.now.symbols (flow_view asks.now).excluded) ends))) result }
 {
     let Ok(excluded) = excluded_set(alloc, policy.symbols(), &asks.excluded) else {
         return Err(WriteEnd::Memory);

@@ -5,12 +5,12 @@ ghost use Rattle.pol_rules.specs.StoredRules.{stored_rules};
 ghost use Rattle.rule_order.specs.ListedOrder.{AreRules};
 ghost use Rattle.perm_map.specs.PermissionMap.{weights_of};
 ghost use Rattle.se_flow.specs.FlowTexts.{flow_text, rule_line};
-ghost use Rattle.se_walks.specs.WalkTexts.{ends_text};
 
 use flow_search::FlowGraph;
+use pol_symbols::Symbols;
 use pol_texts::push_decimal;
 use rule_text::RuleTexts;
-use se_walks::{EdgeTexts, push_ends};
+use se_walks::EdgeTexts;
 use std::alloc::AllocError;
 
 /// The texts of the flows of a graph, with those of the rules of its policy.
@@ -32,12 +32,12 @@ impl EdgeTexts for FlowTexts<'_, '_, '_> {
     }
 
     #[tactic(auto, unfolding(crate::specs::FlowTexts::flow_words))]
-    fn push_ends(&self, from: u32, to: u32, buffer: &mut Vec<u8>) -> Result<(), AllocError> {
-        push_graph_ends(self.graph, from, to, buffer)
+    fn symbols(&self) -> &Symbols<'_> {
+        self.graph.policy().symbols()
     }
 
     #[tactic(auto, unfolding(crate::specs::FlowTexts::flow_words))]
-    fn push_edge(
+    fn push_behind(
         &self,
         indent: &[u8],
         from: u32,
@@ -48,19 +48,7 @@ impl EdgeTexts for FlowTexts<'_, '_, '_> {
     }
 }
 
-// Adds the ends of a flow of a graph.
-fn push_graph_ends(
-    graph: &FlowGraph<'_>,
-    from: u32,
-    to: u32,
-    buffer: &mut Vec<u8>,
-) -> Result<(), AllocError>
-    ensures { OnOk result (buffer.new.items ≡ buffer.old.items ++ ends_text graph.now.policy.symbols from to) }
-{
-    push_ends(graph.policy().symbols(), from, to, buffer)
-}
-
-// Adds the ends of a flow, its weight, and the rules that give it.
+// Adds the weight of a flow, and the rules that give it.
 #[tactic(auto, unfolding(crate::specs::FlowTexts::flow_text))]
 fn push_flow(
     graph: &FlowGraph<'_>,
@@ -74,7 +62,6 @@ fn push_flow(
     ensures { OnOk result (buffer.new.items ≡ buffer.old.items ++ flow_text (weights_of graph.now.entries) graph.now.policy graph.now.least indent.now from to) }
 {
     let rules = graph.rules(*buffer.allocator(), from, to)?;
-    push_graph_ends(graph, from, to, buffer)?;
     buffer.extend_from_slice(b", weight ")?;
     push_decimal(buffer, u64::from(graph.weight(&rules, from, to)))?;
     buffer.extend_from_slice(b"\n")?;

@@ -1,3 +1,4 @@
 pub mod WalkSteps
 pub mod NumberedTexts
 pub mod NoItems
+pub mod AskedTypes

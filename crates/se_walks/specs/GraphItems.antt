@@ -1,9 +1,10 @@
 -- What is listed of a graph of types: the edges of a source, or all shortest walks from it to a target.
-use Rattle.std.specs.Prelude.{ℕ, Bool, ◌||◌, List, [], Option, Some, None, if◌then◌else◌}
+use Rattle.std.specs.Prelude.{ℕ, ◌≤◌, Bool, ◌||◌, List, [], Option, Some, None, IfSome, if◌then◌else◌}
 use Rattle.pol_file.specs.declared.Parts.{Parts}
 use Rattle.walk_enum.specs.Walks.{ends_of, least_walks}
 use Rattle.se_walks.specs.Numbered.{numbered}
 use Rattle.se_walks.specs.WalkTexts.{EdgeWords, end_item, walk_item}
+use Rattle.se_walks.specs.declared.graph_items.Ends.{Ends}
 
 -- the edges out of a type, or into it in the reverse, where the graph is turned round
 unfoldable pub edge_items : EdgeWords → (ℕ → ℕ → Bool) → Parts → Bool → ℕ → List (List ℕ)
@@ -19,7 +20,18 @@ abbrev pub items_to : EdgeWords → (ℕ → ℕ → Bool) → Parts → (ℕ �
 items_to words edge policy excluded reverse source None = edge_items words edge policy reverse source
 items_to words edge policy excluded reverse source (Some target) = walk_items words edge policy excluded source target
 
--- those of a source and of a target that words name
-abbrev pub items_from : EdgeWords → (ℕ → ℕ → Bool) → Parts → (ℕ → Bool) → Bool → Option ℕ → Option (Option ℕ) → List (List ℕ)
-items_from words edge policy excluded reverse (Some source) (Some target) = items_to words edge policy excluded reverse source target
-items_from words edge policy excluded reverse source target = []
+-- those between two ends
+abbrev pub items_between : EdgeWords → (ℕ → ℕ → Bool) → Parts → (ℕ → Bool) → Ends → List (List ℕ)
+items_between words edge policy excluded ends = items_to words edge policy excluded ends.reverse ends.source ends.target
+
+-- those between the ends that words name, if each of them names a type
+abbrev pub items_from : EdgeWords → (ℕ → ℕ → Bool) → Parts → (ℕ → Bool) → Option Ends → List (List ℕ)
+items_from words edge policy excluded None = []
+items_from words edge policy excluded (Some ends) = items_between words edge policy excluded ends
+
+-- the ends are among so many nodes
+pub record AreWithin (nodes : ℕ) (ends : Ends) : Type 0 where
+  pub source_low : 1 ≤ ends.source
+  pub source_high : ends.source ≤ nodes
+  pub target_low : IfSome ends.target (λ target. 1 ≤ target)
+  pub target_high : IfSome ends.target (λ target. target ≤ nodes)

@@ -10,6 +10,7 @@ use Rattle.rule_ends.specs.PlainTypes.{is_type_value}
 use Rattle.named_values.specs.Named.{is_named}
 use Rattle.se_options.specs.Options.{Named}
 use Rattle.se_status.specs.Meeting.{least}
+use Rattle.se_walks.specs.declared.graph_items.Ends.{Ends}
 
 -- a value that is a type's, and no attribute's
 abbrev pub plain_value : Parts → Option ℕ → Option ℕ
@@ -28,6 +29,14 @@ known (Some (Some value)) = Some (Some value)
 
 abbrev pub target_named : Parts → Option Named → Option (Option ℕ)
 target_named policy target = known (option_map (λ named. type_named policy named.text) target)
+
+-- the ends that are asked for, where each word names a type
+abbrev pub ends_if : Bool → Option ℕ → Option (Option ℕ) → Option Ends
+ends_if reverse (Some source) (Some target) = Some (record { source = source; target = target; reverse = reverse })
+ends_if reverse source target = None
+
+abbrev pub ends_named : Parts → Named → Option Named → Bool → Option Ends
+ends_named policy source target reverse = ends_if reverse (type_named policy source.text) (target_named policy target)
 
 -- the number of a word that names no type
 abbrev pub word_unless : Option ℕ → ℕ → Option ℕ

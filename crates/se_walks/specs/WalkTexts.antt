@@ -10,24 +10,29 @@ use Rattle.pol_symbols.specs.declared.Symbols.{Symbols}
 unfoldable pub ends_text : Symbols → ℕ → ℕ → List ℕ
 ends_text symbols from to = name_of (name_in symbols) Types from ++ codes " -> " ++ name_of (name_in symbols) Types to
 
--- A tool's texts: what an edge is called, and what stands behind its number, where its further lines have this indent.
+-- A tool's texts: what an edge is called, the symbols that name its ends, and what stands behind these, where its further lines
+-- have this indent.
 pub record EdgeWords : Type 0 where
   pub word : List ℕ
   pub symbols : Symbols
-  pub edge : List ℕ → ℕ → ℕ → List ℕ
+  pub behind : List ℕ → ℕ → ℕ → List ℕ
 
--- `WORD N: ` and what stands behind it
+-- `A -> B` and what stands behind it
+unfoldable pub edge_text : EdgeWords → List ℕ → ℕ → ℕ → List ℕ
+edge_text words indent from to = ends_text words.symbols from to ++ words.behind indent from to
+
+-- `WORD N: ` and the edge
 unfoldable pub edge_item : EdgeWords → ℕ → ℕ → ℕ → List ℕ
-edge_item words number from to = words.word ++ codes " " ++ decimal number ++ codes ": " ++ words.edge (codes "   ") from to
+edge_item words number from to = words.word ++ codes " " ++ decimal number ++ codes ": " ++ edge_text words (codes "   ") from to
 
 -- the same of an edge to a node or, in the reverse, from it; it is written forward
 abbrev pub end_item : EdgeWords → ℕ → Bool → ℕ → ℕ → List ℕ
 end_item words node reverse number end = if reverse then edge_item words number end node else edge_item words number node end
 
--- `   Step I: ` and what stands behind it, for the step after so many
+-- `   Step I: ` and the edge, for the step after so many
 unfoldable pub step_text : EdgeWords → List ℕ → ℕ → List ℕ
 step_text words walk before =
-    codes "   Step " ++ decimal (before + 1) ++ codes ": " ++ words.edge (codes "      ") (slice_index walk before) (slice_index walk (before + 1))
+    codes "   Step " ++ decimal (before + 1) ++ codes ": " ++ edge_text words (codes "      ") (slice_index walk before) (slice_index walk (before + 1))
 
 -- `Path N: A -> B, steps K`
 unfoldable pub heading_text : EdgeWords → ℕ → List ℕ → List ℕ

@@ -3,6 +3,7 @@ ghost use Rattle.std.specs.Prelude.{◌≡◌, ◌+◌, ◌<◌, ◌^◌, ◌++�
 ghost use Rattle.se_walks.specs.WalkTexts.{edge_item, end_item};
 
 use crate::EdgeTexts;
+use crate::ends_texts::push_edge;
 use pol_texts::push_decimal;
 use se_items::Items;
 use std::alloc::AllocError;
@@ -84,5 +85,5 @@ fn push_edge_item<T: EdgeTexts>(
     buffer.extend_from_slice(b" ")?;
     push_decimal(buffer, number)?;
     buffer.extend_from_slice(b": ")?;
-    texts.push_edge(b"   ", from, to, buffer)
+    push_edge(texts, b"   ", from, to, buffer)
 }

@@ -1,11 +1,11 @@
 // What is listed of a graph of types.
-ghost use Rattle.std.specs.Prelude.{◌≡◌, ◌≤◌, ◌||◌, IfSome};
+ghost use Rattle.std.specs.Prelude.{◌≡◌, ◌≤◌, ◌||◌};
 ghost use Rattle.std.specs.List.{concat};
 ghost use Rattle.pol_bitmap.specs.Nodes.{has_bit};
 ghost use Rattle.pol_file.specs.declared.Parts.{Parts};
 ghost use Rattle.se_items.specs.Paging.{page};
 ghost use Rattle.se_items.specs.Writing.{Sends};
-ghost use Rattle.se_walks.specs.GraphItems.{items_to, walk_items};
+ghost use Rattle.se_walks.specs.GraphItems.{AreWithin, items_between, walk_items};
 
 use crate::EdgeTexts;
 use crate::writing::{Window, write_edges, write_walks};
@@ -35,14 +35,10 @@ pub fn write_items<G: Graph, T: EdgeTexts, S: Sink>(
     window: Window,
     out: &mut S,
 ) -> Result<(), WriteEnd>
-    requires source_low { 1 ≤ ends.source }
-    requires source_high { ends.source ≤ G.nodes graph.now }
-    requires target_low { IfSome ends.target (λ target. 1 ≤ target) }
-    requires target_high { IfSome ends.target (λ target. target ≤ G.nodes graph.now) }
+    requires { AreWithin (G.nodes graph.now) ends }
     ensures { (policy : Parts) → G.nodes graph.now ≡ policy.symbols.types.nprim
         → Sends (S.written out.old) (S.written out.new) (S.faults out.old) (S.faults out.new)
-        (concat (page window.from window.limit (items_to (T.words texts.now) (G.edge graph.now) policy (has_bit excluded.now)
-        ends.reverse ends.source ends.target))) result }
+        (concat (page window.from window.limit (items_between (T.words texts.now) (G.edge graph.now) policy (has_bit excluded.now) ends))) result }
 {
     match ends.target {
         None => write_edges(alloc, graph, texts, ends.source, ends.reverse, window, out),

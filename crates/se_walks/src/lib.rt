@@ -11,7 +11,6 @@ mod walk_texts;
 mod writing;
 
 pub use edge_texts::EdgeTexts;
-pub use ends_texts::push_ends;
 pub use graph_items::{Ends, write_items};
-pub use type_names::{excluded_set, first_unknown, target_named, type_named};
+pub use type_names::{ends_named, excluded_set, first_unknown};
 pub use writing::Window;

@@ -5,8 +5,10 @@ ghost use Rattle.std.specs.Option.{option_to_list};
 ghost use Rattle.pol_bitmap.specs.Nodes.{has_bit};
 ghost use Rattle.se_options.specs.Options.{named_view};
 ghost use Rattle.se_status.specs.Meeting.{least};
-ghost use Rattle.se_walks.specs.TypeNames.{first_unknown, is_excluded, plain_value, target_named, type_named, type_words, with_unknown};
+ghost use Rattle.se_walks.specs.GraphItems.{AreWithin};
+ghost use Rattle.se_walks.specs.TypeNames.{ends_named, first_unknown, is_excluded, plain_value, target_named, type_named, type_words, with_unknown};
 
+use crate::Ends;
 use named_values::values_named;
 use pol_bitmap::Set;
 use pol_datums::Flavour;
@@ -17,9 +19,34 @@ use pol_symbols::Symbols;
 use se_options::Named;
 use std::alloc::{AllocError, Global};
 
-/// The value of the type that has a name or an alias. `None` where the name is an attribute's, or none.
+/// The ends that are asked for: a source, a target or none, and whether edges are asked for in the reverse. `None` where a word
+/// names no type.
+pub fn ends_named(
+    policy: &Policy<'_>,
+    source: &Named<'_>,
+    target: &Option<Named<'_>>,
+    reverse: bool,
+) -> Option<Ends>
+    ensures ends { result ≡ ends_named policy.now (named_view source.now) (option_map named_view target.now) reverse }
+    ensures types { IfSome result (AreWithin policy.now.symbols.types.nprim) }
+    ensures reverse { IfSome result (λ ends. ends.reverse ≡ reverse) }
+{
+    let Some(source) = type_named(policy, source.text.as_bytes()) else {
+        return None;
+    };
+    let Some(target) = target_named(policy, target) else {
+        return None;
+    };
+    Some(Ends {
+        source,
+        target,
+        reverse,
+    })
+}
+
+// The value of the type that has a name or an alias. `None` where the name is an attribute's, or none.
 #[tactic(auto, unfolding(crate::specs::TypeNames::type_named))]
-pub fn type_named(policy: &Policy<'_>, name: &[u8]) -> Option<u32>
+fn type_named(policy: &Policy<'_>, name: &[u8]) -> Option<u32>
     ensures value { result ≡ type_named policy.now name.now }
     ensures low { IfSome result (λ value. 1 ≤ value) }
     ensures high { IfSome result (λ value. value ≤ policy.now.symbols.types.nprim) }
@@ -30,8 +57,8 @@ pub fn type_named(policy: &Policy<'_>, name: &[u8]) -> Option<u32>
     }
 }
 
-/// The value of a target, if one is asked for. `None` where its word names no type.
-pub fn target_named(policy: &Policy<'_>, target: &Option<Named<'_>>) -> Option<Option<u32>>
+// The value of a target, if one is asked for. `None` where its word names no type.
+fn target_named(policy: &Policy<'_>, target: &Option<Named<'_>>) -> Option<Option<u32>>
     ensures value { result ≡ target_named policy.now (option_map named_view target.now) }
     ensures low { IfSome result (λ target. IfSome target (λ value. 1 ≤ value)) }
     ensures high { IfSome result (λ target. IfSome target (λ value. value ≤ policy.now.symbols.types.nprim)) }

@@ -4,6 +4,7 @@ ghost use Rattle.std.specs.List.{flat_map, range_with_len};
 ghost use Rattle.se_walks.specs.WalkTexts.{heading_text, step_text, walk_item};
 
 use crate::EdgeTexts;
+use crate::ends_texts::{push_edge, push_ends};
 use pol_texts::push_decimal;
 use std::alloc::AllocError;
 use walk_enum::Walk;
@@ -38,7 +39,7 @@ fn push_heading<T: EdgeTexts>(
     buffer.extend_from_slice(b"Path ")?;
     push_decimal(buffer, number)?;
     buffer.extend_from_slice(b": ")?;
-    texts.push_ends(walk.node(0), walk.node(last), buffer)?;
+    push_ends(texts.symbols(), walk.node(0), walk.node(last), buffer)?;
     buffer.extend_from_slice(b", steps ")?;
     push_decimal(buffer, u64::from(last))?;
     buffer.extend_from_slice(b"\n")
@@ -72,5 +73,11 @@ fn push_step<T: EdgeTexts>(
     buffer.extend_from_slice(b"   Step ")?;
     push_decimal(buffer, u64::from(before) + 1)?;
     buffer.extend_from_slice(b": ")?;
-    texts.push_edge(b"      ", walk.node(before), walk.node(before + 1), buffer)
+    push_edge(
+        texts,
+        b"      ",
+        walk.node(before),
+        walk.node(before + 1),
+        buffer,
+    )
 }

@@ -4,7 +4,8 @@ use Rattle.dom_trans.specs.Inner.DomainEdges.{Domains}
 use Rattle.se_items.specs.Paging.{page}
 use Rattle.se_items.specs.Writing.{Sends}
 use Rattle.se_words.specs.DomRequest.{dom_view}
-use Rattle.se_dom.proofs.Edges.{excluded-are, items-are}
+use Rattle.se_walks.proofs.AskedTypes.{excluded-are}
+use Rattle.se_dom.proofs.Edges.{items-are}
 use Rattle.se_dom.proofs.dom.write_between.Goals as goal
 
 pub returns : goal.returns
@@ -16,6 +17,6 @@ returns g c =
     λ items. Sends (g.S.Sink.written c.args.out.now) (g.S.Sink.written c.write_graph.new.out) (g.S.Sink.faults c.args.out.now) (g.S.Sink.faults c.write_graph.new.out)
     (concat (page c.args.asks.now.from c.args.asks.now.limit items)) c.write_graph.result in
     subst P
-    (items-are asks policy c.in-Ok.excluded graph c.args.ends.reverse c.args.ends.source c.args.ends.target
-    (excluded-are asks policy c.in-Ok.excluded c.symbols.result.now c.args.asks.now.excluded.items c.deref.result.now refl c.symbols.ensures c.deref.ensures.value c.in-Ok.ensures) refl)
+    (items-are asks policy c.in-Ok.excluded graph c.args.ends
+    (excluded-are c.symbols.result.now policy.symbols c.args.asks.now.excluded.items c.deref.result.now c.in-Ok.excluded c.symbols.ensures c.deref.ensures.value c.in-Ok.ensures) refl)
     c.write_graph.ensures

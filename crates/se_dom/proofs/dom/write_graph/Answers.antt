@@ -4,7 +4,7 @@ use Rattle.pol_bitmap.specs.Nodes.{has_bit}
 use Rattle.dom_trans.specs.Inner.DomainEdges.{Domains, domain_edge}
 use Rattle.se_items.specs.Paging.{page}
 use Rattle.se_items.specs.Writing.{Sends}
-use Rattle.se_walks.specs.GraphItems.{items_to}
+use Rattle.se_walks.specs.GraphItems.{items_between}
 use Rattle.se_dom.specs.DomTexts.{dom_words}
 use Rattle.se_dom.proofs.dom.write_graph.Goals as goal
 
@@ -13,5 +13,5 @@ returns g c =
     let P : Domains → Type 0 =
     λ domains. Sends (g.S.Sink.written c.args.out.now) (g.S.Sink.written c.write_listed.new.out) (g.S.Sink.faults c.args.out.now) (g.S.Sink.faults c.write_listed.new.out)
     (concat (page c.args.asks.now.from c.args.asks.now.limit
-    (items_to (dom_words domains.policy) (domain_edge domains) domains.policy (has_bit c.args.excluded.now) c.args.ends.reverse c.args.ends.source c.args.ends.target))) c.write_listed.result in
+    (items_between (dom_words domains.policy) (domain_edge domains) domains.policy (has_bit c.args.excluded.now) c.args.ends))) c.write_listed.result in
     subst P c.in-Ok.ensures c.write_listed.ensures

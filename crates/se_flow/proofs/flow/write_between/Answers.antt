@@ -4,7 +4,8 @@ use Rattle.flow_search.specs.Inner.FlowEdges.{FlowSearch, flow_count}
 use Rattle.se_items.specs.Paging.{page}
 use Rattle.se_items.specs.Writing.{Sends}
 use Rattle.se_words.specs.FlowRequest.{flow_view}
-use Rattle.se_flow.proofs.Edges.{excluded-are, items-are}
+use Rattle.se_walks.proofs.AskedTypes.{excluded-are}
+use Rattle.se_flow.proofs.Edges.{items-are}
 use Rattle.se_flow.proofs.flow.write_between.Goals as goal
 
 pub returns : goal.returns
@@ -17,6 +18,6 @@ returns g c =
     λ items. Sends (g.S.Sink.written c.args.out.now) (g.S.Sink.written c.write_items.new.out) (g.S.Sink.faults c.args.out.now) (g.S.Sink.faults c.write_items.new.out)
     (concat (page c.args.asks.now.from c.args.asks.now.limit items)) c.write_items.result in
     subst P
-    (items-are asks policy c.args.map.now c.in-Ok.excluded graph c.args.ends.reverse c.args.ends.source c.args.ends.target c.args.asks.now.at_least_one
-    (excluded-are asks policy c.in-Ok.excluded c.symbols.result.now c.args.asks.now.excluded.items c.deref.result.now refl c.symbols.ensures c.deref.ensures.value c.in-Ok.ensures) c.in-Ok-new.ensures)
+    (items-are asks policy c.args.map.now c.in-Ok.excluded graph c.args.ends c.args.asks.now.at_least_one
+    (excluded-are c.symbols.result.now policy.symbols c.args.asks.now.excluded.items c.deref.result.now c.in-Ok.excluded c.symbols.ensures c.deref.ensures.value c.in-Ok.ensures) c.in-Ok-new.ensures)
     (c.write_items.ensures policy nodes)
