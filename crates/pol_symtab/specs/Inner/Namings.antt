@@ -1,4 +1,4 @@
--- What the records of a table name, whatever else they say. Nothing here is promised to a caller.
+-- What the records of a table name, whatever else they say: what `TableNames` is asked for.
 use Rattle.std.specs.Prelude.{ℕ, Bool, List, map}
 use Rattle.pol_cursor.specs.References.{Placed}
 use Rattle.pol_symtab.specs.SymbolTables.{Table}
