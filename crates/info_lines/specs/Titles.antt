@@ -1,4 +1,5 @@
--- What stands over each listing (the headings of SETools' seinfo).
+-- What stands over each listing: the headings of SETools' seinfo, but for `Default Rules` and `Policy Capabilities`, which are this
+-- project's own.
 use Rattle.std.specs.Prelude.{ℕ, List, codes}
 use Rattle.info_lines.specs.declared.listing.Listing.{Listing}
 use Rattle.info_lines.specs.declared.listing.Listing.TheVariants.{Classes, Commons, Constraints, Validatetrans, Defaults, Roles, Types, Attributes, Users, Booleans, Sensitivities, Categories, InitialSids, FsUses, Genfscons, Netifcons, Nodecons, Portcons, Ibpkeycons, Ibendportcons, Permissives, Capabilities, Typebounds}

@@ -1,4 +1,5 @@
--- A permission map: how information flows by the permissions of classes. The whole list of lines decides, in their order.
+-- A permission map: how information flows by the permissions of classes (the file that SETools' seinfoflow reads; what is refused is
+-- this project's own). The whole list of lines decides, in their order.
 use Rattle.std.specs.Prelude.{◌≡◌, ℕ, zero, suc, ◌+◌, Bool, ◌&&◌, List, [], ◌∷◌, ◌++◌, length, find, reverse, option_map, Option, Result, Ok, Err, ⊤}
 use Rattle.std.specs.Str.{bytes_eq}
 use Rattle.perm_map.specs.declared.direction.Direction.{Direction}

@@ -86,11 +86,11 @@ made_classes = file_class (codes "file") 1 (codes "entrypoint") ∷ file_class (
 
 -- ---- roles and types
 
--- a role that dominates itself alone
+-- a role without bounds, which dominates these roles and has these types
 abbrev pub role : List ℕ → ℕ → List Node → List Node → RoleRec
 role name value dominates types = record { value = value; bounds = 0; name = name; dominates = dominates; types = types }
 
--- The second has all types.
+-- Each dominates itself alone. The second has all types.
 unfoldable pub made_roles : ℕ → List RoleRec
 made_roles n = role (codes "object_r") 1 (set_of (0 ∷ [])) (set_of []) ∷ role (codes "system_r") 2 (set_of (1 ∷ [])) (first_bits n) ∷ []
 
