@@ -19,8 +19,8 @@ use Rattle.se_status.specs.declared.Status.TheVariants.{Done, Usage, ReadFault, 
 use Rattle.se_status.specs.Meeting.{Concludes, IsWritten, done, refusal}
 use Rattle.se_words.specs.SearchRequest.{SearchAsks}
 use Rattle.se_search.specs.SearchAnswer.{search_answer, search_text, status_for}
-use Rattle.se_search.specs.SearchPatterns.{ComesAfter, IsRead, IsOfSearch, TriedUntil, TriesPatterns, pattern_words, status_of}
-use Rattle.se_search.proofs.WordsRise.{Rises, after-rises, order-rises}
+use Rattle.se_search.specs.SearchPatterns.{ComesAfter, ComesBefore, IsRead, IsOfSearch, TriedUntil, TriesPatterns, pattern_words, status_of}
+use Rattle.se_search.proofs.WordsRise.{Rises, after-rises, before-rises, order-rises}
 use Rattle.se_search.proofs.Refused.{comes-to, passed-here, passed-read, passes-skip, pattern-passes, refused-here}
 
 written-until : (tried : List Given) (past now : ℕ) (status : Status) → IsWritten status → All IsRead tried → TriedUntil tried [] past now status
@@ -81,6 +81,12 @@ after-given criteria before given after word is at =
     let rises = subst Rises is (order-rises criteria) in
     rw (← at) (after-rises before given after rises)
 
+to-word : (criteria : Criteria) (before : List Given) (given : Given) (after : List Given) (word : ℕ) → in_word_order criteria ≡ before ++ given ∷ after → given.criterion.word ≡ word
+    → All (ComesBefore word) (filter is_pattern_word before)
+to-word criteria before given after word is at =
+    let rises = subst Rises is (order-rises criteria) in
+    All-filter is_pattern_word (ComesBefore word) before (rw (← at) (before-rises before given after rises))
+
 from-word : (criteria : Criteria) (before : List Given) (given : Given) (after : List Given) (word : ℕ) → in_word_order criteria ≡ before ++ given ∷ after → given.criterion.word ≡ word
     → All (ComesAfter word) (filter is_pattern_word (given ∷ after))
 from-word criteria before given after word is at =
@@ -103,7 +109,11 @@ refused-tried policy criteria old new past now word NotThere refused later = rec
   others = filter is_pattern_word (refused.given ∷ refused.stops.after);
   order = order-of criteria refused.before (refused.given ∷ refused.stops.after) refused.stops.order;
   asked = refused.asked;
-  until = (passed-read policy criteria refused.before refused.stops.passed, from-word criteria refused.before refused.given refused.stops.after word refused.stops.order refused.stops.word_is);
+  until = (
+    passed-read policy criteria refused.before refused.stops.passed,
+    to-word criteria refused.before refused.given refused.stops.after word refused.stops.order refused.stops.word_is,
+    from-word criteria refused.before refused.given refused.stops.after word refused.stops.order refused.stops.word_is,
+  );
   later = later;
 }
 refused-tried policy criteria old new past now word NoNumber refused later = record {
@@ -111,7 +121,11 @@ refused-tried policy criteria old new past now word NoNumber refused later = rec
   others = filter is_pattern_word (refused.given ∷ refused.stops.after);
   order = order-of criteria refused.before (refused.given ∷ refused.stops.after) refused.stops.order;
   asked = refused.asked;
-  until = (passed-read policy criteria refused.before refused.stops.passed, from-word criteria refused.before refused.given refused.stops.after word refused.stops.order refused.stops.word_is);
+  until = (
+    passed-read policy criteria refused.before refused.stops.passed,
+    to-word criteria refused.before refused.given refused.stops.after word refused.stops.order refused.stops.word_is,
+    from-word criteria refused.before refused.given refused.stops.after word refused.stops.order refused.stops.word_is,
+  );
   later = later;
 }
 

@@ -8,7 +8,7 @@ use Rattle.rule_criteria.specs.declared.Criteria.{Criteria}
 use Rattle.rule_query.specs.declared.Aspect.TheVariants.{Source, Target, Class, Permissions, Numbers, Default, Booleans}
 use Rattle.rule_query.specs.Given.{Given, in_word_order, with_given, with_all, given_as}
 use Rattle.std.proofs.lemmas.List.Elements.{All-head, All-nil, All-tail}
-use Rattle.se_search.specs.SearchPatterns.{ComesAfter}
+use Rattle.se_search.specs.SearchPatterns.{ComesAfter, ComesBefore}
 
 -- each comes after those before it
 abbrev pub Rises : List Given → Type 0
@@ -59,3 +59,13 @@ order-rises criteria =
 pub after-rises : (before : List Given) (given : Given) (after : List Given) → Rises (before ++ given ∷ after) → All (ComesAfter given.criterion.word) after
 after-rises [] given after rises = rises.0
 after-rises (one ∷ before) given after rises = after-rises before given after rises.1
+
+at-middle : (P : Given → Type 0) (before : List Given) (given : Given) (after : List Given) → All P (before ++ given ∷ after) → P given
+at-middle P [] given after h = All-head P given after h
+at-middle P (one ∷ before) given after h = at-middle P before given after (All-tail P one (before ++ given ∷ after) h)
+
+-- and those before it come before it
+pub before-rises : (before : List Given) (given : Given) (after : List Given) → Rises (before ++ given ∷ after) → All (ComesBefore given.criterion.word) before
+before-rises [] given after rises = All-nil (ComesBefore given.criterion.word)
+before-rises (one ∷ before) given after rises =
+    All-cons (ComesBefore given.criterion.word) one before (at-middle (ComesAfter one.criterion.word) before given after rises.0) (before-rises before given after rises.1)

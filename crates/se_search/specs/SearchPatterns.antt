@@ -24,6 +24,10 @@ IsRead given = IsPatternText given.criterion.text
 abbrev pub ComesAfter : ℕ → Given → Type 0
 ComesAfter word given = word ≤ given.criterion.word
 
+-- a word does not come behind the one of this number
+abbrev pub ComesBefore : ℕ → Given → Type 0
+ComesBefore word given = given.criterion.word ≤ word
+
 -- The last word that was tried is the one of this number, and was not built; those before it are patterns.
 pub record LastIsFaulty (tried : List Given) (past now word : ℕ) (kind : PatternKind) : Type 0 where
   pub front : List Given
@@ -38,9 +42,9 @@ abbrev pub TriedUntil : List Given → List Given → ℕ → ℕ → Status →
 -- all were, and are patterns
 TriedUntil tried others past now Done = (others ≡ []) × All IsRead tried
 TriedUntil tried others past now WriteFault = (others ≡ []) × All IsRead tried
--- those before the word that is refused were, and are patterns
-TriedUntil tried others past now (UnknownName word) = All IsRead tried × All (ComesAfter word) others
-TriedUntil tried others past now (BadNumber word) = All IsRead tried × All (ComesAfter word) others
+-- those before the word that is refused were, and none behind it, and they are patterns
+TriedUntil tried others past now (UnknownName word) = All IsRead tried × All (ComesBefore word) tried × All (ComesAfter word) others
+TriedUntil tried others past now (BadNumber word) = All IsRead tried × All (ComesBefore word) tried × All (ComesAfter word) others
 -- and it was the last, if it is one of them
 TriedUntil tried others past now (BadPattern word kind) = LastIsFaulty tried past now word kind × All (ComesAfter word) others
 TriedUntil tried others past now Memory = ⊤
