@@ -1,11 +1,10 @@
 -- The rules that are found, and their lines.
-use Rattle.std.proofs.Common.{◌≡◌, ◌∙◌, ◌≤◌, ◌<◌, ◌+◌, ℕ, zero, suc, Bool, true, false, cond, List, [], ◌∷◌, Option, length, map, take, drop, refl, sym, ap, arith, subst}
-use Rattle.std.specs.List.{All, concat, filter, fold, range_with_len}
-use Rattle.std.proofs.lemmas.List.FromFn.{length-range_with_len}
+use Rattle.std.proofs.Common.{◌≡◌, ◌∙◌, ◌≤◌, ◌<◌, ℕ, zero, suc, List, [], ◌∷◌, Option, length, map, take, drop, refl, sym, ap, arith, subst}
+use Rattle.std.specs.List.{All, concat, range_with_len}
 use Rattle.std.proofs.lemmas.List.Elements.{All-filter, All-cons}
 use Rattle.pol_file.specs.declared.Parts.{Parts}
 use Rattle.pol_rules.specs.StoredRules.{stored_rules}
-use Rattle.rule_order.specs.ListedOrder.{AreRules, in_rule_order, is_listed_before, ordered_by, with_number}
+use Rattle.rule_order.specs.ListedOrder.{AreRules, in_rule_order}
 use Rattle.rule_query.specs.Meeting.{meeting, meets}
 use Rattle.rule_criteria.specs.declared.Criteria.{Criteria}
 use Rattle.se_items.specs.Paging.{limited, most_items, page}
@@ -13,6 +12,7 @@ use Rattle.se_words.specs.SearchRequest.{SearchAsks}
 use Rattle.se_search.specs.SearchAnswer.{found_rules, rule_line, rules_text}
 use Rattle.std.proofs.lemmas.List.Elements.{All-head, All-nil, All-tail}
 use Rattle.rule_order.proofs.OrderedRules.{all-rules, ordered-rules}
+use Rattle.rule_query.proofs.FoundRules.{found_are_few}
 
 take-mapped : {A B : Type 0} (f : A → B) (k : ℕ) (xs : List A) → take k (map f xs) ≡ map f (take k xs)
 take-mapped f zero xs = refl
@@ -37,42 +37,9 @@ listed-are-rules policy criteria most numbers is =
     let P : ℕ → Type 0 = λ number. number < length (stored_rules policy) in
     subst (All P) (sym is) (All-taken P most (in_rule_order policy (meeting policy criteria)) (found-are-rules policy criteria (in_rule_order policy (meeting policy criteria)) refl))
 
-put-length : (before : ℕ → ℕ → Bool) (x : ℕ) (ys : List ℕ) → length (with_number before x ys) ≡ suc (length ys)
-put-length before x [] = refl
-put-length before x (y ∷ ys) = by (before y x) (put-length before x ys)
-  where
-    by : (test : Bool) → length (with_number before x ys) ≡ suc (length ys) → length (cond test (y ∷ with_number before x ys) (x ∷ y ∷ ys)) ≡ suc (suc (length ys))
-    by true e = ap suc e
-    by false e = refl
-
-sorted-length : (before : ℕ → ℕ → Bool) (done xs : List ℕ) → length (fold (λ sorted number. with_number before number sorted) done xs) ≡ length xs + length done
-sorted-length before done [] = omega arith
-sorted-length before done (x ∷ xs) =
-    let rest = sorted-length before (with_number before x done) xs in
-    let put = put-length before x done in
-    omega (arith, rest, put)
-
-order-length : (policy : Parts) (xs : List ℕ) → length (in_rule_order policy xs) ≡ length xs
-unfolding ordered_by
-order-length policy xs = let e = sorted-length (is_listed_before policy) [] xs in omega (arith, e)
-
-kept-length : (p : ℕ → Bool) (xs : List ℕ) → length (filter p xs) ≤ length xs
-kept-length p [] = omega arith
-kept-length p (x ∷ xs) = by (p x) (kept-length p xs)
-  where
-    by : (test : Bool) → length (filter p xs) ≤ length xs → length (cond test (x ∷ filter p xs) (filter p xs)) ≤ suc (length xs)
-    by true le = omega (arith, le)
-    by false le = omega (arith, le)
-
 -- no more are found than there are
 pub few-found : (policy : Parts) (criteria : Criteria) (numbers : List ℕ) → numbers ≡ in_rule_order policy (meeting policy criteria) → length numbers ≤ length (stored_rules policy)
-few-found policy criteria numbers is =
-    let n = length (stored_rules policy) in
-    let kept = kept-length (meets policy criteria) (range_with_len 0 n) in
-    let all = length-range_with_len 0 n in
-    let ordered = order-length policy (meeting policy criteria) in
-    let same = ap length is in
-    omega (arith, kept, all, ordered, same)
+few-found policy criteria numbers is = rw is (found_are_few policy criteria)
 
 listed-page : {A : Type 0} (f : A → List ℕ) (from : ℕ) (limit : Option ℕ) (xs : List A) → limited limit (drop from (map f (take most_items xs))) ≡ page from limit (map f xs)
 unfolding page
