@@ -3,12 +3,14 @@
 use Rattle.std.specs.Prelude.{ℕ, Bool, true, false, not, ◌&&◌, ◌||◌, Option, Some, None, List, [], ◌∷◌, is_some, map, if◌then◌else◌}
 use Rattle.std.specs.List.{list_any, list_all, filter}
 use Rattle.pol_fields.specs.declared.TableKind.{TableKind}
-use Rattle.pol_fields.specs.declared.TableKind.TheVariants.{Classes, Roles, Types, Booleans}
+use Rattle.pol_fields.specs.declared.TableKind.TheVariants.{Classes, Booleans}
 use Rattle.pol_commons.specs.declared.PermissionRec.{PermissionRec}
 use Rattle.pol_symbols.specs.PolicySymbols.{value_in}
 use Rattle.pol_symbols.specs.declared.Symbols.{Symbols}
 use Rattle.pol_rules.specs.declared.RuleKind.{RuleKind}
 use Rattle.pol_rules.specs.declared.RuleKind.TheVariants.{Allow, Auditallow, Dontaudit, AllowXperm, AuditallowXperm, DontauditXperm, TypeTransition, TypeChange, TypeMember, RoleAllow, RoleTransition, RangeTransition}
+use Rattle.pol_rules.specs.DeclaredRules.{default_table}
+use Rattle.pol_rules.specs.RuleOrder.{source_table, target_table}
 use Rattle.rule_criteria.specs.Elements.{elements_of}
 use Rattle.rule_criteria.specs.Modes.{is_pattern}
 use Rattle.rule_query.specs.declared.given.Aspect.{Aspect}
@@ -16,32 +18,19 @@ use Rattle.rule_query.specs.declared.given.Aspect.TheVariants as aspects
 use Rattle.rule_query.specs.declared.refusing.Refusal.{Refusal}
 use Rattle.rule_query.specs.declared.refusing.Refusal.TheVariants.{NotThere, NoNumber}
 use Rattle.rule_query.specs.Given.{Given}
-use Rattle.rule_tests.specs.AskedKinds.{is_any_asked}
+use Rattle.rule_tests.specs.AskedKinds.{is_kind_asked}
 use Rattle.rule_tests.specs.Permissions.{is_among}
 use Rattle.rule_tests.specs.Numbers.{span_of}
 
--- ---- the kinds that are asked
+-- ---- the kinds of rules
 
--- the kinds whose sources are types, and those whose sources are roles
-abbrev pub type_sources : List RuleKind
-type_sources = Allow ∷ Auditallow ∷ Dontaudit ∷ AllowXperm ∷ AuditallowXperm ∷ DontauditXperm ∷ TypeTransition ∷ TypeChange ∷ TypeMember ∷ RangeTransition ∷ []
+-- all of them, which have a source and a target each
+abbrev pub all_kinds : List RuleKind
+all_kinds = Allow ∷ Auditallow ∷ Dontaudit ∷ AllowXperm ∷ AuditallowXperm ∷ DontauditXperm ∷ TypeTransition ∷ TypeChange ∷ TypeMember ∷ RoleAllow ∷ RoleTransition ∷ RangeTransition ∷ []
 
-abbrev pub role_sources : List RuleKind
-role_sources = RoleAllow ∷ RoleTransition ∷ []
-
--- the same of their targets
-abbrev pub type_targets : List RuleKind
-type_targets = Allow ∷ Auditallow ∷ Dontaudit ∷ AllowXperm ∷ AuditallowXperm ∷ DontauditXperm ∷ TypeTransition ∷ TypeChange ∷ TypeMember ∷ RoleTransition ∷ RangeTransition ∷ []
-
-abbrev pub role_targets : List RuleKind
-role_targets = RoleAllow ∷ []
-
--- and of their defaults
-abbrev pub type_defaults : List RuleKind
-type_defaults = TypeTransition ∷ TypeChange ∷ TypeMember ∷ []
-
-abbrev pub role_defaults : List RuleKind
-role_defaults = RoleTransition ∷ []
+-- those whose rules have a default
+abbrev pub default_kinds : List RuleKind
+default_kinds = TypeTransition ∷ TypeChange ∷ TypeMember ∷ RoleTransition ∷ []
 
 -- ---- names
 
@@ -49,9 +38,9 @@ role_defaults = RoleTransition ∷ []
 abbrev pub is_missing : Symbols → TableKind → List ℕ → Bool
 is_missing symbols table name = not (is_some (value_in symbols table name))
 
--- A name is looked up in types where a kind is asked for which it is one, in roles alike, and is missing in one of them.
-abbrev pub is_end_missing : Symbols → List Bool → List RuleKind → List RuleKind → List ℕ → Bool
-is_end_missing symbols kinds of_types of_roles name = is_any_asked kinds of_types && is_missing symbols Types name || is_any_asked kinds of_roles && is_missing symbols Roles name
+-- A name is looked up in the table of each kind that is asked, of some kinds, and is missing in one of them.
+abbrev pub is_end_missing : Symbols → List Bool → List RuleKind → (RuleKind → TableKind) → List ℕ → Bool
+is_end_missing symbols kinds some table_of name = list_any (λ kind. is_kind_asked kinds kind && is_missing symbols (table_of kind) name) some
 
 -- a permission of the name is among some
 abbrev pub is_permission_of : List PermissionRec → List ℕ → Bool
@@ -77,12 +66,12 @@ refuse_if test refusal = if test then Some refusal else None
 
 -- that of a criterion that is no pattern
 abbrev pub refusal_of_names : Symbols → List Bool → Aspect → List ℕ → Option Refusal
-refusal_of_names symbols kinds aspects.Source text = refuse_if (is_end_missing symbols kinds type_sources role_sources text) NotThere
-refusal_of_names symbols kinds aspects.Target text = refuse_if (is_end_missing symbols kinds type_targets role_targets text) NotThere
+refusal_of_names symbols kinds aspects.Source text = refuse_if (is_end_missing symbols kinds all_kinds source_table text) NotThere
+refusal_of_names symbols kinds aspects.Target text = refuse_if (is_end_missing symbols kinds all_kinds target_table text) NotThere
 refusal_of_names symbols kinds aspects.Class text = refuse_if (list_any (is_missing symbols Classes) (elements_of text)) NotThere
 refusal_of_names symbols kinds aspects.Permissions text = refuse_if (not (list_all (is_permission symbols) (elements_of text))) NotThere
 refusal_of_names symbols kinds aspects.Numbers text = refuse_if (not (list_all (λ element. is_some (span_of element)) (elements_of text))) NoNumber
-refusal_of_names symbols kinds aspects.Default text = refuse_if (is_end_missing symbols kinds type_defaults role_defaults text) NotThere
+refusal_of_names symbols kinds aspects.Default text = refuse_if (is_end_missing symbols kinds default_kinds default_table text) NotThere
 refusal_of_names symbols kinds aspects.Booleans text = refuse_if (list_any (is_missing symbols Booleans) (elements_of text)) NotThere
 
 -- a pattern is not refused so

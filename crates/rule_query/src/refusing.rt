@@ -1,15 +1,17 @@
 // Which criteria are refused by their names and numbers.
 ghost use Rattle.std.specs.Prelude.{◌≡◌, IfOk, is_some};
 ghost use Rattle.std.specs.List.{list_all, list_any};
+ghost use Rattle.pol_rules.specs.DeclaredRules.{default_table};
+ghost use Rattle.pol_rules.specs.RuleOrder.{source_table, target_table};
 ghost use Rattle.rule_query.specs.Given.{shown};
 ghost use Rattle.rule_tests.specs.Numbers.{span_of};
-ghost use Rattle.rule_query.specs.Refusals.{is_end_missing, is_missing, is_pattern_word, is_permission, is_permission_of, may_be_pattern, refusal_of, refusal_of_names, refuse_if};
+ghost use Rattle.rule_query.specs.Refusals.{all_kinds, default_kinds, is_end_missing, is_missing, is_pattern_word, is_permission, is_permission_of, may_be_pattern, refusal_of, refusal_of_names, refuse_if};
 
 use crate::given::{Aspect, GivenCriterion};
 use pol_fields::TableKind;
 use pol_read::RuleKind;
 use pol_symbols::Symbols;
-use rule_tests::{elements, is_any_asked, span_of};
+use rule_tests::{elements, is_kind_asked, span_of};
 use std::alloc::{AllocError, Global};
 
 /// Why a criterion is refused.
@@ -21,8 +23,8 @@ pub enum Refusal {
     NoNumber,
 }
 
-// The kinds whose sources, targets and defaults are types, and those where they are roles.
-const TYPE_SOURCES: [RuleKind; 10] = [
+// All kinds of rules, and those whose rules have a default.
+const ALL_KINDS: [RuleKind; 12] = [
     RuleKind::Allow,
     RuleKind::Auditallow,
     RuleKind::Dontaudit,
@@ -32,34 +34,17 @@ const TYPE_SOURCES: [RuleKind; 10] = [
     RuleKind::TypeTransition,
     RuleKind::TypeChange,
     RuleKind::TypeMember,
-    RuleKind::RangeTransition,
-];
-
-const ROLE_SOURCES: [RuleKind; 2] = [RuleKind::RoleAllow, RuleKind::RoleTransition];
-
-const TYPE_TARGETS: [RuleKind; 11] = [
-    RuleKind::Allow,
-    RuleKind::Auditallow,
-    RuleKind::Dontaudit,
-    RuleKind::AllowXperm,
-    RuleKind::AuditallowXperm,
-    RuleKind::DontauditXperm,
-    RuleKind::TypeTransition,
-    RuleKind::TypeChange,
-    RuleKind::TypeMember,
+    RuleKind::RoleAllow,
     RuleKind::RoleTransition,
     RuleKind::RangeTransition,
 ];
 
-const ROLE_TARGETS: [RuleKind; 1] = [RuleKind::RoleAllow];
-
-const TYPE_DEFAULTS: [RuleKind; 3] = [
+const DEFAULT_KINDS: [RuleKind; 4] = [
     RuleKind::TypeTransition,
     RuleKind::TypeChange,
     RuleKind::TypeMember,
+    RuleKind::RoleTransition,
 ];
-
-const ROLE_DEFAULTS: [RuleKind; 1] = [RuleKind::RoleTransition];
 
 /// Why a criterion that is given is refused, if it is. A pattern is not refused here.
 #[tactic(auto, unfolding(crate::specs::Refusals::refusal_of))]
@@ -106,16 +91,10 @@ fn refusal_of_names(
     ensures { IfOk result (λ refusal. refusal ≡ refusal_of_names symbols.now kinds.now aspect text.now) }
 {
     match aspect {
-        Aspect::Source => Ok(refuse_if(
-            is_end_missing(symbols, kinds, &TYPE_SOURCES, &ROLE_SOURCES, text),
-            Refusal::NotThere,
-        )),
-        Aspect::Target => Ok(refuse_if(
-            is_end_missing(symbols, kinds, &TYPE_TARGETS, &ROLE_TARGETS, text),
-            Refusal::NotThere,
-        )),
+        Aspect::Source => Ok(refuse_if(is_source_missing(symbols, kinds, text), Refusal::NotThere)),
+        Aspect::Target => Ok(refuse_if(is_target_missing(symbols, kinds, text), Refusal::NotThere)),
         Aspect::Default => Ok(refuse_if(
-            is_end_missing(symbols, kinds, &TYPE_DEFAULTS, &ROLE_DEFAULTS, text),
+            is_default_missing(symbols, kinds, text),
             Refusal::NotThere,
         )),
         Aspect::Class => {
@@ -158,18 +137,31 @@ fn is_missing(symbols: &Symbols<'_>, table: TableKind, name: &[u8]) -> bool
     symbols.by_name(table, name).is_none()
 }
 
-// Whether a name is missing in one of the tables in which it is looked up.
-fn is_end_missing(
-    symbols: &Symbols<'_>,
-    kinds: &[bool; 12],
-    of_types: &[RuleKind],
-    of_roles: &[RuleKind],
-    name: &[u8],
-) -> bool
-    ensures { result ≡ is_end_missing symbols.now kinds.now of_types.now of_roles.now name.now }
+// Whether a name is missing in the table of the sources of a kind that is asked.
+fn is_source_missing(symbols: &Symbols<'_>, kinds: &[bool; 12], name: &[u8]) -> bool
+    ensures { result ≡ is_end_missing symbols.now kinds.now all_kinds source_table name.now }
 {
-    is_any_asked(kinds, of_types) && is_missing(symbols, TableKind::Types, name)
-        || is_any_asked(kinds, of_roles) && is_missing(symbols, TableKind::Roles, name)
+    ALL_KINDS.iter().any(|kind| {
+        is_kind_asked(kinds, *kind) && is_missing(symbols, kind.source_table(), name)
+    })
+}
+
+// The same of their targets.
+fn is_target_missing(symbols: &Symbols<'_>, kinds: &[bool; 12], name: &[u8]) -> bool
+    ensures { result ≡ is_end_missing symbols.now kinds.now all_kinds target_table name.now }
+{
+    ALL_KINDS.iter().any(|kind| {
+        is_kind_asked(kinds, *kind) && is_missing(symbols, kind.target_table(), name)
+    })
+}
+
+// And of their defaults, where they have any.
+fn is_default_missing(symbols: &Symbols<'_>, kinds: &[bool; 12], name: &[u8]) -> bool
+    ensures { result ≡ is_end_missing symbols.now kinds.now default_kinds default_table name.now }
+{
+    DEFAULT_KINDS.iter().any(|kind| {
+        is_kind_asked(kinds, *kind) && is_missing(symbols, kind.default_table(), name)
+    })
 }
 
 // ---- lists
