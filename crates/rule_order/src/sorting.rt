@@ -8,8 +8,7 @@ use std::alloc::{AllocError, Global};
 /// The numbers of some stored rules, in the order in which the rules are listed: by kind, then by the names of source, target and
 /// class, compared by their bytes, then by number.
 ///
-/// The key of each rule is made once, of its ends, and keys compare as numbers. It takes 16 bytes of memory a number, and at most 32 in
-/// a policy of so many types, classes or rules that keys are no words.
+/// The key of each rule is made once, of its ends, and keys compare as numbers. [`RuleKeys`] says how much memory a key takes.
 pub fn sort_by_rule_order(
     alloc: Global,
     policy: &Policy<'_>,

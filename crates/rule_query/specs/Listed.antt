@@ -1,4 +1,4 @@
--- How the class, the default and the condition of a rule meet a criterion.
+-- How the class, the default and the condition of a rule meet a criterion (SETools' manual page of sesearch).
 use Rattle.std.specs.Prelude.{ℕ, Bool, false, ◌&&◌, nat_eq, Option, Some, None, List, [], slice_get, if◌then◌else◌}
 use Rattle.std.specs.List.{filter_map, list_any, list_all}
 use Rattle.pol_cursor.specs.References.{Placed}

@@ -1,5 +1,5 @@
 -- The rules between single types that a search lists of the rules that meet it: each source of a rule with each target, where a type
--- that a criterion does not ask for is left out.
+-- that a criterion does not ask for is left out (this project's own).
 use Rattle.std.specs.Prelude.{ℕ, Bool, true, ◌||◌, Option, Some, None, List, [], ◌∷◌, map, slice_get}
 use Rattle.std.specs.List.{filter}
 use Rattle.pol_fields.specs.declared.TableKind.{TableKind}

@@ -1,4 +1,4 @@
--- How the permissions of a rule meet a criterion: by their names.
+-- How the permissions of a rule meet a criterion: by their names (SETools' manual page of sesearch).
 use Rattle.std.specs.Prelude.{ℕ, ◌-◌, ◌==◌, Bool, ◌&&◌, List, [], ◌∷◌, map, codes}
 use Rattle.std.specs.Str.{bytes_eq}
 use Rattle.std.specs.Int.{bit_at}

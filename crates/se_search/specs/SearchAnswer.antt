@@ -1,5 +1,5 @@
 -- The answer of sesearch about a policy that was accepted: the rules that meet what is asked, in the order in which rules are listed, a
--- line each, or a line for each rule between single types.
+-- line each, or a line for each rule between single types (this project's own).
 use Rattle.std.specs.Prelude.{ℕ, List, ◌++◌, codes, map, Option, Some, None, if◌then◌else◌}
 use Rattle.std.specs.List.{concat}
 use Rattle.pol_file.specs.declared.Parts.{Parts}
