@@ -1,20 +1,18 @@
 -- The members of products, by their index.
 use Rattle.std.proofs.Common.{◌≡◌, ℕ, zero, suc, ◌+◌, ◌-◌, ◌*◌, ◌/◌, ◌%◌, ◌^◌, ◌<◌, ◌≤◌, min, List, [], ◌∷◌, ◌++◌, map, length, length-drop, take, drop, get_or, refl, sym, ap, subst, ◌∙◌, arith, Option, Some, None, slice_get, inl, inr, mod-lt, div-add-mod'}
-use Rattle.std.specs.List.{All, flat_map}
+use Rattle.std.specs.List.{flat_map}
 use Rattle.std.specs.Option.{option_map}
 use Rattle.std.proofs.lemmas.List.{length-append, length-map, length-take-le, take_all, take_more, get_or-map}
 use Rattle.std.proofs.lemmas.Grind.{flat_map-append}
 use Rattle.std.proofs.lemmas.List.Concat.{get_or-flat_map}
-use Rattle.std.proofs.lemmas.List.Elements.{All-nil, All-more}
 use Rattle.std.proofs.lemmas.List.Folds.{length-flat_map-take}
 use Rattle.std.proofs.lemmas.Option.{slice_get_within, get_or_from_slice_get, slice_get-get_or, slice_get-map}
 use Rattle.std.proofs.lemmas.Nat.{div_below}
 use Rattle.pol_bitmap.specs.declared.Node.{Node}
-use Rattle.pol_bitmap.specs.Nodes.{bits_of}
 use Rattle.pol_places.specs.declared.entry.Entry.{Entry}
 use Rattle.pol_places.specs.declared.entry.Place.{Place}
 use Rattle.pol_places.specs.declared.entry.Single.{Single}
-use Rattle.pol_places.specs.Members.{Product, product_of, products_of, product_at, bits_at, members_of, members, HasSets}
+use Rattle.pol_places.specs.Members.{Product, product_of, products_of, product_at, members_of, members}
 use Rattle.pol_places.specs.declared.row.Row.{Row}
 use Rattle.pol_places.specs.Inner.Standing.{members_before, IsAt, StandsAt, IsRowAt}
 
@@ -109,16 +107,11 @@ length_products entries sets = length-map entries _
 pub product_is : (entries : List Entry) (sets : List (List Node)) (i : ℕ) (e : Entry) → slice_get entries i ≡ Some e → product_at (products_of entries sets) i ≡ product_of sets e
 product_is entries sets i e is = get_or-map (product_of sets) entries i e none (slice_get_within entries i e is) ∙ ap (product_of sets) (get_or_from_slice_get entries i e e is)
 
--- the bits of the set of a number
-pub set_is : (sets : List (List Node)) (n : ℕ) (ns : List Node) → slice_get sets n ≡ Some ns → bits_at sets n ≡ bits_of ns
-set_is sets n ns is = ap (λ (m : List Node). bits_of m) (get_or_from_slice_get sets n ns [] is)
-
 -- An entry's members are as many as its sources times its targets.
-pub size_is : (sets : List (List Node)) (e : Entry) (a b : List Node) (m n : ℕ) → slice_get sets e.sources ≡ Some a → slice_get sets e.targets ≡ Some b → m ≡ length (bits_of a) → n ≡ length (bits_of b)
-    → m * n ≡ length (members_of (product_of sets e))
-size_is sets e a b m n is-a is-b is-m is-n =
-    let p : ℕ → ℕ → ℕ = λ x y. x * y in
-    (λ i. p (is-m i) (is-n i)) ∙ sym ((length_members_of (product_of sets e)) ∙ (λ i. p (length (set_is sets e.sources a is-a i)) (length (set_is sets e.targets b is-b i))))
+pub size_is : (p : Product) (m n : ℕ) → m ≡ length p.sources → n ≡ length p.targets → m * n ≡ length (members_of p)
+size_is p m n is-m is-n =
+    let times : ℕ → ℕ → ℕ = λ x y. x * y in
+    (λ i. times (is-m i) (is-n i)) ∙ sym (length_members_of p)
 
 -- ---- places
 
@@ -133,27 +126,26 @@ divided n zero s lt = absurd (omega (arith, lt))
 divided n (suc w) s lt = (omega arith, div_below n (suc w) s (omega arith) lt, mod-lt n (omega arith), sym (div-add-mod' n (suc w)))
 
 -- where the source and the target of an entry's member stand
-pub room : (p : Product) (n w : ℕ) (sources targets : List ℕ) → n < length (members_of p) → sources ≡ p.sources → targets ≡ p.targets → w ≡ length targets
+pub room : (p : Product) (n w : ℕ) (sources targets : List ℕ) → n < length (members_of p) → sources ≡ p.sources → targets ≡ p.targets → w ≡ length p.targets
     → (0 < w) × (n / w < length sources) × (n % w < length targets) × (n ≡ n / w * w + n % w)
 room p n w sources targets lt is-s is-t is-w =
     let size = length_members_of p in
     let m : ℕ → ℕ → ℕ = λ x y. x * y in
-    let same : length sources * w ≡ length p.sources * length p.targets = λ i. m (length (is-s i)) ((is-w ∙ ap length is-t) i) in
+    let same : length sources * w ≡ length p.sources * length p.targets = λ i. m (length (is-s i)) (is-w i) in
     let d = divided n w (length sources) (omega (arith, lt, size, same)) in
-    (d.0, d.1, omega (arith, d.2, is-w), d.3)
+    (d.0, d.1, omega (arith, d.2, is-w, ap length is-t), d.3)
 
 pub placed_in : (ps : List Product) (e n w s t : ℕ) (sources targets : List ℕ) → e < length ps → n < length (members_of (product_at ps e)) → sources ≡ (product_at ps e).sources → targets ≡ (product_at ps e).targets
-    → w ≡ length targets → slice_get sources (n / w) ≡ Some s → slice_get targets (n % w) ≡ Some t → IsAt ps (record { entry = e; source = s; target = t }) (members_before ps e + n)
+    → w ≡ length (product_at ps e).targets → slice_get sources (n / w) ≡ Some s → slice_get targets (n % w) ≡ Some t → IsAt ps (record { entry = e; source = s; target = t }) (members_before ps e + n)
 placed_in ps e n w s t sources targets lt more is-s is-t is-w source target =
     let d = room (product_at ps e) n w sources targets more is-s is-t is-w in
-    let wide : w ≡ length (product_at ps e).targets = is-w ∙ ap length is-t in
     record {
       i = n / w;
       j = n % w;
       within = lt;
       source = sym (ap (λ (xs : List ℕ). slice_get xs (n / w)) is-s) ∙ source;
       target = sym (ap (λ (xs : List ℕ). slice_get xs (n % w)) is-t) ∙ target;
-      number = ap (λ (m : ℕ). members_before ps e + m) (d.3 ∙ ap (λ (v : ℕ). n / w * v + n % w) wide);
+      number = ap (λ (m : ℕ). members_before ps e + m) (d.3 ∙ ap (λ (v : ℕ). n / w * v + n % w) is-w);
     }
 
 -- the next target of the same source
@@ -240,26 +232,23 @@ end_at entries sets ps is = sym (length_products entries sets) ∙ ap length is
 
 -- ---- the count
 
--- The first i entries have sets, and as many members as were counted.
+-- The first i entries have as many members as were counted.
 abbrev pub Sums : List Entry → List (List Node) → ℕ → ℕ → Type 0
-Sums entries sets i count = (count ≡ members_before (products_of entries sets) i) × (count ≤ i * 2 ^ 64) × All (HasSets sets) (take i entries)
+Sums entries sets i count = (count ≡ members_before (products_of entries sets) i) × (count ≤ i * 2 ^ 64)
 
 pub sums_none : (entries : List Entry) (sets : List (List Node)) → Sums entries sets 0 0
-sums_none entries sets = (sym (members_none (products_of entries sets)), omega arith, All-nil (HasSets sets))
+sums_none entries sets = (sym (members_none (products_of entries sets)), omega arith)
 
-pub sums_more : (entries : List Entry) (sets : List (List Node)) (i count size : ℕ) (d : Entry) → i < length entries → HasSets sets (get_or entries i d) → size ≡ length (members_of (product_of sets (get_or entries i d))) → size ≤ 2 ^ 64
+pub sums_more : (entries : List Entry) (sets : List (List Node)) (i count size : ℕ) (d : Entry) → i < length entries → size ≡ length (members_of (product_of sets (get_or entries i d))) → size ≤ 2 ^ 64
     → Sums entries sets i count → Sums entries sets (i + 1) (count + size)
-sums_more entries sets i count size d lt has is le h =
+sums_more entries sets i count size d lt is le h =
     let s = size_at entries sets (products_of entries sets) i size d refl lt is in
     let more = members_more (products_of entries sets) i s.0 in
     let here = length_members_of (product_at (products_of entries sets) i) in
-    let all : All (HasSets sets) (take i entries) = h.2 in
-    (omega (arith, more, here, s.1, h.0), omega (arith, h.1, le), All-more (HasSets sets) entries i d lt all has)
+    (omega (arith, more, here, s.1, h.0), omega (arith, h.1, le))
 
-pub sums_all : (entries : List Entry) (sets : List (List Node)) (i count : ℕ) → length entries ≤ i → Sums entries sets i count → All (HasSets sets) entries × (count ≡ length (members (products_of entries sets)))
-sums_all entries sets i count le h =
-    let all : All (HasSets sets) (take i entries) = h.2 in
-    (subst (λ (es : List Entry). All (HasSets sets) es) (take_all i entries le) all, h.0 ∙ members_all (products_of entries sets) i (omega (arith, le, length_products entries sets)))
+pub sums_all : (entries : List Entry) (sets : List (List Node)) (i count : ℕ) → length entries ≤ i → Sums entries sets i count → count ≡ length (members (products_of entries sets))
+sums_all entries sets i count le h = h.0 ∙ members_all (products_of entries sets) i (omega (arith, le, length_products entries sets))
 
 -- ---- steps
 
@@ -336,6 +325,10 @@ row_given entries sets ps at after k d targets row is lt same from behind h =
     ap (λ (qs : List Product). (product_at qs at.entry).rule) (sym is) ∙ ap (λ (p : Product). p.rule) (get_or-map (product_of sets) entries at.entry d none lt) in
     let left : row ≡ drop here.j (product_at ps at.entry).targets = from here.j (ap (λ (xs : List ℕ). slice_get xs here.j) same ∙ here.target) ∙ ap (drop here.j) same in
     row_from ps at after k (record { rule = (get_or entries at.entry d).rule; source = at.source; targets = row }) here (sym rule) refl left (behind here.i here.source)
+
+-- and they are all that are left
+pub rest_given : (targets all row : List ℕ) (target : ℕ) → targets ≡ all → ((j : ℕ) → slice_get targets j ≡ Some target → row ≡ drop j targets) → (j : ℕ) → slice_get all j ≡ Some target → row ≡ drop j all
+rest_given targets all row target same h = subst (λ (xs : List ℕ). (j : ℕ) → slice_get xs j ≡ Some target → row ≡ drop j xs) same h
 
 -- what an entry's place needs
 pub row_targets : (ps : List Product) (at : Place) → (k : ℕ) × IsAt ps at k → 0 < length (product_at ps at.entry).targets

@@ -1,1 +1,2 @@
+pub mod SetCounts
 pub mod Standing

@@ -3,7 +3,6 @@ use Rattle.std.specs.Prelude.{◌≡◌, ℕ, ◌<◌, List, [], map, length, sl
 use Rattle.std.specs.List.{flat_map, enumerate_from}
 use Rattle.pol_bitmap.specs.declared.Node.{Node}
 use Rattle.pol_bitmap.specs.Nodes.{bits_of}
-use Rattle.pol_bitmap.specs.Sets.{IsSet}
 use Rattle.pol_places.specs.declared.entry.Entry.{Entry}
 use Rattle.pol_places.specs.declared.entry.Single.{Single}
 
@@ -44,10 +43,6 @@ HasNumbers sets e = (e.sources < length sets) × (e.targets < length sets)
 
 abbrev pub AreNumbers : List Entry → List (List Node) → Type 0
 AreNumbers entries sets = All (HasNumbers sets) entries
-
--- and these sets have their one form
-abbrev pub HasSets : List (List Node) → Entry → Type 0
-HasSets sets e = HasNumbers sets e × IsSet (slice_index_or sets e.sources []) × IsSet (slice_index_or sets e.targets [])
 
 -- ---- rules
 

@@ -1,13 +1,14 @@
-ghost use Rattle.std.specs.Prelude.{◌≡◌, ℕ, ◌+◌, ◌*◌, ◌^◌, ◌<◌, ◌≤◌, min, Some, length, slice_get};
+ghost use Rattle.std.specs.Prelude.{◌≡◌, ℕ, ◌+◌, ◌*◌, ◌^◌, ◌<◌, ◌≤◌, IfSome, min, Some, length, slice_get};
 ghost use Rattle.pol_bitmap.specs.Nodes.{bits_of};
 ghost use Rattle.pol_bitmap.specs.Sets.{IsSet};
-ghost use Rattle.pol_places.specs.Members.{product_of, products_of, product_at, members_of, members, AreNumbers, HasNumbers, HasSets};
-ghost use Rattle.pol_places.specs.Inner.Standing.{members_before, IsAt, StandsAt, NextGives, RowGives};
+ghost use Rattle.pol_places.specs.Members.{product_of, products_of, product_at, members_of, members, AreNumbers, HasNumbers};
+ghost use Rattle.pol_places.specs.Inner.Standing.{members_before, IsAt, StandsAt, NextGives, RowGives, HasRestOf};
 
+use crate::counted_sets::CountedSets;
 use crate::entry::{Entry, Place, Single};
 use crate::found::{bit_after, bits_from, nth_bit};
 use crate::row::Row;
-use pol_bitmap::{Pool, Set};
+use pol_bitmap::Set;
 use std::marker::Model;
 
 /// The members of entries: entry by entry, each source with each target, the sources rising, and for each of them the targets
@@ -17,34 +18,34 @@ use std::marker::Model;
 #[derive(Drop)]
 pub struct Places<'a> {
     entries: &'a [Entry],
-    pool: &'a Pool,
+    sets: &'a CountedSets,
     count: u128,
 }
 
 impl<'a> Model for Places<'a> {
-    ghost use Rattle.std.specs.Prelude.{◌≡◌, List, All, length};
-    ghost use Rattle.pol_places.specs.Members.{Product, products_of, members, HasSets};
+    ghost use Rattle.std.specs.Prelude.{◌≡◌, List, length};
+    ghost use Rattle.pol_places.specs.Members.{Product, products_of, members, AreNumbers};
 
     ghost Value = { List Product };
 
-    ghost view = { λ p. products_of p.entries.now p.pool.now };
+    ghost view = { λ p. products_of p.entries.now p.sets.now };
 
-    ghost invariant = { λ p. All (HasSets p.pool.now) p.entries.now × (p.count ≡ length (members (products_of p.entries.now p.pool.now))) };
+    ghost invariant = { λ p. AreNumbers p.entries.now p.sets.now × (p.count ≡ length (members (products_of p.entries.now p.sets.now))) };
 }
 
 impl<'a> Places<'a> {
-    /// The members of entries whose sets are those of a pool. Each of the entries is looked at once.
-    pub fn new(entries: &'a [Entry], pool: &'a Pool) -> Places<'a>
-        requires { AreNumbers entries.now pool.now }
-        ensures { result ≡ products_of entries.now pool.now }
+    /// The members of entries of these sets. Each of the entries is looked at once, and no set is gone through.
+    pub fn new(entries: &'a [Entry], sets: &'a CountedSets) -> Places<'a>
+        requires { AreNumbers entries.now sets.now }
+        ensures { result ≡ products_of entries.now sets.now }
     {
         let mut count: u128 = 0;
         for entry in entries {
-            count += size_of(*entry, pool);
+            count += size_of(*entry, sets);
         }
         Places {
             entries,
-            pool,
+            sets,
             count,
         }
     }
@@ -58,7 +59,7 @@ impl<'a> Places<'a> {
 
     /// The member at a place, and the place after it. `None` at the end.
     ///
-    /// A place comes from `first`, `skip` or `next` of these entries. Within an entry a step looks for one bit of one set.
+    /// A place comes from `first`, `skip`, `next` or `row` of these entries. Within an entry a step looks for one bit of one set.
     pub fn next(&self, at: Place) -> Option<(Single, Place)>
         requires { (k : ℕ) × StandsAt self.now at k }
         ensures { (k : ℕ) → StandsAt self.now at k → NextGives self.now k result }
@@ -78,7 +79,8 @@ impl<'a> Places<'a> {
     /// The members that are left of the source of a place, and the place after them. `None` at the end.
     pub fn row(&self, at: Place) -> Option<(Row<'a>, Place)>
         requires { (k : ℕ) × StandsAt self.now at k }
-        ensures { (k : ℕ) → StandsAt self.now at k → RowGives self.now k result }
+        ensures gives { (k : ℕ) → StandsAt self.now at k → RowGives self.now k result }
+        ensures whole { IfSome result (λ step. HasRestOf self.now at step.0) }
     {
         if at.entry >= self.entries.len() {
             return None;
@@ -114,7 +116,7 @@ impl<'a> Places<'a> {
         ensures form { IsSet result.now }
         ensures bits { bits_of result.now ≡ (product_at self.now entry).sources }
     {
-        self.pool.get(self.entries[entry].sources)
+        self.sets.get(self.entries[entry].sources)
     }
 
     // The targets of an entry.
@@ -123,7 +125,15 @@ impl<'a> Places<'a> {
         ensures form { IsSet result.now }
         ensures bits { bits_of result.now ≡ (product_at self.now entry).targets }
     {
-        self.pool.get(self.entries[entry].targets)
+        self.sets.get(self.entries[entry].targets)
+    }
+
+    // The number of targets of an entry.
+    fn width(&self, entry: usize) -> u64
+        requires { entry < length self.now }
+        ensures { result ≡ length (product_at self.now entry).targets }
+    {
+        self.sets.count_of(self.entries[entry].targets)
     }
 
     // The place after the one of a member.
@@ -166,7 +176,7 @@ impl<'a> Places<'a> {
     {
         let mut left = n;
         for entry in from..self.entries.len() {
-            let size = size_of(self.entries[entry], self.pool);
+            let size = size_of(self.entries[entry], self.sets);
             if u128::from(left) < size {
                 return self.place_in(entry, left);
             }
@@ -185,24 +195,22 @@ impl<'a> Places<'a> {
         requires more { n < length (members_of (product_at self.now entry)) }
         ensures { IsAt self.now result (members_before self.now entry + n) }
     {
-        let targets = self.targets(entry);
-        let width = targets.count();
+        let width = self.width(entry);
         Place {
             entry,
             source: nth_bit(self.sources(entry), n / width),
-            target: nth_bit(targets, n % width),
+            target: nth_bit(self.targets(entry), n % width),
         }
     }
 }
 
 // The number of members of an entry.
-fn size_of(entry: Entry, pool: &Pool) -> u128
-    requires { HasNumbers pool.now entry }
-    ensures sets { HasSets pool.now entry }
-    ensures size { result ≡ length (members_of (product_of pool.now entry)) }
+fn size_of(entry: Entry, sets: &CountedSets) -> u128
+    requires { HasNumbers sets.now entry }
+    ensures size { result ≡ length (members_of (product_of sets.now entry)) }
     ensures bound { result ≤ 2 ^ 64 }
 {
-    let sources = pool.get(entry.sources).count();
-    let targets = pool.get(entry.targets).count();
+    let sources = sets.count_of(entry.sources);
+    let targets = sets.count_of(entry.targets);
     u128::from(sources) * u128::from(targets)
 }

@@ -1,8 +1,9 @@
 -- The entries that are made, rule by rule.
-use Rattle.std.proofs.Common.{◌≡◌, ℕ, ◌*◌, ◌≤◌, Option, Some, List, [], ◌∷◌, ◌++◌, Bool, length, map, refl, sym, ap, ◌∙◌, arith, length-append}
-use Rattle.std.specs.Prelude.{slice_get}
+use Rattle.std.proofs.Common.{◌≡◌, ℕ, ◌*◌, ◌≤◌, Option, Some, None, List, [], ◌∷◌, ◌++◌, Bool, length, map, refl, sym, ap, ◌∙◌, arith, length-append}
+use Rattle.std.specs.Prelude.{option_map, slice_get}
 use Rattle.std.specs.List.{All, filter}
 use Rattle.std.proofs.lemmas.List.Elements.{All-append, All-cons, All-head, All-nil, All-tail, All-weaker}
+use Rattle.std.proofs.lemmas.Option.{same_Some}
 use Rattle.pol_fields.specs.declared.TableKind.{TableKind}
 use Rattle.pol_fields.specs.declared.TableKind.TheVariants as tables
 use Rattle.pol_bitmap.specs.declared.Node.{Node}
@@ -10,13 +11,14 @@ use Rattle.pol_file.specs.declared.Parts.{Parts}
 use Rattle.pol_expand.specs.PolicyMap.{expand}
 use Rattle.pol_places.specs.declared.Entry.{Entry}
 use Rattle.pol_places.specs.Members.{AreNumbers, HasNumbers, Product, bits_at, product_of, products_of}
-use Rattle.pol_rules.specs.DeclaredRules.{IsDeclaredIn, IsDeclaredRule}
+use Rattle.pol_rules.specs.declared.rule.RuleEnds.{RuleEnds}
+use Rattle.pol_rules.specs.DeclaredRules.{AreDeclaredEnds, IsDeclaredIn}
 use Rattle.pol_rules.specs.RuleOrder.{source_table, target_table}
-use Rattle.pol_rules.specs.StoredRules.{StoredRule, stored_rules}
+use Rattle.pol_rules.specs.StoredRules.{StoredRule, ends_of, stored_rules}
 use Rattle.rule_criteria.specs.declared.Criteria.{Criteria}
 use Rattle.rule_criteria.specs.declared.Criterion.{Criterion}
 use Rattle.rule_singles.specs.Inner.EndSets.{AreAsked, AreSetsOf, Grows, IsEntryOf, IsNumberIn, ends_left, leaves}
-use Rattle.rule_singles.specs.Singles.{ends_of_rule, is_listed, listed_ends}
+use Rattle.rule_singles.specs.Singles.{ends_found, ends_of_rule, is_listed, listed_ends}
 use Rattle.rule_singles.proofs.DeclaredMembers.{members_are_declared}
 use Rattle.rule_singles.proofs.Pools.{bits_stay, longer}
 
@@ -45,19 +47,32 @@ module _ (policy : Parts) (criterion : Option Criterion) (left : Option (List No
 
 -- ---- entries
 
--- the entry of a rule that is there
-pub entry_is : (policy : Parts) (criteria : Criteria) (sources targets : Option (List Node)) (sets : List (List Node)) (number from to : ℕ) (rule : StoredRule)
+-- what the ends of a rule stand for
+abbrev listed : Parts → Criteria → ℕ → RuleEnds → Product
+listed policy criteria number ends = record {
+  rule = number;
+  sources = listed_ends policy criteria.source (source_table ends.kind) ends.source;
+  targets = listed_ends policy criteria.target (target_table ends.kind) ends.target;
+}
+
+ends_listed : (policy : Parts) (criteria : Criteria) (number : ℕ) (ends : RuleEnds) (found : Option StoredRule) → option_map ends_of found ≡ Some ends → ends_found policy criteria number found ≡ listed policy criteria number ends
+ends_listed policy criteria number ends None e = absurd cc
+ends_listed policy criteria number ends (Some rule) e = ap (listed policy criteria number) (same_Some (ends_of rule) ends e)
+
+-- the entry of a rule that has these ends
+pub entry_is : (policy : Parts) (criteria : Criteria) (sources targets : Option (List Node)) (sets : List (List Node)) (number from to : ℕ) (ends : RuleEnds)
     → AreAsked policy criteria.source sources → AreAsked policy criteria.target targets
-    → slice_get (stored_rules policy) number ≡ Some rule → IsDeclaredRule policy rule
-    → IsNumberIn sets (ends_left policy sources (source_table rule.kind) rule.source) from → IsNumberIn sets (ends_left policy targets (target_table rule.kind) rule.target) to
+    → option_map ends_of (slice_get (stored_rules policy) number) ≡ Some ends → AreDeclaredEnds policy ends
+    → IsNumberIn sets (ends_left policy sources (source_table ends.kind) ends.source) from → IsNumberIn sets (ends_left policy targets (target_table ends.kind) ends.target) to
     → IsEntryOf policy criteria sets number (record { rule = number; sources = from; targets = to })
 unfolding ends_of_rule
-entry_is policy criteria sources targets sets number from to rule asked_sources asked_targets found declared s t =
-    let from_is = s.right ∙ ends_alike policy criteria.source sources asked_sources rule.source (source_table rule.kind) declared.source in
-    let to_is = t.right ∙ ends_alike policy criteria.target targets asked_targets rule.target (target_table rule.kind) declared.target in
+entry_is policy criteria sources targets sets number from to ends asked_sources asked_targets found declared s t =
+    let from_is = s.right ∙ ends_alike policy criteria.source sources asked_sources ends.source (source_table ends.kind) declared.source in
+    let to_is = t.right ∙ ends_alike policy criteria.target targets asked_targets ends.target (target_table ends.kind) declared.target in
+    let are : product_of sets (record { rule = number; sources = from; targets = to }) ≡ listed policy criteria number ends = λ i. record { rule = number; sources = from_is i; targets = to_is i } in
     record {
       numbers = (s.there, t.there);
-      right = rw found (λ i. record { rule = number; sources = from_is i; targets = to_is i });
+      right = are ∙ sym (ends_listed policy criteria number ends (slice_get (stored_rules policy) number) found);
     }
 
 -- it stays where the pool grows

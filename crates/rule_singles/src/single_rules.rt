@@ -10,7 +10,7 @@ ghost use Rattle.rule_singles.specs.Singles.{ends_of_rule};
 use crate::end_sets::EndSets;
 use pol_bitmap::Pool;
 use pol_expand::TypeMap;
-use pol_places::{Entry, Places};
+use pol_places::{CountedSets, Entry, Places};
 use pol_read::Policy;
 use rule_criteria::Criteria;
 use rule_query::Query;
@@ -21,13 +21,13 @@ use std::marker::Model;
 /// rules, each with its sources and its targets.
 pub struct SingleRules {
     entries: Vec<Entry>,
-    pool: Pool,
+    sets: CountedSets,
 }
 
 // Its parts go in one call, wherever it is dropped.
 impl Drop for SingleRules {
     fn drop(self) {
-        let SingleRules { entries, pool } = self;
+        let SingleRules { entries, sets } = self;
     }
 }
 
@@ -37,13 +37,13 @@ impl Model for SingleRules {
 
     ghost Value = { List Product };
 
-    ghost view = { λ rules. products_of rules.entries.items rules.pool };
+    ghost view = { λ rules. products_of rules.entries.items rules.sets };
 
-    ghost invariant = { λ rules. AreNumbers rules.entries.items rules.pool };
+    ghost invariant = { λ rules. AreNumbers rules.entries.items rules.sets };
 }
 
 impl SingleRules {
-    /// The rules of these numbers, with the ends that the criteria of a query list. The set of an end is made once.
+    /// The rules of these numbers, with the ends that the criteria of a query list. The set of an end is made once, and counted once.
     pub fn of(
         alloc: Global,
         policy: &Policy<'_>,
@@ -76,14 +76,15 @@ impl SingleRules {
             )?;
             entries.push(entry)?;
         }
-        Ok(SingleRules { entries, pool })
+        let sets = CountedSets::new(alloc, pool)?;
+        Ok(SingleRules { entries, sets })
     }
 
     /// The single rules, one after the other.
     pub fn places(&self) -> Places<'_>
         ensures { result ≡ self.now }
     {
-        Places::new(&self.entries, &self.pool)
+        Places::new(&self.entries, &self.sets)
     }
 }
 
@@ -110,11 +111,11 @@ fn entry_of(
     ensures entry { (criteria : Criteria) → AreAsked policy.now criteria.source sources.old.left → AreAsked policy.now criteria.target targets.old.left
         → IfOk result (IsEntryOf policy.now criteria pool.new number) }
 {
-    let rule = policy.rule(number);
-    let table = rule.kind.source_table();
-    let sources = sources.number_of(alloc, policy, types, table, rule.source, pool)?;
-    let table = rule.kind.target_table();
-    let targets = targets.number_of(alloc, policy, types, table, rule.target, pool)?;
+    let ends = policy.rule_ends(number);
+    let table = ends.kind.source_table();
+    let sources = sources.number_of(alloc, policy, types, table, ends.source, pool)?;
+    let table = ends.kind.target_table();
+    let targets = targets.number_of(alloc, policy, types, table, ends.target, pool)?;
     Ok(Entry {
         rule: number,
         sources,

@@ -1,5 +1,5 @@
 -- Places, each of which stands for the number of the members before it.
-use Rattle.std.specs.Prelude.{◌≡◌, ◌⊎◌, ℕ, ◌+◌, ◌*◌, ◌<◌, Option, Some, None, List, [], ◌∷◌, length, take, slice_get}
+use Rattle.std.specs.Prelude.{◌≡◌, ◌⊎◌, ℕ, ◌+◌, ◌*◌, ◌<◌, Option, Some, None, List, [], ◌∷◌, length, take, drop, slice_get}
 use Rattle.pol_places.specs.declared.entry.Place.{Place}
 use Rattle.pol_places.specs.declared.entry.Single.{Single}
 use Rattle.pol_places.specs.declared.row.Row.{Row}
@@ -49,6 +49,10 @@ pub record IsRowAt (ps : List Product) (k : ℕ) (row : Row) (behind : Place) : 
 abbrev pub RowGives : List Product → ℕ → Option (Row × Place) → Type 0
 RowGives ps k None = k ≡ length (members ps)
 RowGives ps k (Some step) = IsRowAt ps k step.0 step.1
+
+-- A row has all the targets that are left of the source of a place: those of its entry from the place's own target on.
+abbrev pub HasRestOf : List Product → Place → Row → Type 0
+HasRestOf ps place row = (j : ℕ) → slice_get (product_at ps place.entry).targets j ≡ Some place.target → row.targets ≡ drop j (product_at ps place.entry).targets
 
 -- ---- step after step
 

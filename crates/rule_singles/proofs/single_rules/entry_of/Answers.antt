@@ -1,4 +1,3 @@
-use Rattle.pol_rules.specs.StoredRules.{stored}
 use Rattle.rule_singles.proofs.Made.{entry_is}
 use Rattle.rule_singles.proofs.Pools.{number_stays, sets_stay}
 use Rattle.rule_singles.proofs.single_rules.entry_of.Goals as goal
@@ -17,6 +16,6 @@ returns-clause-sources c = sets_stay 1 c.args.policy.now c.number_of.new.self.le
 
 pub returns-clause-entry : goal.returns-clause-entry
 returns-clause-entry c = λ criteria from to.
-    entry_is c.args.policy.now criteria c.args.sources.now.left c.args.targets.now.left c.number_of-2.new.pool c.args.number c.in_ok-sources.sources c.in_ok-targets.targets (stored c.rule-rule.result) from to c.rule-rule.ensures.is c.rule-rule.ensures.declared
+    entry_is c.args.policy.now criteria c.args.sources.now.left c.args.targets.now.left c.number_of-2.new.pool c.args.number c.in_ok-sources.sources c.in_ok-targets.targets c.rule_ends-ends.result from to c.rule_ends-ends.ensures.is c.rule_ends-ends.ensures.declared
     (number_stays 1 c.number_of.new.pool c.number_of-2.new.pool _ c.in_ok-sources.sources c.number_of-2.ensures.grows (rw c.source_table-table.ensures at c.in_ok-sources.ensures.number))
     (rw c.target_table-table.ensures at c.in_ok-targets.ensures.number)

@@ -6,18 +6,18 @@ use Rattle.se_search.proofs.single_lines.SingleLines.begin_row.Goals as goal
 pub unreachable-requires : goal.unreachable-requires
 unreachable-requires c =
     let lines = c.args.self.now in
-    row_there lines.places lines.passed c.row.result (omega (arith, c.requires.can.more, c.requires.can.fits)) (c.row.ensures lines.passed c.requires.can.stands) c.in_default.not-Some
+    row_there lines.places lines.passed c.row.result (omega (arith, c.requires.can.more, c.requires.can.fits)) (c.row.ensures.gives lines.passed c.requires.can.stands) c.in_default.not-Some
 
 pub frame_between-requires-clause-rule : goal.frame_between-requires-clause-rule
 frame_between-requires-clause-rule c =
     let lines = c.args.self.now in
-    let at : IsRowAt lines.places lines.passed c.in-Some.row c.in-Some.after = c.in-Some.ensures lines.passed c.requires.can.stands in
+    let at : IsRowAt lines.places lines.passed c.in-Some.row c.in-Some.after = c.in-Some.ensures.gives lines.passed c.requires.can.stands in
     row_rule lines.texts.now lines.places lines.passed c.in-Some.row c.in-Some.after c.requires.can.are_rules at
 
 pub returns : goal.returns
 returns c =
     let lines = c.args.self.now in
-    let at : IsRowAt lines.places lines.passed c.in-Some.row c.in-Some.after = c.in-Some.ensures lines.passed c.requires.can.stands in
+    let at : IsRowAt lines.places lines.passed c.in-Some.row c.in-Some.after = c.in-Some.ensures.gives lines.passed c.requires.can.stands in
     record {
       stands = record {
         are_rules = c.requires.can.are_rules;
