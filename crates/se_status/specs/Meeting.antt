@@ -1,7 +1,9 @@
 -- An answer, and how a run may meet it.
-use Rattle.std.specs.Prelude.{◌≡◌, ◌≤◌, ℕ, List, [], min, ⊤, Option, Some, None}
+use Rattle.std.specs.Prelude.{◌≡◌, ◌≤◌, ℕ, List, [], min, ⊤, Option, Some, None, Result, Ok, Err}
 use Rattle.std.specs.Io.KnownBytes.{Appends}
 use Rattle.se_outside.specs.Outside.{Rose}
+use Rattle.se_items.specs.declared.WriteEnd.{WriteEnd}
+use Rattle.se_items.specs.declared.WriteEnd.TheVariants as ends
 use Rattle.se_items.specs.Writing.{GainsPart}
 use Rattle.se_status.specs.declared.status.Status.{Status}
 use Rattle.se_status.specs.declared.status.Status.TheVariants.{Done, ReadFault, UnknownName, BadNumber, BadPattern, WriteFault, Memory}
@@ -58,6 +60,12 @@ IsWritten Done = ⊤
 IsWritten WriteFault = ⊤
 IsWritten Memory = ⊤
 IsWritten status = ⊥
+
+-- how a run ends whose answer was written, or why not
+abbrev pub written_status : Result (Unit {0}) WriteEnd → Status
+written_status (Ok u) = Done
+written_status (Err ends.Fault) = WriteFault
+written_status (Err ends.Memory) = Memory
 
 -- What a policy that was read ends with, where the names of its words alone can be refused.
 abbrev pub IsPlain : Status → Type 0

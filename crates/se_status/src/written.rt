@@ -2,13 +2,14 @@
 ghost use Rattle.std.specs.Prelude.{◌≡◌, ℕ, List};
 ghost use Rattle.std.specs.declared.option.Option.{Option};
 ghost use Rattle.se_items.specs.Writing.{Sends};
-ghost use Rattle.se_status.specs.Meeting.{Concludes, IsWritten, done};
+ghost use Rattle.se_status.specs.Meeting.{Concludes, IsWritten, done, written_status};
 
 use crate::Status;
 use se_items::WriteEnd;
 
 /// How a run ends whose answer was written, or why not.
 pub fn status_written(end: Result<(), WriteEnd>) -> Status
+    ensures status { result ≡ written_status end }
     ensures concludes { (old new : Option (List ℕ)) (before now : ℕ) (text : List ℕ)
         → Sends old new before now text end → Concludes (done text) old new before now result }
     ensures plain { IsWritten result }
