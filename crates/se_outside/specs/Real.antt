@@ -1,5 +1,5 @@
 -- What is known of the system's files: no content, and no name.
-use Rattle.std.specs.Prelude.{ℕ, None, is_some}
+use Rattle.std.specs.Prelude.{ℕ, List, Option, None, is_some, option_and_then}
 use Rattle.se_outside.specs.declared.files.Slot.{Slot}
 use Rattle.se_outside.specs.declared.files.Slot.TheVariants.{Policy, Map}
 use Rattle.se_outside.specs.declared.real.RealSlot.{RealSlot}
@@ -13,6 +13,14 @@ real_slot s = record { asked = s.asked; is_open = is_some s.file; name = Untold;
 abbrev pub real_state : {R F D : Type 0} → RealFiles R F D → Slot → SlotState
 real_state m Policy = real_slot m.policy
 real_state m Map = real_slot m.map
+
+-- what is left of the slot's file, where the file tells it
+abbrev pub slot_left : {F : Type 0} → (F → Option (List ℕ)) → RealSlot F → Option (List ℕ)
+slot_left remaining s = option_and_then remaining s.file
+
+abbrev pub real_left : {R F D : Type 0} → (F → Option (List ℕ)) → RealFiles R F D → Slot → Option (List ℕ)
+real_left remaining m Policy = slot_left remaining m.policy
+real_left remaining m Map = slot_left remaining m.map
 
 -- how many writes failed
 abbrev pub real_faults : {W : Type 0} → RealSink W → ℕ

@@ -1,9 +1,9 @@
 // Files of the system, and a sink over any writer of std. The edge that is trusted.
 ghost use Rattle.std.specs.Prelude.{◌≡◌, ◌<◌, None, Option, length, IfOk, OnOk, take, true, false, is_some, is_ok, ◌≤◌};
-ghost use Rattle.std.specs.Io.KnownBytes.{Appends};
+ghost use Rattle.std.specs.Io.KnownBytes.{Appends, ReadConsumes};
 ghost use Rattle.se_outside.specs.Outside.{unasked, NoneAsked, Opens, OpensOne, Reads, ReadsOne, Writes};
 ghost use Rattle.se_outside.specs.Plan.{FaultsOnErr};
-ghost use Rattle.se_outside.specs.Real.{real_slot, real_state};
+ghost use Rattle.se_outside.specs.Real.{real_left, real_slot, real_state, slot_left};
 
 use crate::counts::{counted, fault};
 use crate::{Failed, Files, Sink, Slot};
@@ -51,6 +51,8 @@ impl<F: Read + Drop> RealSlot<F> {
         requires opened { is_some self.old.file ≡ true }
         ensures reads { ReadsOne (real_slot self.old) (real_slot self.new) into.new result }
         ensures faults { FaultsOnErr self.old.faults self.new.faults result }
+        // What a file that tells what it has left has given.
+        ensures bytes { ReadConsumes (slot_left F.remaining self.old) (slot_left F.remaining self.new) result into.new }
     {
         self.turns = self.turns.saturating_add(1);
         let Some(file) = &mut self.file else {
@@ -108,6 +110,9 @@ impl<'r, R: rt::Files> Files for RealFiles<'r, R> {
         requires room { 0 < length into.old }
         ensures reads { Reads (real_state self.old) (real_state self.new) slot into.new result }
         ensures faults { FaultsOnErr (real_state self.old slot).faults (real_state self.new slot).faults result }
+        // What a file that tells what it has left has given.
+        ensures bytes { ReadConsumes (real_left R.File.remaining self.old slot) (real_left R.File.remaining self.new slot)
+            result into.new }
     {
         match slot {
             Slot::Policy => self.policy.read(into),
