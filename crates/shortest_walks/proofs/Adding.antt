@@ -1,9 +1,9 @@
 -- An edge is added to a graph.
-use Rattle.std.proofs.Common.{◌≡◌, ◌⊎◌, inl, inr, ℕ, ◌-◌, ◌<◌, ◌≤◌, true, List, [], ◌∷◌, length, set, get_or, sym, ap, subst, ◌∙◌, arith, get_or-set_same, get_or-set_other}
+use Rattle.std.proofs.Common.{◌≡◌, ◌⊎◌, inl, inr, ℕ, ◌-◌, ◌<◌, ◌≤◌, true, false, List, [], ◌∷◌, length, set, get_or, sym, ap, subst, ◌∙◌, arith, get_or-set_same, get_or-set_other}
 use Rattle.std.specs.List.{Contains}
 use Rattle.std.proofs.Math.ListN.{length-set}
 use Rattle.std.proofs.lemmas.List.{get_or_default}
-use Rattle.std.proofs.lemmas.Bool.{and_from, and_parts, le-leb, cases_order}
+use Rattle.std.proofs.lemmas.Bool.{and_from, and_parts, le-leb, cases_order, false_from_ne_true}
 use Rattle.pol_bitmap.specs.declared.Node.{Node}
 use Rattle.pol_bitmap.specs.Nodes.{bits_of}
 use Rattle.pol_bitmap.specs.Sets.{IsUnion}
@@ -39,6 +39,10 @@ row_shared sets a set d nodes low high at is =
 -- empty sets have no node
 pub no_nodes : (sets : List (List Node)) → ((a : ℕ) → row sets a ≡ []) → HaveNodes sets
 no_nodes sets none a b has = absurd (contains_nothing b (subst (λ (l : List ℕ). Contains l b) (none a) has))
+
+-- and no edge
+pub no_edge : (sets : List (List Node)) → ((a : ℕ) → row sets a ≡ []) → (a b : ℕ) → has_edge sets a b ≡ false
+no_edge sets none a b = false_from_ne_true _ λ e. absurd (contains_nothing b (subst (λ (l : List ℕ). Contains l b) (none a) (edge_in sets a b e)))
 
 -- the union with the set that stands at a place is one with its row
 pub union_at : (sets : List (List Node)) (a : ℕ) (d end more : List Node) → 1 ≤ a → a ≤ node_count sets → d ≡ get_or sets a d → IsUnion (bits_of d) (bits_of end) (bits_of more) → IsUnion (row sets a) (bits_of end) (bits_of more)

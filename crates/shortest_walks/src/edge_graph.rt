@@ -1,5 +1,5 @@
-ghost use Rattle.std.specs.Prelude.{◌≡◌, ◌≤◌, ◌<◌, ◌+◌, ◌^◌, ◌↔◌, IfOk, OnOk, OnErr, IsTrue, length};
-ghost use Rattle.shortest_walks.specs.Edges.{node_count, AddsEdge};
+ghost use Rattle.std.specs.Prelude.{◌≡◌, ◌≤◌, ◌<◌, ◌+◌, ◌^◌, ◌↔◌, ℕ, IfOk, OnOk, OnErr, IsTrue, false, length};
+ghost use Rattle.shortest_walks.specs.Edges.{node_count, has_edge, AddsEdge};
 
 use pol_bitmap::Set;
 use std::alloc::{AllocError, Global};
@@ -33,7 +33,8 @@ impl EdgeGraph {
     /// A graph of so many nodes and no edge.
     pub fn new(alloc: Global, size: u32) -> Result<EdgeGraph, AllocError>
         requires { size ≤ MOST_NODES }
-        ensures { IfOk result (λ g. node_count g ≡ size) }
+        ensures size { IfOk result (λ g. node_count g ≡ size) }
+        ensures edges { IfOk result (λ g. (a b : ℕ) → has_edge g a b ≡ false) }
     {
         let count = size as usize + 1;
         let mut successors = Vec::with_capacity(alloc, count)?;

@@ -1,5 +1,5 @@
 // The search from the source, up to the depth of the target.
-ghost use Rattle.std.specs.Prelude.{◌≡◌, ◌≤◌, ◌<◌, ◌+◌, ◌*◌, ◌^◌, IfOk, length};
+ghost use Rattle.std.specs.Prelude.{◌≡◌, ◌≤◌, ◌<◌, ◌+◌, ◌^◌, IfOk, length};
 ghost use Rattle.walk_enum.specs.Walks.{ends_of};
 ghost use Rattle.walk_enum.specs.Inner.Exploring.{Explores, IsAtEnd};
 
@@ -35,7 +35,7 @@ pub fn explore<G: Graph, L: Ledger>(
     ensures found { IfOk result (λ f. Explores (ends_of (G.edge graph.now) (G.nodes graph.now)) (G.nodes graph.now) from to f.depths.items f.queue.items f.rows.items (length f.rows.items)) }
     ensures end { IfOk result (λ f. IsAtEnd f.depths.items f.queue.items (length f.rows.items) to) }
     ensures few { G.nodes graph.now < 2 ^ 32 }
-    ensures cost { steps.new ≤ steps.old + 2 * G.nodes graph.now }
+    ensures cost { steps.new ≤ steps.old + G.nodes graph.now }
 {
     let size = graph.size() as usize;
     let mut depths = zeros(alloc, size + 1)?;

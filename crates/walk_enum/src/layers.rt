@@ -10,7 +10,8 @@ use std::marker::Model;
 /// The shortest walks from a node to a node, of which there is at least one. Contracts see the list of them, in
 /// lexicographic order.
 ///
-/// Each node on such a walk is kept, with its successors on such walks.
+/// There is a row for every node of the graph. That of a node on such a walk has its successors on such walks, and the
+/// others are empty.
 #[derive(Drop)]
 pub struct Layers {
     table: Table,

@@ -1,4 +1,4 @@
-ghost use Rattle.std.specs.Prelude.{◌≡◌, ◌≤◌, ◌+◌, ◌*◌, ◌↔◌, IfOk, IfSome, None, []};
+ghost use Rattle.std.specs.Prelude.{◌≡◌, ◌≤◌, ◌+◌, ◌↔◌, IfOk, IfSome, None, []};
 ghost use Rattle.walk_enum.specs.Walks.{least_walks};
 
 use crate::cutting::cut;
@@ -16,8 +16,8 @@ use std::sync::ledger::Ledger;
 /// From a node to itself there is one walk, of no step. Each node is asked for its successors at most once. The time is
 /// linear in the edges of the nodes that are asked, but for bringing the nodes on shortest walks into order; of nodes
 /// with many successors it is linear in the words of 64 nodes. The memory is that of the sets that the graph gives,
-/// which are kept until the search ends, and of a few numbers a node. What stays are the successors on shortest walks,
-/// 4 bytes each.
+/// which are kept until the search ends, and of a few numbers a node. What stays is a row for every node of the graph,
+/// with its successors on shortest walks, 4 bytes each.
 pub fn search<G: Graph, L: Ledger>(
     alloc: Global,
     graph: &G,
@@ -31,7 +31,7 @@ pub fn search<G: Graph, L: Ledger>(
     requires to_high { to ≤ G.nodes graph.now }
     ensures none { IfOk result (λ found. (found ≡ None) ↔ (least_walks (G.edge graph.now) (G.nodes graph.now) from to ≡ [])) }
     ensures some { IfOk result (λ found. IfSome found (λ layers. layers ≡ least_walks (G.edge graph.now) (G.nodes graph.now) from to)) }
-    ensures cost { steps.new ≤ steps.old + 2 * G.nodes graph.now }
+    ensures cost { steps.new ≤ steps.old + G.nodes graph.now }
 {
     let found = explore(alloc, graph, from, to, steps)?;
     let depth = number_at(&found.depths, to);
