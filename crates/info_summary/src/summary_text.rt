@@ -1,6 +1,5 @@
 // The summary of a policy.
 ghost use Rattle.std.specs.Prelude.{◌≡◌, IfOk, map};
-ghost use Rattle.info_lines.specs.Inner.Listings.{HasLine, line_of};
 ghost use Rattle.info_summary.specs.SummaryLines.{entry_line};
 ghost use Rattle.info_summary.specs.Counts.{permissive_count, capability_count};
 ghost use Rattle.info_summary.specs.Summary.{unknown_word, header_lines, mark_lines, summary_lines};
@@ -9,13 +8,13 @@ use crate::context_counts::context_counts;
 use crate::entry::{Entry, Value, count, push_entry};
 use crate::rule_counts::rule_counts;
 use crate::symbol_counts::{constraint_counts, symbol_counts};
-use info_lines::{FileLines, LineText};
+use info_lines::{EntryLines, EntryText};
 use info_symbols::{TypeSet, set_numbers};
 use pol_read::Policy;
 use std::alloc::{AllocError, Global};
 use std::marker::Model;
 
-/// The lines of a summary, by their numbers. Contracts see the lines.
+/// The lines of a summary, by their numbers. Contracts see all of them.
 #[derive(Drop)]
 pub struct SummaryText {
     entries: Vec<Entry>,
@@ -30,28 +29,28 @@ impl Model for SummaryText {
     ghost view = { λ text. map entry_line text.entries.items };
 }
 
-impl LineText for SummaryText {
-    ghost has = { HasLine };
+impl EntryText for SummaryText {
+    ghost lines = { λ text. text };
 
-    ghost text = { line_of };
+    fn len(&self) -> usize {
+        self.entries.len()
+    }
 
     #[tactic(auto, using(info_lines::proofs::ListingLines::line_at))]
-    fn push_text(&self, number: u32, buffer: &mut Vec<u8>) -> Result<(), AllocError> {
-        push_entry(buffer, &self.entries[number as usize])
+    fn push_text(&self, number: usize, buffer: &mut Vec<u8>) -> Result<(), AllocError> {
+        push_entry(buffer, &self.entries[number])
     }
 }
 
 /// The lines of a summary that are left.
-pub type SummaryLines = FileLines<SummaryText>;
+pub type SummaryLines = EntryLines<SummaryText>;
 
 /// The summary of a policy: its version, how it treats unknown classes, and how many it has of each thing.
-#[tactic(auto, using(info_lines::proofs::FileOrder::all_there, info_lines::proofs::FileOrder::all_lines, info_lines::proofs::FileOrder::as_many))]
 pub fn summary(alloc: Global, policy: &Policy<'_>) -> Result<SummaryLines, AllocError>
     ensures { IfOk result (λ lines. lines ≡ summary_lines policy.now) }
 {
     let entries = summary_entries(alloc, policy)?;
-    let count = entries.len() as u32;
-    Ok(FileLines::new(SummaryText { entries }, count))
+    Ok(EntryLines::new(SummaryText { entries }))
 }
 
 // What its lines say.
