@@ -11,11 +11,10 @@ ghost use Rattle.se_walks.specs.TypeNames.{ends_named, first_unknown, is_exclude
 use crate::Ends;
 use named_values::values_named;
 use pol_bitmap::Set;
-use pol_datums::Flavour;
-use pol_expand::is_flavour;
 use pol_fields::TableKind;
 use pol_read::Policy;
 use pol_symbols::Symbols;
+use rule_ends::is_type;
 use se_options::Named;
 use std::alloc::{AllocError, Global};
 
@@ -73,15 +72,13 @@ fn target_named(policy: &Policy<'_>, target: &Option<Named<'_>>) -> Option<Optio
 }
 
 // The value, if it is that of a type, and of no attribute.
+#[tactic(auto, using(rule_ends::proofs::TypesOutside::type_within))]
 fn plain_value(policy: &Policy<'_>, value: u32) -> Option<u32>
     ensures value { result ≡ plain_value policy.now (Some value) }
     ensures low { IfSome result (λ value. 1 ≤ value) }
     ensures high { IfSome result (λ value. value ≤ policy.now.symbols.types.nprim) }
 {
-    if 1 <= value
-        && value <= policy.type_count()
-        && is_flavour(Flavour::Plain, policy.symbols().flavour(value))
-    {
+    if is_type(policy, value) {
         Some(value)
     } else {
         None
