@@ -7,7 +7,7 @@ use Rattle.pol_symtab.specs.Inner.Freshness.{Gives}
 use Rattle.pol_symtab.specs.SymbolTables.{Table, table_start}
 use Rattle.pol_symtab.proofs.FreshRecords.{Gives-part, Gives-done}
 use Rattle.pol_commons.specs.declared.CommonRec.{CommonRec}
-use Rattle.pol_commons.specs.CommonTable.{after_common, common_under, commons_at, first_context}
+use Rattle.pol_commons.specs.CommonTable.{after_common, common_under, commons_at}
 use Rattle.pol_commons.specs.Inner.CommonFreshness.{common_is_fresh}
 use Rattle.pol_datums.specs.Flags.{is_primary_flag}
 use Rattle.pol_datums.specs.TypeRecord.{is_primary_type}
@@ -41,7 +41,7 @@ record OthersDistinct (tables : OtherTables) : Type 0 where
 commons_distinct : Gives commons_at (λ table. AreDistinct (λ common. common.name) (λ common. true) (λ common. common.value) table.nprim table.records)
 unfolding commons_at
 commons_distinct =
-    table_distinct common_under after_common (λ common. common.name) (λ common. true) (λ common. common.value) (λ context. context.nprim) (λ context. context.taken) first_context
+    table_distinct common_under after_common (λ common. common.name) (λ common. true) (λ common. common.value) (λ context. context.nprim) (λ context. context.taken) table_start
     (λ context. common_is_fresh context.taken context.nprim) (λ context common. (refl, refl)) (λ nprim. refl)
 
 classes_distinct : (version : ℕ) (commons : Table CommonRec) → Gives (class_table_at version commons) (λ table. AreDistinct (λ class. class.name) (λ class. true) (λ class. class.value) table.nprim table.records)

@@ -4,17 +4,12 @@ use Rattle.std.specs.List.{find}
 use Rattle.pol_cursor.specs.Outcome.{Reader}
 use Rattle.pol_cursor.specs.References.{Placed}
 use Rattle.pol_symtab.specs.declared.taken.TableContext.{TableContext}
-use Rattle.pol_symtab.specs.Claims.{no_claims}
-use Rattle.pol_symtab.specs.SymbolTables.{Table, table_at, has_the_name}
+use Rattle.pol_symtab.specs.SymbolTables.{Table, table_at, table_start, has_the_name}
 use Rattle.pol_commons.specs.declared.permission_rec.PermissionRec.{PermissionRec}
 use Rattle.pol_commons.specs.declared.common_rec.CommonRec.{CommonRec}
 use Rattle.pol_commons.specs.CommonRecord.{common_at, with_common}
 
 -- ---- reading
-
--- what the first common is read under, in a table of that nprim
-abbrev pub first_context : ℕ → TableContext
-first_context nprim = record { nprim = nprim; taken = no_claims }
 
 -- how a common is read under what the ones before it have taken
 abbrev pub common_under : TableContext → Reader CommonRec
@@ -26,7 +21,7 @@ after_common context common = record { nprim = context.nprim; taken = with_commo
 
 -- the whole table
 unfoldable pub commons_at : Reader (Table CommonRec)
-commons_at = table_at common_under after_common first_context
+commons_at = table_at common_under after_common table_start
 
 -- ---- look-ups
 

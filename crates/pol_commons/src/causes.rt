@@ -1,13 +1,13 @@
 //! The conditions of permissions and commons.
 
 ghost use Rattle.std.specs.Prelude.{◌≡◌};
-ghost use Rattle.std.specs.List.{list_all};
-ghost use Rattle.pol_symtab.specs.SymbolFields.{is_name_byte, name_test, new_value_test};
+ghost use Rattle.pol_symtab.specs.SymbolFields.{name_test, new_value_test};
 ghost use Rattle.pol_commons.specs.PermissionRecord.{claims_before};
 ghost use Rattle.pol_commons.specs.CommonRecord.{permission_count_test};
 
 use crate::permission_list::PermissionList;
 use pol_fields::Cause;
+use pol_symtab::is_name;
 
 /// The greatest value of a permission.
 pub const PERMISSIONS: u32 = 32;
@@ -46,18 +46,6 @@ pub fn name_cause(
     } else {
         None
     }
-}
-
-fn is_name(name: &[u8]) -> bool
-    ensures { result ≡ list_all is_name_byte name.now }
-{
-    name.iter().all(|byte| is_name_byte(*byte))
-}
-
-fn is_name_byte(byte: u8) -> bool
-    ensures { result ≡ is_name_byte byte }
-{
-    byte >= 0x21 && byte <= 0x7E
 }
 
 /// `TableTooLarge` where more than 32 permissions are declared.

@@ -6,24 +6,18 @@ use crate::common_view::CommonView;
 use crate::kind::Common;
 use crate::permission_list::PermissionList;
 use pol_cursor::{Cursor, ReadError};
-use pol_symtab::{SymbolTable, TableContext, Taken, read_symbol_table, read_table_head};
+use pol_symtab::{SymbolTable, read_whole_table};
 use std::alloc::Global;
 
 /// The table of commons.
 pub type CommonList<'a> = SymbolTable<'a, Common>;
 
 /// Reads the table of commons. Nothing is reserved by the number of commons that the policy claims.
-#[tactic(auto, unfolding(crate::specs::CommonTable::commons_at, pol_symtab::specs::SymbolTables::table_at))]
+#[tactic(auto, unfolding(crate::specs::CommonTable::commons_at))]
 pub fn read_commons<'a>(alloc: Global, c: &mut Cursor<'a>) -> Result<CommonList<'a>, ReadError>
     ensures { Yields (λ commons. commons) result commons_at c.old c.new }
 {
-    let head = read_table_head(c)?;
-    let context = TableContext {
-        nprim: head.nprim,
-        taken: Taken::new(alloc, head.nel),
-    };
-    let (commons, _context) = read_symbol_table(alloc, c, head, context)?;
-    Ok(commons)
+    read_whole_table(alloc, c)
 }
 
 /// The common of a name.

@@ -4,9 +4,9 @@ use Rattle.std.specs.Prelude.{nat_le}
 use Rattle.pol_fields.specs.declared.field.Field.{Field}
 use Rattle.pol_fields.specs.declared.fields.TheConstants.{NAMETRANS_LEN, NAMETRANS_NAME, NAMEGROUP_LEN, NAMEGROUP_NAME, SID_COUNT, FS_COUNT, FS_LEN, FS_NAME, PORT_COUNT, NETIF_COUNT, NETIF_LEN, NETIF_NAME, NODE_COUNT, NODE_ADDRESS, NODE_MASK, FSUSE_COUNT, FSUSE_LEN, FSUSE_NAME, NODE6_COUNT, NODE6_ADDRESS, NODE6_MASK, IBPKEY_COUNT, IBENDPORT_COUNT, IBENDPORT_LEN, IBENDPORT_NAME, GENFS_LEN, GENFS_FSTYPE, GENFS_PATHLEN, GENFS_PATH}
 use Rattle.pol_cursor.specs.Outcome.{Reader}
-use Rattle.pol_symtab.specs.SymbolTables.{Table, table_head_at, table_records_at, table_at}
+use Rattle.pol_symtab.specs.SymbolTables.{Table, table_head_at, table_records_at, table_at, table_start}
 use Rattle.pol_commons.specs.declared.CommonRec.{CommonRec}
-use Rattle.pol_commons.specs.CommonTable.{first_context, common_under, after_common, commons_at}
+use Rattle.pol_commons.specs.CommonTable.{common_under, after_common, commons_at}
 use Rattle.pol_classes.specs.ClassTables.{class_start, after_class, class_under, class_table_at}
 use Rattle.pol_symbols.specs.PolicySymbols.{roles_at, types_at, users_at, booleans_at, levels_at, categories_at, rule_tables_at, other_tables_at, symbols_at}
 use Rattle.pol_avtab.specs.declared.AvKey.{AvKey}
@@ -57,7 +57,7 @@ table_local record_at after start each =
 
 commons_local : IsLocal commons_at
 unfolding commons_at
-commons_local = table_local common_under after_common first_context (λ context. common_local context.taken context.nprim)
+commons_local = table_local common_under after_common table_start (λ context. common_local context.taken context.nprim)
 
 classes_local : (version : ℕ) (commons : Table CommonRec) → IsLocal (class_table_at version commons)
 unfolding class_table_at

@@ -10,7 +10,7 @@ use Rattle.pol_header.proofs.HeaderLaws.{header_spelled}
 use Rattle.pol_symtab.specs.SymbolTables.{Table, table_start}
 use Rattle.pol_commons.specs.declared.CommonRec.{CommonRec}
 use Rattle.pol_commons.specs.CommonRecord.{spell_common, CommonFits}
-use Rattle.pol_commons.specs.CommonTable.{common_under, after_common, first_context, commons_at}
+use Rattle.pol_commons.specs.CommonTable.{common_under, after_common, commons_at}
 use Rattle.pol_commons.proofs.CommonLaws.{common_spelled}
 use Rattle.pol_datums.specs.RoleRecord.{spell_role, RoleFits}
 use Rattle.pol_datums.specs.TypeRecord.{spell_type, TypeFits}
@@ -72,7 +72,7 @@ front_spelled =
 
 commons_spelled : IsSpelledBy commons_at (spell_symbol_table spell_common)
 unfolding commons_at
-commons_spelled = symbol_table_spelled common_under after_common first_context spell_common CommonFits λ context. common_spelled context.taken context.nprim
+commons_spelled = symbol_table_spelled common_under after_common table_start spell_common CommonFits λ context. common_spelled context.taken context.nprim
 
 classes_spelled : (version : ℕ) (commons : Table CommonRec) → IsSpelledBy (class_table_at version commons) (spell_symbol_table spell_class)
 unfolding class_table_at

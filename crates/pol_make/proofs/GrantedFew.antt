@@ -15,7 +15,7 @@ use Rattle.pol_commons.specs.declared.CommonRec.{CommonRec}
 use Rattle.pol_commons.specs.PermissionRecord.{permission_limit, claims_before, permission_value_at, permission_at, spell_permission, PermissionFits}
 use Rattle.pol_commons.specs.Permissions.{with_permission, permissions_at}
 use Rattle.pol_commons.specs.CommonRecord.{common_at, spell_common, CommonFits}
-use Rattle.pol_commons.specs.CommonTable.{common_under, after_common, first_context, commons_at}
+use Rattle.pol_commons.specs.CommonTable.{common_under, after_common, commons_at}
 use Rattle.pol_datums.specs.declared.RoleRec.{RoleRec}
 use Rattle.pol_datums.specs.declared.BooleanRec.{BooleanRec}
 use Rattle.pol_datums.specs.declared.SensitivityRec.{SensitivityRec}
@@ -130,14 +130,14 @@ length-commons = refl
 pub commons-fit : TableFits CommonFits (record { nprim = 1; records = made_commons })
 commons-fit = record { nprim = omega arith; nel = omega (arith, length-commons); records = commons-are }
 
-commons-stand : EachUnder (λ left context common. GrantsOf (common_under context) common (spell_common common)) after_common (first_context 1) made_commons
+commons-stand : EachUnder (λ left context common. GrantsOf (common_under context) common (spell_common common)) after_common (table_start 1) made_commons
 unfolding made_commons
 commons-stand = (common-granted _ 1 _ commons-are.0 (stands-so _ 1 _ 1 refl) (omega arith) file_permissions-stand, tt)
 
 pub commons-granted : GrantsBare commons_at (record { nprim = 1; records = made_commons }) (spell_table spell_common (record { nprim = 1; records = made_commons }))
 unfolding commons_at
 commons-granted =
-    grants-table common_under after_common first_context spell_common (λ left context common. GrantsOf (common_under context) common (spell_common common)) (λ left context common may. may) (record { nprim = 1; records = made_commons })
+    grants-table common_under after_common table_start spell_common (λ left context common. GrantsOf (common_under context) common (spell_common common)) (λ left context common may. may) (record { nprim = 1; records = made_commons })
     (omega arith) (omega (arith, length-commons)) commons-stand
 
 -- ---- roles

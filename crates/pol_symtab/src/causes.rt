@@ -32,7 +32,8 @@ pub fn name_cause(taken: &Taken<'_>, name: &[u8]) -> Option<Cause>
     }
 }
 
-fn is_name(name: &[u8]) -> bool
+/// Whether each byte of a name lies in 0x21 to 0x7E.
+pub fn is_name(name: &[u8]) -> bool
     ensures { result ≡ list_all is_name_byte name.now }
 {
     name.iter().all(|byte| is_name_byte(*byte))

@@ -17,7 +17,9 @@ mod taken_names;
 mod taken_values;
 mod value_index;
 
-pub use causes::{length_cause, name_cause, new_value_cause, primary_value_cause, value_cause};
+pub use causes::{
+    is_name, length_cause, name_cause, new_value_cause, primary_value_cause, value_cause,
+};
 pub use record_laws::{ranks_have_law, tables_have_laws};
 pub use symbol::{Symbol, SymbolKind};
 pub use symbol_fields::{read_symbol_length, read_symbol_name};

@@ -12,7 +12,7 @@ use Rattle.pol_bitmap.proofs.Laws.{bitmap_spelled, bitmap_again}
 use Rattle.pol_symtab.specs.SymbolTables.{Table, bare, table_start, spell_table, TableFits}
 use Rattle.pol_commons.specs.declared.CommonRec.{CommonRec}
 use Rattle.pol_commons.specs.CommonRecord.{spell_common, CommonFits}
-use Rattle.pol_commons.specs.CommonTable.{common_under, after_common, first_context, commons_at}
+use Rattle.pol_commons.specs.CommonTable.{common_under, after_common, commons_at}
 use Rattle.pol_commons.proofs.CommonLaws.{common_spelled, common_again}
 use Rattle.pol_datums.specs.RoleRecord.{spell_role, RoleFits}
 use Rattle.pol_datums.specs.TypeRecord.{spell_type, TypeFits}
@@ -63,7 +63,7 @@ HasTableLaws r spell fits = HasLaws r (λ table. bare table) (spell_table spell)
 
 pub commons-laws : HasTableLaws commons_at spell_common CommonFits
 unfolding commons_at
-commons-laws = table-laws common_under after_common first_context spell_common CommonFits (λ context. common_spelled context.taken context.nprim) (λ context. common_again context.taken context.nprim)
+commons-laws = table-laws common_under after_common table_start spell_common CommonFits (λ context. common_spelled context.taken context.nprim) (λ context. common_again context.taken context.nprim)
 
 pub classes-laws : (version : ℕ) (commons : Table CommonRec) → HasTableLaws (class_table_at version commons) spell_class (ClassFits version)
 unfolding class_table_at
