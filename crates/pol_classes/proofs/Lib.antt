@@ -1,4 +1,3 @@
-pub mod ConstraintPlaces
 pub mod ClassLaws
 pub mod ClassForms
 pub mod ClassTableParts

@@ -1,14 +1,10 @@
 -- The constraints of a class, one behind the other (libsepol's read_cons_helper).
-use Rattle.std.specs.Prelude.{ℕ, ◌+◌, ◌*◌, nat_le, Bool, Option, Some, None, List, length}
-use Rattle.std.specs.List.{sum_by}
+use Rattle.std.specs.Prelude.{ℕ, nat_le, Bool, List}
 use Rattle.pol_cursor.specs.Outcome.{Reader}
 use Rattle.pol_cursor.specs.Parts.{records_at}
 use Rattle.pol_cursor.specs.References.{values_of}
 use Rattle.pol_cursor.specs.Runs.{run_in, run_end, HasRun}
-use Rattle.pol_bitmap.specs.declared.node.Node.{Node}
 use Rattle.pol_constraints.specs.declared.constraint_rec.ConstraintRec.{ConstraintRec}
-use Rattle.pol_constraints.specs.declared.constraint_rec.ConstraintItem.{ConstraintItem}
-use Rattle.pol_constraints.specs.declared.constraint_rec.TypeSet.{TypeSet}
 use Rattle.pol_constraints.specs.ConstraintRecord.{constraint_at, constraint_in, constraint_end, HasConstraint}
 
 -- n constraints of a policy of a version, in which a third context is allowed or not
@@ -32,19 +28,3 @@ constraints_end version = run_end (constraint_end version)
 -- they stand there
 abbrev pub HaveConstraints : ℕ → List ℕ → ℕ → ℕ → Type 0
 HaveConstraints version = HasRun (HasConstraint version) (constraint_end version)
-
--- ---- how many bytes a constraint takes
-
-abbrev pub type_set_length : Option TypeSet → ℕ
-type_set_length None = 0
-type_set_length (Some set) = 28 + 12 * length set.types + 12 * length set.negated
-
-abbrev pub names_length : Option (List Node) → ℕ
-names_length None = 0
-names_length (Some names) = 12 + 12 * length names
-
-abbrev pub item_length : ConstraintItem → ℕ
-item_length item = 12 + names_length item.names + type_set_length item.type_set
-
-abbrev pub constraint_length : ConstraintRec → ℕ
-constraint_length constraint = 8 + sum_by item_length constraint.items

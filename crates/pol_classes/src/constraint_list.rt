@@ -3,8 +3,7 @@ ghost use Rattle.std.specs.Iterator.{YieldsFirst, item_count};
 ghost use Rattle.pol_cursor.specs.Outcome.{Answers};
 ghost use Rattle.pol_classes.specs.ConstraintLists.{constraints_at, constraints_in, constraints_end, HaveConstraints};
 
-use crate::constraint_length::constraint_end;
-use pol_constraints::{ConstraintRec, ConstraintView, read_constraint};
+use pol_constraints::{ConstraintRec, ConstraintView, constraint_end, read_constraint};
 use pol_cursor::{Cursor, OwnedList};
 use pol_fields::Fault;
 use std::alloc::{AllocError, Global};

@@ -8,7 +8,6 @@ mod class_rec;
 mod class_table;
 mod class_view;
 mod class_write;
-mod constraint_length;
 mod constraint_list;
 mod record_laws;
 

@@ -46,10 +46,20 @@ module _ (version : ℕ) (bytes : List ℕ) where
   items_end-suc place zero = refl
   items_end-suc place (suc n) = items_end-suc (item_end version bytes place) n
 
+  pub items_end_next : (place n : ℕ) → items_end version bytes place (n + 1) ≡ item_end version bytes (items_end version bytes place n)
+  items_end_next place n = rw add-one (items_end-suc place n)
+
   HasItems-suc : (place n : ℕ) → HasItems version bytes place n → HasItem version bytes (items_end version bytes place n) → HasItems version bytes place (suc n)
   unfolding HasItems items_end
   HasItems-suc place zero h one = (one, tt)
   HasItems-suc place (suc n) h one = (h.0, HasItems-suc (item_end version bytes place) n h.1 one)
+
+  -- the item of a number, from 0 on
+  pub HasItems_one : (place n i : ℕ) → i < n → HasItems version bytes place n → HasItem version bytes (items_end version bytes place i)
+  unfolding HasItems items_end
+  HasItems_one place zero i lt h = absurd (omega arith)
+  HasItems_one place (suc n) zero lt h = h.0
+  HasItems_one place (suc n) (suc i) lt h = HasItems_one (item_end version bytes place) n i (omega arith) h.1
 
   -- the first of the items that are left
   pub items_left : (place n : ℕ) → 0 < n → items_in version bytes place n ≡ item_in version bytes place ∷ items_in version bytes (item_end version bytes place) (n - 1)
@@ -83,7 +93,7 @@ module _ (version : ℕ) (xtarget : Bool) (count : ℕ) (first : Position) where
       let more : items_in version first.bytes first.place (i + 1) ≡ items_in version first.bytes first.place i ++ x ∷ [] =
       rw add-one (items_in-suc version first.bytes first.place i ∙ ap (λ (p : Position). items_in version first.bytes first.place i ++ item_in version p.bytes p.place ∷ []) (sym here)) in
       let end : next.place ≡ items_end version first.bytes first.place (i + 1) =
-      rw add-one (ends ∙ ap (λ (p : Position). item_end version p.bytes p.place) here ∙ sym (items_end-suc version first.bytes first.place i)) in
+      ends ∙ ap (λ (p : Position). item_end version p.bytes p.place) here ∙ sym (items_end_next version first.bytes first.place i) in
       record {
         going = rw (is, more) one;
         ends = end;

@@ -1,12 +1,25 @@
-//! Where the parts of an item of a constraint end.
+//! Where a constraint ends, and where its items and their parts do.
 
 ghost use Rattle.std.specs.Prelude.{◌≡◌, ◌≤◌, ◌+◌, length};
 ghost use Rattle.pol_bitmap.specs.Nodes.{bitmap_size, HasBitmap};
-ghost use Rattle.pol_constraints.specs.ConstraintRecord.{flags_place, type_set_end, item_end, HasTypeSet, HasItem};
+ghost use Rattle.pol_constraints.specs.ConstraintRecord.{flags_place, type_set_end, item_end, constraint_end, HasTypeSet, HasItem, HasConstraint};
 
 use crate::constraint_reading::TYPE_SETS;
 use pol_bitmap::BitmapView;
 use pol_cursor::u32_in;
+
+/// The place behind the constraint of a policy of that version at a place that has one. It goes through the items.
+pub fn constraint_end(bytes: &[u8], place: u32, version: u32) -> u32
+    requires { HasConstraint version bytes.now place }
+    ensures { result ≡ constraint_end version bytes.now place }
+{
+    let count = u32_in(bytes, place as usize + 4);
+    let mut end = place + 8;
+    for _ in 0..count {
+        end = item_end(bytes, end, version);
+    }
+    end
+}
 
 /// The place behind an item.
 #[tactic(auto, unfolding(crate::specs::ConstraintRecord::names_end, crate::specs::ConstraintRecord::sets_end, crate::specs::ConstraintRecord::HasSets))]

@@ -15,6 +15,7 @@ mod record_laws;
 mod type_set_view;
 
 pub use constraint_item::{ConstraintItemView, ConstraintItems};
+pub use constraint_places::constraint_end;
 pub use constraint_rec::{ConstraintItem, ConstraintRec, ConstraintRecList, TypeSet};
 pub use constraint_view::{ConstraintView, read_constraint};
 pub use junction::Junction;
