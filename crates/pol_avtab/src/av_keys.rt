@@ -1,4 +1,4 @@
-ghost use Rattle.std.specs.Prelude.{◌≡◌, true, [], OnOk, OnErr};
+ghost use Rattle.std.specs.Prelude.{◌≡◌, ◌↔◌, [], IsTrue, OnOk, OnErr};
 ghost use Rattle.pol_avtab.specs.AvKeys.{key_of, has_key, with_key};
 
 use crate::av_key::AvKey;
@@ -33,7 +33,7 @@ impl AvKeys {
 
     /// Whether there is none.
     pub fn is_empty(&self) -> bool
-        ensures { result ≡ true → self.now ≡ [] }
+        ensures { IsTrue result ↔ (self.now ≡ []) }
     {
         self.keys.is_empty()
     }
