@@ -1,8 +1,8 @@
 -- What rules grant to types, by the names of classes and permissions, as the analysis of domain transitions of SETools asks for it.
-use Rattle.std.specs.Prelude.{ℕ, ◌-◌, Bool, true, false, ◌&&◌, ◌==◌, Option, Some, None, List, length, codes, option_map}
+use Rattle.std.specs.Prelude.{ℕ, Bool, true, false, ◌&&◌, ◌==◌, Option, Some, None, List, length, codes, option_map}
 use Rattle.std.specs.List.{filter, range_with_len}
-use Rattle.std.specs.Int.{bit_at}
 use Rattle.pol_fields.specs.declared.TableKind.TheVariants.{Classes}
+use Rattle.pol_commons.specs.Permissions.{mask_has}
 use Rattle.pol_symbols.specs.declared.Symbols.{Symbols}
 use Rattle.pol_symbols.specs.PolicySymbols.{value_in, permission_value_in}
 use Rattle.pol_file.specs.declared.Parts.{Parts}
@@ -35,9 +35,9 @@ permission_of_class symbols name (Some class) = option_map (λ value. record { c
 unfoldable pub permission_named : Symbols → List ℕ → List ℕ → Option Permission
 permission_named symbols class name = permission_of_class symbols name (value_in symbols Classes class)
 
--- an allow rule of the class gives the permission: the bit of its value is set
+-- an allow rule of the class gives the permission: its mask has it
 abbrev pub part_gives : Permission → RuleKind → ℕ → RulePart → Bool
-part_gives permission Allow class (Perms mask) = (class == permission.class) && (bit_at mask (permission.value - 1) == 1)
+part_gives permission Allow class (Perms mask) = (class == permission.class) && mask_has mask permission.value
 part_gives permission kind class part = false
 
 -- a rule gives a permission, which the policy may lack

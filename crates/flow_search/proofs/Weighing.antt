@@ -9,6 +9,7 @@ use Rattle.std.proofs.lemmas.Option.{slice_get_cases}
 use Rattle.pol_cursor.specs.References.{Placed}
 use Rattle.pol_fields.specs.declared.TableKind.TheVariants.{Classes}
 use Rattle.pol_commons.specs.declared.PermissionRec.{PermissionRec}
+use Rattle.pol_commons.specs.Permissions.{has_permission}
 use Rattle.pol_classes.specs.declared.ClassRec.{ClassRec}
 use Rattle.pol_symbols.specs.declared.Symbols.{Symbols}
 use Rattle.pol_symbols.specs.PolicySymbols.{index_in, permissions_of}
@@ -19,7 +20,7 @@ use Rattle.pol_rules.specs.StoredRules.{StoredRule, stored_rules}
 use Rattle.perm_map.specs.declared.Direction.{Direction}
 use Rattle.perm_map.specs.PermissionMap.{Entry, Weights, weights_of}
 use Rattle.flow_search.specs.declared.class_weights.PermissionWeight.{PermissionWeight}
-use Rattle.flow_search.specs.FlowWeights.{class_of, greatest, has_permission, inwards, mask_weight, outwards, permission_weight, rule_weight}
+use Rattle.flow_search.specs.FlowWeights.{class_of, greatest, inwards, mask_weight, outwards, permission_weight, rule_weight}
 use Rattle.flow_search.specs.Flows.{weight_found, weight_of_rule}
 use Rattle.flow_search.specs.Inner.FlowParts.{reaches}
 use Rattle.flow_search.specs.declared.reach_bits.ReachBits.{ReachBits}

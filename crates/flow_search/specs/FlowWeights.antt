@@ -1,10 +1,10 @@
 -- How strongly information flows by a rule, by the weights of a permission map (SETools' infoflow).
-use Rattle.std.specs.Prelude.{ℕ, ◌-◌, Bool, true, ◌==◌, max, Option, Some, None, List, map}
+use Rattle.std.specs.Prelude.{ℕ, true, max, Option, Some, None, List, map}
 use Rattle.std.specs.List.{filter, find, fold}
-use Rattle.std.specs.Int.{bit_at}
 use Rattle.pol_cursor.specs.References.{Placed}
 use Rattle.pol_symtab.specs.SymbolTables.{declares}
 use Rattle.pol_commons.specs.declared.PermissionRec.{PermissionRec}
+use Rattle.pol_commons.specs.Permissions.{has_permission}
 use Rattle.pol_classes.specs.declared.ClassRec.{ClassRec}
 use Rattle.pol_symbols.specs.declared.Symbols.{Symbols}
 use Rattle.pol_symbols.specs.PolicySymbols.{permissions_of}
@@ -45,10 +45,6 @@ mapped way (Some weight) = way weight.0 weight.1
 mapped way None = 0
 
 -- ---- a rule
-
--- bit v - 1 of a rule's mask stands for the permission of value v
-abbrev pub has_permission : ℕ → PermissionRec → Bool
-has_permission mask permission = bit_at mask (permission.value - 1) == 1
 
 -- the weight of a permission of the class of a name
 abbrev pub permission_weight : (Direction → ℕ → ℕ) → Weights → List ℕ → PermissionRec → ℕ

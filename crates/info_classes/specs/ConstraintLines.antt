@@ -1,12 +1,12 @@
 -- The lines of constraints, as seinfo of SETools prints them: those on permissions, and those on a change of context.
-use Rattle.std.specs.Prelude.{ℕ, ◌-◌, ◌==◌, ◌&&◌, nat_eq, Bool, if◌then◌else◌, Option, option_map, List, [], ◌∷◌, ◌++◌, map, codes}
+use Rattle.std.specs.Prelude.{ℕ, ◌==◌, ◌&&◌, nat_eq, Bool, if◌then◌else◌, Option, option_map, List, [], ◌∷◌, ◌++◌, map, codes}
 use Rattle.std.specs.List.{filter, flat_map, list_any}
-use Rattle.std.specs.Int.{bit_at}
 use Rattle.pol_cursor.specs.References.{Placed}
 use Rattle.pol_constraints.specs.declared.ConstraintItem.{ConstraintItem}
 use Rattle.pol_constraints.specs.declared.ConstraintRec.{ConstraintRec}
 use Rattle.pol_texts.specs.SetTexts.{set_text}
 use Rattle.pol_commons.specs.declared.PermissionRec.{PermissionRec}
+use Rattle.pol_commons.specs.Permissions.{has_permission}
 use Rattle.pol_classes.specs.declared.ClassRec.{ClassRec}
 use Rattle.pol_symbols.specs.declared.symbols.Symbols.{Symbols}
 use Rattle.pol_symbols.specs.PolicySymbols.{name_in, permissions_of}
@@ -29,10 +29,6 @@ compares_levels item = item.kind == 4 && is_level_pair item.attr
 -- a constraint that compares levels is one of MLS (checkpolicy's mlsconstrain and mlsvalidatetrans)
 abbrev pub mls_word : List ConstraintItem → List ℕ
 mls_word items = if list_any compares_levels items then codes "mls" else []
-
--- bit v - 1 of a constraint's permissions stands for the permission of value v
-abbrev pub has_permission : ℕ → PermissionRec → Bool
-has_permission mask permission = bit_at mask (permission.value - 1) == 1
 
 -- the names of these permissions whose bits are set, as a set in the order of the names
 unfoldable pub permissions_text : ℕ → List PermissionRec → List ℕ

@@ -1,13 +1,13 @@
 //! The parts of a constraint's line.
 
-ghost use Rattle.std.specs.Prelude.{◌≡◌, ◌≤◌, ◌-◌, ◌==◌, ◌++◌, IfOk, OnOk, map};
-ghost use Rattle.std.specs.Int.{bit_at};
+ghost use Rattle.std.specs.Prelude.{◌≡◌, ◌++◌, IfOk, OnOk, map};
 ghost use Rattle.std.specs.List.{filter, fold, list_any};
 ghost use Rattle.pol_constraints.specs.ConstraintRecord.{IsExpression};
+ghost use Rattle.pol_commons.specs.Permissions.{has_permission};
 ghost use Rattle.pol_symbols.specs.PolicySymbols.{name_in, permissions_of};
 ghost use Rattle.pol_texts.specs.NameLists.{with_name, in_order};
 ghost use Rattle.info_classes.specs.ConstraintTexts.{constraint_text};
-ghost use Rattle.info_classes.specs.ConstraintLines.{is_level_pair, compares_levels, mls_word, has_permission, permissions_text, subject_text, constraint_line};
+ghost use Rattle.info_classes.specs.ConstraintLines.{is_level_pair, compares_levels, mls_word, permissions_text, subject_text, constraint_line};
 
 use crate::constraint_entry::{ConstraintEntry, ConstraintKind};
 use info_lines::{insert_name, push_set};
@@ -130,19 +130,11 @@ fn insert_names<'a>(
     ensures { OnOk result (map (λ name. name.now) names.new.items ≡ fold (λ sorted name. with_name name sorted) (map (λ name. name.now) names.old.items) (map (λ permission. permission.name) (filter (has_permission mask) permissions.entry))) }
 {
     for permission in permissions {
-        if has_bit(mask, permission.value()) {
+        if permission.is_in(mask) {
             insert_name(names, permission.name())?;
         }
     }
     Ok(())
-}
-
-// Whether the bit of a value, which is 1 to 32, is set.
-fn has_bit(mask: u32, value: u32) -> bool
-    requires { (1 ≤ value) × (value ≤ 32) }
-    ensures { result ≡ (bit_at mask (value - 1) == 1) }
-{
-    (mask >> (value - 1)) & 1 == 1
 }
 
 // The text of the expression of a constraint.

@@ -1,5 +1,6 @@
 -- The permissions of a class or of a common, one behind the other.
-use Rattle.std.specs.Prelude.{ℕ, ◌-◌, ◌^◌, List, [], ◌∷◌, ◌++◌, Option, nat_eq, bit_or}
+use Rattle.std.specs.Prelude.{ℕ, ◌-◌, ◌^◌, ◌==◌, Bool, List, [], ◌∷◌, ◌++◌, Option, nat_eq, bit_or}
+use Rattle.std.specs.Int.{bit_at}
 use Rattle.std.specs.List.{find, fold}
 use Rattle.std.specs.Str.{bytes_eq}
 use Rattle.pol_cursor.specs.Outcome.{Reader}
@@ -42,10 +43,20 @@ of_value value permissions = find (λ p. nat_eq value p.value) permissions
 abbrev pub of_name : List ℕ → List PermissionRec → Option PermissionRec
 of_name name permissions = find (λ p. bytes_eq name p.name) permissions
 
--- the bit of a permission in an access vector: bit v - 1 stands for the value v
+-- ---- permissions as bits of a mask (libsepol's access vectors): bit v - 1 stands for the value v
+
+-- the bit of a permission
 abbrev pub bit_of : PermissionRec → ℕ
 bit_of permission = 2 ^ (permission.value - 1)
 
 -- the bits of permissions together
 abbrev pub mask_of : List PermissionRec → ℕ
 mask_of permissions = fold (λ mask p. bit_or mask (bit_of p)) 0 permissions
+
+-- a mask has the permission of a value
+abbrev pub mask_has : ℕ → ℕ → Bool
+mask_has mask value = bit_at mask (value - 1) == 1
+
+-- a mask has a permission
+abbrev pub has_permission : ℕ → PermissionRec → Bool
+has_permission mask permission = mask_has mask permission.value

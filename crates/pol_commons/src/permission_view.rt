@@ -2,6 +2,7 @@ ghost use Rattle.std.specs.Prelude.{◌≡◌, ◌≤◌, ◌+◌, ◌-◌, ◌^
 ghost use Rattle.pol_cursor.specs.Outcome.{Answers};
 ghost use Rattle.pol_cursor.specs.Parts.{num};
 ghost use Rattle.pol_commons.specs.PermissionRecord.{claims_before, permission_value_at, permission_at, permission_in, permission_end, HasPermission};
+ghost use Rattle.pol_commons.specs.Permissions.{has_permission};
 ghost use Rattle.pol_symtab.specs.SymbolFields.{symbol_name_at};
 
 use crate::causes::{name_cause, value_cause};
@@ -63,6 +64,13 @@ impl<'a> PermissionView<'a> {
         ensures { result ≡ 2 ^ (self.now.value - 1) }
     {
         1 << (self.value() - 1)
+    }
+
+    /// Whether a mask has the permission: its bit is set.
+    pub fn is_in(&self, mask: u32) -> bool
+        ensures { result ≡ has_permission mask self.now }
+    {
+        (mask >> (self.value() - 1)) & 1 == 1
     }
 
     /// A copy of the permission.

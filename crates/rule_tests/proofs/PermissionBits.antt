@@ -9,11 +9,11 @@ use Rattle.std.proofs.Math.Nat.{zero-mul}
 use Rattle.std.proofs.lemmas.Nat.{and_comm, and_le_l, and_or_apart}
 use Rattle.std.proofs.lemmas.Nat.Bits.{and_pow, bit_at_and, bit_at_or, bit_at-pow_same, bit_at-zero, bit_at-lt}
 use Rattle.pol_commons.specs.declared.PermissionRec.{PermissionRec}
-use Rattle.pol_commons.specs.Permissions.{bit_of}
+use Rattle.pol_commons.specs.Permissions.{bit_of, has_permission}
 use Rattle.rule_criteria.specs.declared.Mode.{Mode}
 use Rattle.rule_criteria.specs.declared.Mode.TheVariants.{Plain, Direct, Pattern, PatternDirect, Equal, Subset}
 use Rattle.rule_tests.specs.declared.class_bits.ClassBits.{ClassBits}
-use Rattle.rule_tests.specs.Permissions.{has_permission, compare_names, is_among}
+use Rattle.rule_tests.specs.Permissions.{compare_names, is_among}
 use Rattle.rule_tests.specs.Inner.Tests.{shares_bit, bits_behind, bits_named, bits_of_others, IsClassBits, meets_bits}
 
 -- ---- one bit

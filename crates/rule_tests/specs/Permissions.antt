@@ -1,9 +1,8 @@
 -- How the permissions of a rule meet a criterion: by their names (SETools' manual page of sesearch).
-use Rattle.std.specs.Prelude.{ℕ, ◌-◌, ◌==◌, Bool, ◌&&◌, List, [], ◌∷◌, map, codes}
+use Rattle.std.specs.Prelude.{ℕ, Bool, ◌&&◌, List, [], ◌∷◌, map, codes}
 use Rattle.std.specs.Str.{bytes_eq}
-use Rattle.std.specs.Int.{bit_at}
 use Rattle.std.specs.List.{filter, list_any, list_all}
-use Rattle.pol_commons.specs.declared.PermissionRec.{PermissionRec}
+use Rattle.pol_commons.specs.Permissions.{has_permission}
 use Rattle.pol_symbols.specs.PolicySymbols.{permissions_in_class}
 use Rattle.pol_symbols.specs.declared.Symbols.{Symbols}
 use Rattle.pol_rules.specs.declared.RulePart.{RulePart}
@@ -25,10 +24,6 @@ compare_names Subset asked has = list_all (is_among has) asked
 compare_names other asked has = list_any (is_among has) asked
 
 -- ---- the permissions of a rule
-
--- bit v - 1 of a mask stands for the permission value v
-abbrev pub has_permission : ℕ → PermissionRec → Bool
-has_permission mask permission = bit_at mask (permission.value - 1) == 1
 
 -- the names of the permissions of a class that a mask has, its own and those of its common
 abbrev pub names_in_mask : Symbols → ℕ → ℕ → List (List ℕ)

@@ -11,11 +11,12 @@ use Rattle.std.proofs.lemmas.List.Sums.{sum_by-cons}
 use Rattle.pol_symtab.specs.SymbolTables.{is_below}
 use Rattle.pol_symtab.proofs.Ranks.{count-cons}
 use Rattle.pol_commons.specs.declared.PermissionRec.{PermissionRec}
+use Rattle.pol_commons.specs.Permissions.{has_permission}
 use Rattle.pol_texts.specs.NameLists.{in_order}
 use Rattle.pol_texts.specs.SetTexts.{set_text}
 use Rattle.pol_texts.proofs.OrderedNames.{sorted_map}
 use Rattle.pol_texts.proofs.RisingNames.{in_order_rises, in_order_counts, settled, sorted_rises}
-use Rattle.info_classes.specs.ConstraintLines.{has_permission, permissions_text}
+use Rattle.info_classes.specs.ConstraintLines.{permissions_text}
 use Rattle.rule_text.specs.Inner.ClassPermissions.{shown_text, AreByName}
 
 abbrev name_of : PermissionRec → List ℕ

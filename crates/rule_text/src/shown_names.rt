@@ -1,7 +1,6 @@
 //! The set of the permissions that a mask has.
 
-ghost use Rattle.std.specs.Prelude.{◌≡◌, ◌≤◌, ◌-◌, ◌==◌, ◌∷◌, [], ◌++◌, ℕ, List, IfOk, OnOk};
-ghost use Rattle.std.specs.Int.{bit_at};
+ghost use Rattle.std.specs.Prelude.{◌≡◌, ◌∷◌, [], ◌++◌, ℕ, List, IfOk, OnOk};
 ghost use Rattle.pol_commons.specs.declared.PermissionRec.{PermissionRec};
 ghost use Rattle.rule_text.specs.Inner.ClassPermissions.{shown_text};
 ghost use Rattle.rule_text.specs.Inner.ShownNames.{text_left, shown_left};
@@ -46,7 +45,7 @@ fn push_permission<'a>(
 ) -> Result<Unwritten<'a>, AllocError>
     ensures { (rest : List PermissionRec) → IfOk result (λ now. buffer.new.items ++ shown_left mask now rest ≡ buffer.old.items ++ shown_left mask unwritten.entry (permission.now ∷ rest)) }
 {
-    if has_bit(mask, permission.value()) {
+    if permission.is_in(mask) {
         push_name(buffer, unwritten, permission.name())
     } else {
         Ok(unwritten)
@@ -88,12 +87,4 @@ fn push_end(buffer: &mut Vec<u8>, unwritten: Unwritten<'_>) -> Result<(), AllocE
         Unwritten::First(name) => buffer.extend_from_slice(name),
         Unwritten::End => buffer.extend_from_slice(b" }"),
     }
-}
-
-// Whether the bit of a value, which is 1 to 32, is set.
-fn has_bit(mask: u32, value: u32) -> bool
-    requires { (1 ≤ value) × (value ≤ 32) }
-    ensures { result ≡ (bit_at mask (value - 1) == 1) }
-{
-    (mask >> (value - 1)) & 1 == 1
 }

@@ -3,13 +3,14 @@ use Rattle.std.specs.Prelude.{◌≡◌, ℕ, List, [], Some, length, map, slice
 use Rattle.std.specs.List.{filter}
 use Rattle.pol_cursor.specs.References.{Placed}
 use Rattle.pol_commons.specs.declared.PermissionRec.{PermissionRec}
+use Rattle.pol_commons.specs.Permissions.{has_permission}
 use Rattle.pol_classes.specs.declared.ClassRec.{ClassRec}
 use Rattle.pol_symbols.specs.declared.Symbols.{Symbols}
 use Rattle.pol_symbols.specs.PolicySymbols.{permissions_of}
 use Rattle.pol_texts.specs.SetTexts.{set_text}
 use Rattle.pol_rules.specs.declared.rule.RulePart.{RulePart}
 use Rattle.pol_rules.specs.declared.rule.RulePart.TheVariants.{Perms}
-use Rattle.info_classes.specs.ConstraintLines.{has_permission, permissions_text}
+use Rattle.info_classes.specs.ConstraintLines.{permissions_text}
 
 -- the names of those of these permissions whose bits are set, as a set in the order in which they stand
 unfoldable pub shown_text : ℕ → List PermissionRec → List ℕ

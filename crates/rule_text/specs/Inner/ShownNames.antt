@@ -2,8 +2,8 @@
 use Rattle.std.specs.Prelude.{ℕ, List, ◌∷◌, ◌++◌, codes, map}
 use Rattle.std.specs.List.{filter}
 use Rattle.pol_commons.specs.declared.PermissionRec.{PermissionRec}
+use Rattle.pol_commons.specs.Permissions.{has_permission}
 use Rattle.pol_texts.specs.SetTexts.{listed, set_text}
-use Rattle.info_classes.specs.ConstraintLines.{has_permission}
 use Rattle.rule_text.specs.declared.shown_names.Unwritten.{Unwritten}
 use Rattle.rule_text.specs.declared.shown_names.Unwritten.TheVariants.{Nothing, First, End}
 

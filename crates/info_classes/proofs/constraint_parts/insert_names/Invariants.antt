@@ -1,7 +1,7 @@
 use Rattle.std.proofs.Common.{◌≡◌, map}
 use Rattle.std.specs.List.{filter, fold}
 use Rattle.pol_texts.specs.NameLists.{with_name}
-use Rattle.info_classes.specs.ConstraintLines.{has_permission}
+use Rattle.pol_commons.specs.Permissions.{has_permission}
 use Rattle.info_classes.proofs.constraint_parts.insert_names.Given as goal
 
 -- what is left makes of the names what the whole makes of those before
