@@ -1,16 +1,13 @@
 -- The lines of constraints, as seinfo of SETools prints them: those on permissions, and those on a change of context.
 use Rattle.std.specs.Prelude.{ℕ, ◌==◌, ◌&&◌, nat_eq, Bool, if◌then◌else◌, Option, option_map, List, [], ◌∷◌, ◌++◌, map, codes}
-use Rattle.std.specs.List.{filter, flat_map, list_any}
+use Rattle.std.specs.List.{flat_map, list_any}
 use Rattle.pol_cursor.specs.References.{Placed}
 use Rattle.pol_constraints.specs.declared.ConstraintItem.{ConstraintItem}
 use Rattle.pol_constraints.specs.declared.ConstraintRec.{ConstraintRec}
-use Rattle.pol_texts.specs.SetTexts.{set_text}
-use Rattle.pol_commons.specs.declared.PermissionRec.{PermissionRec}
-use Rattle.pol_commons.specs.Permissions.{has_permission}
 use Rattle.pol_classes.specs.declared.ClassRec.{ClassRec}
 use Rattle.pol_symbols.specs.declared.symbols.Symbols.{Symbols}
 use Rattle.pol_symbols.specs.PolicySymbols.{name_in, permissions_of}
-use Rattle.pol_texts.specs.NameLists.{in_order}
+use Rattle.info_lines.specs.PermissionSets.{permissions_text}
 use Rattle.info_classes.specs.declared.constraint_entry.ConstraintKind.{ConstraintKind}
 use Rattle.info_classes.specs.declared.constraint_entry.ConstraintKind.TheVariants.{OnPermissions, OnChange}
 use Rattle.info_classes.specs.declared.constraint_entry.ConstraintEntry.{ConstraintEntry}
@@ -29,10 +26,6 @@ compares_levels item = item.kind == 4 && is_level_pair item.attr
 -- a constraint that compares levels is one of MLS (checkpolicy's mlsconstrain and mlsvalidatetrans)
 abbrev pub mls_word : List ConstraintItem → List ℕ
 mls_word items = if list_any compares_levels items then codes "mls" else []
-
--- the names of these permissions whose bits are set, as a set in the order of the names
-unfoldable pub permissions_text : ℕ → List PermissionRec → List ℕ
-permissions_text mask permissions = set_text (in_order (map (λ permission. permission.name) (filter (has_permission mask) permissions)))
 
 -- what a constraint is about: a class and permissions on it, or a class
 abbrev pub subject_text : Symbols → ConstraintKind → ConstraintEntry → List ℕ

@@ -6,8 +6,9 @@ ghost use Rattle.pol_constraints.specs.ConstraintRecord.{IsExpression};
 ghost use Rattle.pol_commons.specs.Permissions.{has_permission};
 ghost use Rattle.pol_symbols.specs.PolicySymbols.{name_in, permissions_of};
 ghost use Rattle.pol_texts.specs.NameLists.{with_name, in_order};
+ghost use Rattle.info_lines.specs.PermissionSets.{permissions_text};
 ghost use Rattle.info_classes.specs.ConstraintTexts.{constraint_text};
-ghost use Rattle.info_classes.specs.ConstraintLines.{is_level_pair, compares_levels, mls_word, permissions_text, subject_text, constraint_line};
+ghost use Rattle.info_classes.specs.ConstraintLines.{is_level_pair, compares_levels, mls_word, subject_text, constraint_line};
 
 use crate::constraint_entry::{ConstraintEntry, ConstraintKind};
 use info_lines::{insert_name, push_set};
@@ -105,7 +106,7 @@ fn push_subject(
 }
 
 // Adds the set of the permissions of a class whose bits are set.
-#[tactic(auto, unfolding(crate::specs::ConstraintLines::permissions_text))]
+#[tactic(auto, unfolding(info_lines::specs::PermissionSets::permissions_text))]
 fn push_permissions(
     buffer: &mut Vec<u8>,
     symbols: &Symbols<'_>,

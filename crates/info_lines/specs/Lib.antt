@@ -1,4 +1,5 @@
 pub mod NameOrder
 pub mod NameSets
+pub mod PermissionSets
 pub mod Titles
 pub mod Inner

@@ -16,7 +16,7 @@ use Rattle.pol_texts.specs.NameLists.{in_order}
 use Rattle.pol_texts.specs.SetTexts.{set_text}
 use Rattle.pol_texts.proofs.OrderedNames.{sorted_map}
 use Rattle.pol_texts.proofs.RisingNames.{in_order_rises, in_order_counts, settled, sorted_rises}
-use Rattle.info_classes.specs.ConstraintLines.{permissions_text}
+use Rattle.info_lines.specs.PermissionSets.{permissions_text}
 use Rattle.rule_text.specs.Inner.ClassPermissions.{shown_text, AreByName}
 
 abbrev name_of : PermissionRec → List ℕ

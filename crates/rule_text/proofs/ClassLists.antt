@@ -8,7 +8,7 @@ use Rattle.pol_classes.specs.declared.ClassRec.{ClassRec}
 use Rattle.pol_symbols.specs.declared.Symbols.{Symbols}
 use Rattle.pol_symbols.specs.PolicySymbols.{permissions_of, permissions_found, permissions_in_class}
 use Rattle.pol_symbols.proofs.SymbolSearch.{primary_is_within, primary_found, primary_missing}
-use Rattle.info_classes.specs.ConstraintLines.{permissions_text}
+use Rattle.info_lines.specs.PermissionSets.{permissions_text}
 use Rattle.rule_text.specs.Inner.ClassPermissions.{shown_text, AreByName, AreOfClasses}
 
 -- the number of the record of a class

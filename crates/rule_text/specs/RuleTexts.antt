@@ -14,7 +14,7 @@ use Rattle.pol_rules.specs.declared.rule.RulePart.TheVariants.{Perms, Numbers, D
 use Rattle.pol_rules.specs.StoredRules.{StoredRule, stored_rules}
 use Rattle.pol_rules.specs.RuleOrder.{source_table, target_table}
 use Rattle.pol_rules.specs.DeclaredRules.{default_table}
-use Rattle.info_classes.specs.ConstraintLines.{permissions_text}
+use Rattle.info_lines.specs.PermissionSets.{permissions_text}
 use Rattle.rule_text.specs.IoctlTexts.{ioctl_text}
 use Rattle.rule_text.specs.ConditionTexts.{condition_text}
 

@@ -10,7 +10,7 @@ use Rattle.pol_symbols.specs.PolicySymbols.{permissions_of}
 use Rattle.pol_texts.specs.SetTexts.{set_text}
 use Rattle.pol_rules.specs.declared.rule.RulePart.{RulePart}
 use Rattle.pol_rules.specs.declared.rule.RulePart.TheVariants.{Perms}
-use Rattle.info_classes.specs.ConstraintLines.{permissions_text}
+use Rattle.info_lines.specs.PermissionSets.{permissions_text}
 
 -- the names of those of these permissions whose bits are set, as a set in the order in which they stand
 unfoldable pub shown_text : ℕ → List PermissionRec → List ℕ
