@@ -10,14 +10,15 @@ use Rattle.pol_expr.specs.declared.Symbol.TheVariants as symbols
 use Rattle.pol_constraints.specs.declared.Junction.{Junction}
 use Rattle.pol_constraints.specs.declared.Junction.TheVariants.{And, Or}
 use Rattle.pol_constraints.specs.declared.ConstraintItem.{ConstraintItem}
-use Rattle.pol_expr.specs.Trees.{Leaf, Not, Binary, applied, postorder}
+use Rattle.pol_expr.specs.Infix.{tree_text}
+use Rattle.pol_expr.specs.Trees.{trees_after}
 use Rattle.pol_constraints.specs.ConstraintRecord.{constraint_limit, IsExpression}
-use Rattle.pol_constraints.specs.ConstraintMeaning.{ConstraintTree, left_word, right_word, side_word, side_table, op_word, names_of, IsSideText, IsSymbol, AreSymbols, IsConstraintText}
+use Rattle.pol_constraints.specs.ConstraintMeaning.{constraint_words, left_word, right_word, side_word, side_table, op_word, names_of, IsSideText, IsSymbol, AreSymbols, IsConstraintText}
 use Rattle.pol_texts.specs.SetTexts.{set_text}
-use Rattle.pol_expr.proofs.Stacks.{after, after-postorder, IsMeaning, some_tree}
+use Rattle.pol_expr.proofs.Stacks.{one_text}
 use Rattle.pol_constraints.proofs.ConstraintTexts.{symbols_postfix}
 use Rattle.pol_texts.proofs.OrderedNames.{in_order_is}
-use Rattle.info_classes.specs.ConstraintTexts.{comparison_text, item_symbol, trees_after, tree_text, constraint_text}
+use Rattle.info_classes.specs.ConstraintTexts.{comparison_text, item_symbol, constraint_text}
 
 -- ---- symbols
 
@@ -42,21 +43,10 @@ symbols_are named [] ss are = are
 symbols_are named (item ∷ items) [] are = absurd are
 symbols_are named (item ∷ items) (s ∷ ss) are = rw (← symbol_is named item s are.0, ← symbols_are named items ss are.1) refl
 
--- ---- their tree
-
-own_meaning : IsMeaning {V = List ℕ} {O = Junction} Leaf Not Binary (λ t. t)
-own_meaning = record { leaf_is = λ v. refl; not_is = λ t. refl; binary_is = λ o l r. refl }
-
-after_is : (ss : List (Symbol (List ℕ) Junction)) (ts : List ConstraintTree) → after Leaf Not Binary ss ts ≡ trees_after ss ts
-after_is [] ts = refl
-after_is (s ∷ ss) ts = after_is ss (applied Leaf Not Binary s ts)
-
-one_tree_left : (t : ConstraintTree) → trees_after (postorder t) [] ≡ t ∷ []
-one_tree_left t = sym (after_is (postorder t) []) ∙ after-postorder Leaf Not Binary (λ t. t) own_meaning t []
+-- ---- the text of the tree that they leave
 
 pub text_is : (named : Named) (items : List ConstraintItem) (text : List ℕ) → IsExpression items → IsConstraintText named items text → text ≡ constraint_text named items
 unfolding constraint_text
 text_is named items text one h =
-    let tree = some_tree constraint_limit h.0 (symbols_postfix named constraint_limit 0 items h.0 one h.1) in
-    let left : trees_after (map (item_symbol named) items) [] ≡ tree.0 ∷ [] = ap (λ (ss : List (Symbol (List ℕ) Junction)). trees_after ss []) (sym (symbols_are named items h.0 h.1) ∙ sym tree.1) ∙ one_tree_left tree.0 in
-    h.2 tree.0 tree.1 ∙ ap tree_text (sym left)
+    one_text constraint_words constraint_limit h.0 text (symbols_postfix named constraint_limit 0 items h.0 one h.1) h.2
+    ∙ ap (λ (ss : List (Symbol (List ℕ) Junction)). tree_text constraint_words (trees_after ss [])) (symbols_are named items h.0 h.1)

@@ -1,6 +1,5 @@
 -- The text of a constraint's expression, as a function of its items (this project's profile, in the words of the policy language).
-use Rattle.std.specs.Prelude.{ℕ, ◌==◌, if◌then◌else◌, Option, Some, None, List, [], ◌∷◌, ◌++◌, map}
-use Rattle.std.specs.List.{fold}
+use Rattle.std.specs.Prelude.{ℕ, ◌==◌, if◌then◌else◌, Option, Some, None, List, [], ◌++◌, map}
 use Rattle.pol_fields.specs.declared.TableKind.{TableKind}
 use Rattle.pol_cursor.specs.References.{Named}
 use Rattle.pol_bitmap.specs.declared.Node.{Node}
@@ -10,9 +9,9 @@ use Rattle.pol_expr.specs.declared.Symbol.TheVariants as symbols
 use Rattle.pol_constraints.specs.declared.Junction.{Junction}
 use Rattle.pol_constraints.specs.declared.Junction.TheVariants.{And, Or}
 use Rattle.pol_constraints.specs.declared.ConstraintItem.{ConstraintItem}
-use Rattle.pol_expr.specs.Infix.{infix_of}
-use Rattle.pol_expr.specs.Trees.{Leaf, Not, Binary, applied}
-use Rattle.pol_constraints.specs.ConstraintMeaning.{ConstraintTree, constraint_words, left_word, right_word, side_word, side_table, op_word, names_of}
+use Rattle.pol_expr.specs.Infix.{tree_text}
+use Rattle.pol_expr.specs.Trees.{trees_after}
+use Rattle.pol_constraints.specs.ConstraintMeaning.{constraint_words, left_word, right_word, side_word, side_table, op_word, names_of}
 use Rattle.pol_texts.specs.SetTexts.{set_text}
 use Rattle.pol_texts.specs.NameLists.{in_order}
 
@@ -33,15 +32,6 @@ item_symbol named item =
     else if item.kind == 3 then symbols.Binary Or
     else symbols.Leaf (comparison_text named item item.names)
 
--- the trees that symbols leave, the latest of them first: each takes its operands from those before it
-abbrev pub trees_after : List (Symbol (List ℕ) Junction) → List ConstraintTree → List ConstraintTree
-trees_after ss trees = fold (λ ts s. applied Leaf Not Binary s ts) trees ss
-
--- the text of the latest tree
-abbrev pub tree_text : List ConstraintTree → List ℕ
-tree_text [] = []
-tree_text (t ∷ ts) = infix_of constraint_words t
-
 -- Items of an accepted policy leave one tree, and this is its text.
 unfoldable pub constraint_text : Named → List ConstraintItem → List ℕ
-constraint_text named items = tree_text (trees_after (map (item_symbol named) items) [])
+constraint_text named items = tree_text constraint_words (trees_after (map (item_symbol named) items) [])

@@ -1,12 +1,13 @@
 -- A list of symbols, read with a stack of meanings, gives the meaning of the tree that it stands for.
 use Rattle.std.proofs.Common.{◌≡◌, ℕ, ◌+◌, ◌≤◌, Some, List, [], ◌∷◌, ◌++◌, length, drop, map, refl, sym, ap, subst, ◌∙◌, append_assoc, arith}
 use Rattle.std.specs.Prelude.{reverse, slice_get}
+use Rattle.std.specs.List.{fold}
 use Rattle.std.proofs.lemmas.List.{append-nil, reverse-append, drop_all}
 use Rattle.pol_expr.specs.declared.symbol.Symbol.{Symbol}
 use Rattle.pol_expr.specs.declared.symbol.Symbol.TheVariants as symbols
 use Rattle.pol_expr.specs.Postfix.{values_after, IsPostfix}
-use Rattle.pol_expr.specs.Trees.{Tree, Leaf, Not, Binary, postorder, operand_count, applied}
-use Rattle.pol_expr.specs.Infix.{Words, is_binary, infix_of, leaf_operand, negated_operand, joined_operands}
+use Rattle.pol_expr.specs.Trees.{Tree, Leaf, Not, Binary, postorder, operand_count, applied, trees_after}
+use Rattle.pol_expr.specs.Infix.{Words, is_binary, infix_of, tree_text, leaf_operand, negated_operand, joined_operands}
 use Rattle.pol_expr.proofs.Dropped.{dropped}
 
 pub reverse_push : {A : Type 0} (xs : List A) (x : A) → reverse (xs ++ x ∷ []) ≡ x ∷ reverse xs
@@ -17,8 +18,7 @@ reverse_push xs x = reverse-append xs (x ∷ [])
 module _ {V O B : Type 0} (leaf : V → B) (negated : B → B) (joined : O → B → B → B) where
   -- the meanings after some symbols, the latest first
   abbrev pub after : List (Symbol V O) → List B → List B
-  after [] xs = xs
-  after (s ∷ ss) xs = after ss (applied leaf negated joined s xs)
+  after ss xs = fold (λ (ys : List B) (s : Symbol V O). applied leaf negated joined s ys) xs ss
 
   pub after-append : (ss us : List (Symbol V O)) (xs : List B) → after (ss ++ us) xs ≡ after us (after ss xs)
   after-append [] us xs = refl
@@ -93,10 +93,12 @@ module _ {V O : Type 0} where
   own : IsMeaning {V = V} {O = O} Leaf Not Binary (λ t. t)
   own = record { leaf_is = λ v. refl; not_is = λ t. refl; binary_is = λ o l r. refl }
 
+  -- the symbols of a tree leave it alone
+  one_tree_left : (t : Tree V O) → trees_after (postorder t) [] ≡ t ∷ []
+  one_tree_left t = after-postorder Leaf Not Binary (λ t. t) own t []
+
   pub one_tree : (t u : Tree V O) → postorder t ≡ postorder u → t ≡ u
-  one_tree t u e =
-      let both = sym (after-postorder Leaf Not Binary (λ t. t) own t []) ∙ ap (λ (ss : List (Symbol V O)). after Leaf Not Binary ss []) e ∙ after-postorder Leaf Not Binary (λ t. t) own u [] in
-      cc
+  one_tree t u e = let both = sym (one_tree_left t) ∙ ap (λ (ss : List (Symbol V O)). trees_after ss []) e ∙ one_tree_left u in cc
 
   -- the symbols of trees, the latest of them last
   abbrev spelled : List (Tree V O) → List (Symbol V O)
@@ -126,6 +128,14 @@ module _ {V O : Type 0} where
 
   pub some_tree : (limit : ℕ) (ss : List (Symbol V O)) → IsPostfix operand_count limit 0 ss → (t : Tree V O) × (postorder t ≡ ss)
   some_tree limit ss h = tree_after limit ss [] h
+
+  -- what is the text of each tree that symbols stand for is that of the one that they leave
+  pub one_text : (words : Words V O) (limit : ℕ) (ss : List (Symbol V O)) (text : List ℕ) → IsPostfix operand_count limit 0 ss
+      → ((t : Tree V O) → postorder t ≡ ss → text ≡ infix_of words t) → text ≡ tree_text words (trees_after ss [])
+  one_text words limit ss text one h =
+      let tree = some_tree limit ss one in
+      let left : trees_after ss [] ≡ tree.0 ∷ [] = ap (λ (us : List (Symbol V O)). trees_after us []) (sym tree.1) ∙ one_tree_left tree.0 in
+      h tree.0 tree.1 ∙ ap (tree_text words) (sym left)
 
 -- ---- texts
 

@@ -1,5 +1,5 @@
 -- The text of an expression.
-use Rattle.std.specs.Prelude.{ℕ, Bool, true, false, List, ◌++◌, codes}
+use Rattle.std.specs.Prelude.{ℕ, Bool, true, false, List, [], ◌∷◌, ◌++◌, codes}
 use Rattle.pol_expr.specs.Trees.{Tree, Leaf, Not, Binary}
 
 -- the words of a kind of expression: of its leaves, before the operand of a negation, and between two operands
@@ -22,6 +22,11 @@ unfoldable pub infix_of : {V O : Type 0} → Words V O → Tree V O → List ℕ
 infix_of words (Leaf v) = words.leaf v
 infix_of words (Not t) = words.negation ++ enclosed (is_binary t) (infix_of words t)
 infix_of words (Binary o l r) = enclosed (is_binary l) (infix_of words l) ++ words.between o ++ enclosed (is_binary r) (infix_of words r)
+
+-- the text of the latest of some trees
+abbrev pub tree_text : {V O : Type 0} → Words V O → List (Tree V O) → List ℕ
+tree_text words [] = []
+tree_text words (t ∷ ts) = infix_of words t
 
 -- the text of an operand, and whether its own operator stands between two operands
 pub record Operand : Type 0 where

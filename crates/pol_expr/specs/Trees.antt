@@ -1,5 +1,6 @@
 -- Expressions as trees, and the lists of symbols that stand for them.
 use Rattle.std.specs.Prelude.{ℕ, List, [], ◌∷◌, ◌++◌}
+use Rattle.std.specs.List.{fold}
 use Rattle.pol_expr.specs.declared.symbol.Symbol.{Symbol}
 use Rattle.pol_expr.specs.declared.symbol.Symbol.TheVariants as symbols
 
@@ -29,3 +30,7 @@ applied leaf negated joined symbols.Not (x ∷ xs) = negated x ∷ xs
 applied leaf negated joined (symbols.Binary o) [] = []
 applied leaf negated joined (symbols.Binary o) (r ∷ []) = []
 applied leaf negated joined (symbols.Binary o) (r ∷ l ∷ xs) = joined o l r ∷ xs
+
+-- the trees that symbols leave, the latest of them first: each takes its operands from those before it
+abbrev pub trees_after : {V O : Type 0} → List (Symbol V O) → List (Tree V O) → List (Tree V O)
+trees_after ss trees = fold (λ ts s. applied Leaf Not Binary s ts) trees ss

@@ -3,5 +3,4 @@ pub mod RunTexts
 pub mod ByName
 pub mod PermissionLists
 pub mod ClassLists
-pub mod ConditionTrees
 pub mod Frames

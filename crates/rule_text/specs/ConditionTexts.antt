@@ -1,29 +1,17 @@
 -- The text of the condition that a rule stands under, as a function of the items of its expression (this project's profile, in the
 -- words of the policy language).
-use Rattle.std.specs.Prelude.{ℕ, Bool, true, false, Option, Some, None, List, [], ◌∷◌, ◌++◌, codes, slice_get}
-use Rattle.std.specs.List.{fold}
+use Rattle.std.specs.Prelude.{ℕ, Bool, true, false, Option, Some, None, List, [], ◌++◌, codes, slice_get}
 use Rattle.pol_cursor.specs.References.{Named, Placed}
 use Rattle.pol_expr.specs.declared.ConditionItem.{ConditionItem}
-use Rattle.pol_expr.specs.declared.Operator.{Operator}
-use Rattle.pol_expr.specs.declared.Symbol.{Symbol}
-use Rattle.pol_expr.specs.Infix.{infix_of}
-use Rattle.pol_expr.specs.Trees.{Leaf, Not, Binary, applied}
-use Rattle.pol_expr.specs.ConditionMeaning.{ConditionTree, condition_symbols, condition_words}
+use Rattle.pol_expr.specs.Infix.{tree_text}
+use Rattle.pol_expr.specs.Trees.{trees_after}
+use Rattle.pol_expr.specs.ConditionMeaning.{condition_symbols, condition_words}
 use Rattle.pol_conditionals.specs.declared.CondNodeRec.{CondNodeRec}
 use Rattle.pol_rules.specs.declared.rule.Condition.{Condition}
 
--- the trees that symbols leave, the latest of them first: each takes its operands from those before it
-abbrev pub trees_after : List (Symbol ℕ Operator) → List ConditionTree → List ConditionTree
-trees_after ss trees = fold (λ ts s. applied Leaf Not Binary s ts) trees ss
-
--- the text of the latest tree
-abbrev pub tree_text : Named → List ConditionTree → List ℕ
-tree_text named [] = []
-tree_text named (t ∷ ts) = infix_of (condition_words named) t
-
 -- The items of a condition leave one tree, and this is its text.
 unfoldable pub expression_text : Named → List ConditionItem → List ℕ
-expression_text named items = tree_text named (trees_after (condition_symbols items) [])
+expression_text named items = tree_text (condition_words named) (trees_after (condition_symbols items) [])
 
 -- that of the condition of a node
 abbrev pub node_text : Named → Option (Placed CondNodeRec) → List ℕ
