@@ -2,11 +2,12 @@
 use Rattle.std.proofs.Common.{◌≡◌, ℕ, Bool, Option, Some, None, Result, Ok, Err, IfOk, zero, suc, ◌+◌, ◌<◌, List, [], ◌∷◌, ◌++◌, map, length, take, get_or, refl, sym, ap, ◌∙◌, add-one, arith}
 use Rattle.std.specs.Option.{option_to_list}
 use Rattle.std.proofs.lemmas.List.Elements.{filter_map-append}
-use Rattle.std.specs.Prelude.{◌||◌, nat_eq}
+use Rattle.std.specs.Prelude.{◌↔◌, ◌||◌, nat_eq, Contains}
 use Rattle.std.specs.List.{filter_map, list_any, cons_option}
 use Rattle.pol_bitmap.specs.declared.Node.{Node}
-use Rattle.pol_bitmap.specs.Nodes.{has_bit}
+use Rattle.pol_bitmap.specs.Nodes.{bits_of, has_bit}
 use Rattle.named_values.specs.Named.{is_value}
+use Rattle.named_values.proofs.Tests.{set_tests}
 
 step : (value : ℕ) (found : Option ℕ) (rest : List ℕ) (others : Bool) → list_any (nat_eq value) rest ≡ others → list_any (nat_eq value) (cons_option found rest) ≡ (is_value found value || others)
 step value None rest others e = e
@@ -22,8 +23,8 @@ any_map p f (x ∷ xs) = ap (λ (b : Bool). p (f x) || b) (any_map p f xs)
 
 -- a set that was made of them
 pub set_named : {N E : Type 0} (bytes : N → List ℕ) (f : List ℕ → Option ℕ) (names : List N) (values : List ℕ) (r : Result (List Node) E) → values ≡ filter_map (λ name. f (bytes name)) names
-    → IfOk r (λ set. (value : ℕ) → has_bit set value ≡ list_any (nat_eq value) values) → IfOk r (λ set. (value : ℕ) → has_bit set value ≡ list_any (λ name. is_value (f name) value) (map bytes names))
-set_named bytes f names values (Ok set) is h = λ value. h value ∙ ap (λ (xs : List ℕ). list_any (nat_eq value) xs) is ∙ looked_up (λ name. f (bytes name)) value names ∙ sym (any_map (λ name. is_value (f name) value) bytes names)
+    → IfOk r (λ set. (bit : ℕ) → Contains (bits_of set) bit ↔ Contains values bit) → IfOk r (λ set. (value : ℕ) → has_bit set value ≡ list_any (λ name. is_value (f name) value) (map bytes names))
+set_named bytes f names values (Ok set) is h = λ value. set_tests set values h value ∙ ap (λ (xs : List ℕ). list_any (nat_eq value) xs) is ∙ looked_up (λ name. f (bytes name)) value names ∙ sym (any_map (λ name. is_value (f name) value) bytes names)
 set_named bytes f names values (Err e) is h = tt
 
 -- ---- name by name

@@ -1,6 +1,6 @@
 -- A pattern that was built from a text is found where the pattern of the text is.
 use Rattle.std.proofs.Common.{◌≡◌, ℕ, ◌<◌, ◌≤◌, Bool, true, false, Option, Some, None, IsSomeAnd, Result, Ok, Err, IfOk, List, [], ◌∷◌, All, length, refl, ap, ◌∙◌, arith}
-use Rattle.std.specs.Prelude.{◌&&◌, is_some, option_map, chars, nat_lt, nat_eq, string_bytes}
+use Rattle.std.specs.Prelude.{◌↔◌, ◌&&◌, is_some, option_map, chars, nat_lt, nat_eq, string_bytes, Contains}
 use Rattle.std.specs.List.{list_all, list_any, filter}
 use Rattle.std.specs.Char.{is_ascii}
 use Rattle.std.specs.Str.{IsUtf8}
@@ -19,10 +19,11 @@ use Rattle.regex_syntax.proofs.CapturesLemmas.{find_str_alike, spans}
 use Rattle.se_outside.specs.Patterns.{IsBuiltFrom}
 use Rattle.pol_fields.specs.declared.TableKind.{TableKind}
 use Rattle.pol_bitmap.specs.declared.Node.{Node}
-use Rattle.pol_bitmap.specs.Nodes.{has_bit}
+use Rattle.pol_bitmap.specs.Nodes.{bits_of, has_bit}
 use Rattle.pol_symbols.specs.PolicySymbols.{name_in, record_values}
 use Rattle.pol_symbols.specs.declared.Symbols.{Symbols}
 use Rattle.named_values.proofs.Records.{kept_by_name}
+use Rattle.named_values.proofs.Tests.{set_tests}
 use Rattle.named_values.specs.Found.{has_pattern, has_read, is_found_in, of_name}
 
 -- ---- names
@@ -88,8 +89,8 @@ module _ (text : List ℕ) (r : Regex) (built : IsBuiltFrom text r) where
 -- a set of the values in whose names a built pattern is found
 pub set_found : {E : Type 0} (symbols : Symbols) (table : TableKind) (pattern : Regex) (values : List ℕ) (r : Result (List Node) E)
     → values ≡ filter (λ value. of_name (has_pattern (regex_pattern pattern)) (name_in symbols table value)) (record_values symbols table)
-    → IfOk r (λ set. (value : ℕ) → has_bit set value ≡ list_any (nat_eq value) values)
+    → IfOk r (λ set. (bit : ℕ) → Contains (bits_of set) bit ↔ Contains values bit)
     → IfOk r (λ set. (text : List ℕ) → IsBuiltFrom text pattern → (value : ℕ) → has_bit set value ≡ of_name (is_found_in text) (name_in symbols table value))
 set_found symbols table pattern values (Ok set) is h = λ text built value.
-    h value ∙ ap (λ (xs : List ℕ). list_any (nat_eq value) xs) is ∙ kept_by_name symbols table (has_pattern (regex_pattern pattern)) value ∙ found_by_name text pattern built (name_in symbols table value)
+    set_tests set values h value ∙ ap (λ (xs : List ℕ). list_any (nat_eq value) xs) is ∙ kept_by_name symbols table (has_pattern (regex_pattern pattern)) value ∙ found_by_name text pattern built (name_in symbols table value)
 set_found symbols table pattern values (Err e) is h = tt

@@ -8,7 +8,6 @@ ghost use Rattle.regex.specs.Strings.{regex_pattern, matcher_pattern};
 ghost use Rattle.se_outside.specs.Patterns.{IsBuiltFrom};
 ghost use Rattle.named_values.specs.Found.{has_pattern, of_name, is_found};
 
-use crate::value_sets::set_of;
 use pol_bitmap::Set;
 use pol_fields::TableKind;
 use pol_symbols::Symbols;
@@ -26,7 +25,7 @@ pub fn values_found(
     ensures { IfOk result (λ set. (text : List ℕ) → IsBuiltFrom text pattern.now → (value : ℕ) → has_bit set value ≡ is_found symbols.now table text value) }
 {
     let values = found_values(alloc, symbols, table, pattern)?;
-    set_of(alloc, values)
+    Set::from_values(alloc, values)
 }
 
 // Record by record, the values in whose names it is found.

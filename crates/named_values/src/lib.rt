@@ -3,8 +3,6 @@
 
 mod found;
 mod looked_up;
-mod value_sets;
 
 pub use found::values_found;
 pub use looked_up::values_named;
-pub use value_sets::set_of;

@@ -6,7 +6,6 @@ ghost use Rattle.pol_bitmap.specs.Nodes.{has_bit};
 ghost use Rattle.pol_symbols.specs.PolicySymbols.{value_in};
 ghost use Rattle.named_values.specs.Named.{is_named};
 
-use crate::value_sets::set_of;
 use pol_bitmap::Set;
 use pol_fields::TableKind;
 use pol_symbols::Symbols;
@@ -22,7 +21,7 @@ pub fn values_named(
     ensures { IfOk result (λ set. (value : ℕ) → has_bit set value ≡ is_named symbols.now table (map (λ name. name.now) names.now) value) }
 {
     let values = look_up(alloc, symbols, table, names)?;
-    set_of(alloc, values)
+    Set::from_values(alloc, values)
 }
 
 // Appends a value, if there is one.

@@ -9,6 +9,7 @@ pub mod Merging
 pub mod BitSets
 pub mod SetPlaces
 pub mod SetMaking
+pub mod KeptOnce
 pub mod Numbering
 pub mod SetLaws
 pub mod SetSpelling

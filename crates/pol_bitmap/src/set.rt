@@ -1,4 +1,4 @@
-ghost use Rattle.std.specs.Prelude.{◌≡◌, ◌↔◌, ◌<◌, [], IfOk, IfSome, IfNone, IsTrue, All, Contains, length};
+ghost use Rattle.std.specs.Prelude.{◌≡◌, ◌↔◌, ◌<◌, ℕ, [], IfOk, IfSome, IfNone, IsTrue, All, Contains, length};
 ghost use Rattle.std.specs.List.Sorted.{IsStrictlyIncreasing};
 ghost use Rattle.pol_bitmap.specs.Nodes.{bits_of, IsLeastFrom};
 ghost use Rattle.pol_bitmap.specs.Sets.{IsSet, IsUnion, IsCommon, IsDifference, ShareBit, ContainsEach};
@@ -114,6 +114,16 @@ impl Set {
     {
         let nodes = nodes_from(alloc, bits)?;
         Set::from_nodes(alloc, nodes)
+    }
+
+    /// The set of some numbers, in any order.
+    pub fn from_values(alloc: Global, mut values: Vec<u32>) -> Result<Set, AllocError>
+        ensures form { IfOk result IsSet }
+        ensures bits { IfOk result (λ s. (bit : ℕ) → Contains (bits_of s) bit ↔ Contains values.items bit) }
+    {
+        values.sort_unstable();
+        values.dedup();
+        Set::from_rising(alloc, &values)
     }
 
     /// The set of these nodes.

@@ -6,7 +6,7 @@ ghost use Rattle.pol_expr.specs.ConditionMeaning.{item_booleans, booleans_in};
 
 use crate::condition_rec::ConditionItem;
 use crate::condition_view::ConditionView;
-use pol_bitmap::{Set, SetError};
+use pol_bitmap::Set;
 use std::alloc::{AllocError, Global};
 
 impl<'a> ConditionView<'a> {
@@ -18,7 +18,7 @@ impl<'a> ConditionView<'a> {
         for i in 0..self.len() {
             push_boolean(&mut booleans, self.item(i))?;
         }
-        set_of(alloc, booleans)
+        Set::from_values(alloc, booleans)
     }
 }
 
@@ -30,17 +30,4 @@ fn push_boolean(booleans: &mut Vec<u32>, item: ConditionItem) -> Result<(), Allo
         booleans.push(item.boolean)?;
     }
     Ok(())
-}
-
-// The set of some numbers, in any order.
-fn set_of(alloc: Global, mut bits: Vec<u32>) -> Result<Set, AllocError>
-    ensures { IfOk result (λ set. (bit : ℕ) → Contains (bits_of set) bit ↔ Contains bits.items bit) }
-{
-    bits.sort_unstable();
-    bits.dedup();
-    match Set::from_bits(alloc, &bits) {
-        Ok(set) => Ok(set),
-        Err(SetError::Memory) => Err(AllocError),
-        Err(SetError::NotRising) => unreachable!(),
-    }
 }

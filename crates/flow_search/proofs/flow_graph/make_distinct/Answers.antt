@@ -1,4 +1,4 @@
-use Rattle.pol_expr.proofs.BooleanSets.{kept_once, rise_once}
+use Rattle.pol_bitmap.proofs.KeptOnce.{kept_once, rise_once}
 use Rattle.flow_search.proofs.flow_graph.make_distinct.Goals as goal
 
 pub returns : goal.returns

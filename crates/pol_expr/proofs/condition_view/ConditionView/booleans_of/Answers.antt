@@ -12,4 +12,4 @@ loop-i-preserved c = rw c.in_ok-push_boolean.ensures (booleans_next c.args.self.
 pub returns : goal.returns
 returns c =
     let all : c.loop-i.booleans.items ≡ booleans_in c.args.self.now.value.items = booleans_end c.args.self.now.value.items c.loop-i.i c.loop-i.booleans.items (omega arith) c.loop-i.invariant in
-    subst (λ (l : List ℕ). IfOk c.set_of.result (λ (s : List Node). (b : ℕ) → Contains (bits_of s) b ↔ Contains l b)) all c.set_of.ensures
+    subst (λ (l : List ℕ). IfOk c.from_values.result (λ (s : List Node). (b : ℕ) → Contains (bits_of s) b ↔ Contains l b)) all c.from_values.ensures.bits
