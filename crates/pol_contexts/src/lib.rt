@@ -52,5 +52,5 @@ pub use sid_rec::SidRec;
 pub use tables::{
     Contexts, FsList, FsRecList, FsUseList, FsUseRecList, IbEndPortList, IbEndPortRecList,
     IbPkeyList, IbPkeyRecList, NetifList, NetifRecList, Node6List, Node6RecList, NodeList,
-    NodeRecList, PortList, PortRecList, SidList, SidRecList, read_contexts,
+    NodeRecList, PortList, PortRecList, SidList, SidRecList, has_infiniband, read_contexts,
 };

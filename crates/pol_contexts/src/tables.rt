@@ -1,8 +1,9 @@
 //! The tables that hold contexts.
 
+ghost use Rattle.std.specs.Prelude.{◌≡◌};
 ghost use Rattle.pol_cursor.specs.Outcome.{Yields};
 ghost use Rattle.pol_context.specs.EntryLists.{table_at};
-ghost use Rattle.pol_contexts.specs.ContextTables.{table_if, contexts_at};
+ghost use Rattle.pol_contexts.specs.ContextTables.{table_if, has_infiniband, contexts_at};
 
 use crate::fsuse_rec::FsUseRec;
 use crate::ibendport_rec::IbEndPortRec;
@@ -91,6 +92,13 @@ impl Drop for Contexts<'_> {
     }
 }
 
+/// Whether a policy of that version has the tables of InfiniBand.
+pub fn has_infiniband(version: u32) -> bool
+    ensures { result ≡ has_infiniband version }
+{
+    version >= 31
+}
+
 /// Reads the tables in the order of the file. Nothing is reserved by the numbers that the policy claims.
 #[tactic(auto, unfolding(crate::specs::ContextTables::contexts_at))]
 pub fn read_contexts<'a>(
@@ -100,7 +108,7 @@ pub fn read_contexts<'a>(
 ) -> Result<Contexts<'a>, ReadError>
     ensures { Yields (λ contexts. contexts) result (contexts_at version) c.old c.new }
 {
-    let infiniband = version >= 31;
+    let infiniband = has_infiniband(version);
     Ok(Contexts {
         sid: read_table(alloc, c, SID_COUNT)?,
         fs: read_table(alloc, c, FS_COUNT)?,

@@ -1,6 +1,5 @@
 -- The readers of the parts of a policy look at no byte behind their values: its symbol tables, its rules and its contexts.
 use Rattle.std.proofs.Common.{ℕ, Bool, true, false, Option, Some, None, List}
-use Rattle.std.specs.Prelude.{nat_le}
 use Rattle.pol_fields.specs.declared.field.Field.{Field}
 use Rattle.pol_fields.specs.declared.fields.TheConstants.{NAMETRANS_LEN, NAMETRANS_NAME, NAMEGROUP_LEN, NAMEGROUP_NAME, SID_COUNT, FS_COUNT, FS_LEN, FS_NAME, PORT_COUNT, NETIF_COUNT, NETIF_LEN, NETIF_NAME, NODE_COUNT, NODE_ADDRESS, NODE_MASK, FSUSE_COUNT, FSUSE_LEN, FSUSE_NAME, NODE6_COUNT, NODE6_ADDRESS, NODE6_MASK, IBPKEY_COUNT, IBENDPORT_COUNT, IBENDPORT_LEN, IBENDPORT_NAME, GENFS_LEN, GENFS_FSTYPE, GENFS_PATHLEN, GENFS_PATH}
 use Rattle.pol_cursor.specs.Outcome.{Reader}
@@ -19,7 +18,7 @@ use Rattle.pol_trans.specs.RoleAllowRecord.{role_allow_at}
 use Rattle.pol_trans.specs.RangeTransRecord.{range_trans_at}
 use Rattle.pol_trans.specs.NameTransRecord.{name_trans_at}
 use Rattle.pol_trans.specs.NameGroupRecord.{name_datum_at, name_group_at}
-use Rattle.pol_trans.specs.NameTransitions.{entries_at, groups_at, name_transitions_at}
+use Rattle.pol_trans.specs.NameTransitions.{has_groups, entries_at, groups_at, name_transitions_at}
 use Rattle.pol_context.specs.ContextRecord.{context_at}
 use Rattle.pol_contexts.specs.SidRecord.{sid_at}
 use Rattle.pol_contexts.specs.NamedRecord.{named_at}
@@ -219,7 +218,7 @@ groups_local =
     local-done _
 
 pub name_transitions_local : (version : ℕ) → IsLocal (name_transitions_at version)
-name_transitions_local version = local-either (nat_le 33 version) groups_local entries_local
+name_transitions_local version = local-either (has_groups version) groups_local entries_local
 
 pub range_trans_local : IsLocal range_trans_at
 unfolding range_trans_at

@@ -17,13 +17,13 @@ use Rattle.pol_avtab.specs.AvTables.{rule_at, after_rule, no_rules, placed_rules
 use Rattle.pol_conditionals.specs.CondNodeList.{conditionals_at}
 use Rattle.pol_trans.specs.NameTransRecord.{name_trans_at}
 use Rattle.pol_trans.specs.NameGroupRecord.{name_group_at}
-use Rattle.pol_trans.specs.NameTransitions.{entries_at, groups_at, name_transitions_at}
+use Rattle.pol_trans.specs.NameTransitions.{has_groups, entries_at, groups_at, name_transitions_at}
 use Rattle.pol_context.specs.EntryLists.{table_at as context_table_at}
 use Rattle.pol_contexts.specs.ContextTables.{table_if, has_infiniband, contexts_at}
 use Rattle.pol_file.proofs.ReadValues.{gives-others}
 use Rattle.pol_laws.specs.OptionalParts.{shape_of_list, first_placed}
 use Rattle.pol_laws.specs.RecordShapes.{shape_of_class, shape_of_user, shape_of_av, shape_of_condnode}
-use Rattle.pol_laws.specs.TableShapes.{shape_of_symbols, has_groups, shape_of_name_transitions, shape_of_contexts}
+use Rattle.pol_laws.specs.TableShapes.{shape_of_symbols, shape_of_name_transitions, shape_of_contexts}
 use Rattle.pol_laws.proofs.ShapedParts.{IsShaped, none-first, none-last, gives-either, shaped-placed_list, shaped-records_after}
 use Rattle.pol_laws.proofs.ShapedRecords.{class_shaped, user_shaped, av_shaped, condnode_shaped, sid_shaped, named_shaped, port_shaped, address_shaped, fsuse_shaped, ibpkey_shaped, ibendport_shaped}
 

@@ -1,6 +1,6 @@
 -- The parts of a policy that was read are spelled by the bytes that they were read from.
 use Rattle.std.proofs.Common.{ℕ, Bool, true, false, Some, None, List, ◌++◌, append_assoc}
-use Rattle.std.specs.Prelude.{nat_le, if◌then◌else◌}
+use Rattle.std.specs.Prelude.{if◌then◌else◌}
 use Rattle.std.proofs.lemmas.List.{append-nil}
 use Rattle.pol_fields.specs.declared.fields.TheConstants.{ROLETRANS_COUNT, ROLEALLOW_COUNT, NAMETRANS_COUNT, NAMEGROUP_COUNT, SID_COUNT, FS_COUNT, FS_LEN, FS_NAME, PORT_COUNT, NETIF_COUNT, NETIF_LEN, NETIF_NAME, NODE_COUNT, NODE_ADDRESS, NODE_MASK, FSUSE_COUNT, NODE6_COUNT, NODE6_ADDRESS, NODE6_MASK, IBPKEY_COUNT, IBENDPORT_COUNT, GENFS_COUNT, RANGETRANS_COUNT}
 use Rattle.pol_cursor.proofs.Laws.{Reads-part, Reads-done}
@@ -38,7 +38,7 @@ use Rattle.pol_trans.specs.RoleAllowRecord.{role_allow_at, spell_role_allow, Rol
 use Rattle.pol_trans.specs.NameTransRecord.{name_trans_at, spell_name_trans, NameTransFits}
 use Rattle.pol_trans.specs.NameGroupRecord.{name_group_at, spell_name_group, NameGroupFits}
 use Rattle.pol_trans.specs.RangeTransRecord.{range_trans_at, spell_range_trans, RangeTransFits}
-use Rattle.pol_trans.specs.NameTransitions.{entries_at, groups_at}
+use Rattle.pol_trans.specs.NameTransitions.{has_groups, entries_at, groups_at}
 use Rattle.pol_trans.specs.declared.name_trans.NameTrans.TheVariants.{Entries, Groups}
 use Rattle.pol_trans.proofs.TransLaws.{role_trans_spelled, role_allow_spelled, name_trans_spelled, name_group_spelled, range_trans_spelled}
 use Rattle.pol_contexts.specs.SidRecord.{sid_at, spell_sid, SidFits}
@@ -166,7 +166,7 @@ rule_lists_spelled version =
     Reads-part (nodes_spelled version) λ conditionals conditionals-fit.
     Reads-part (list_spelled ROLETRANS_COUNT role_trans_at spell_role_trans RoleTransFits role_trans_spelled) λ role_trans role_trans-fit.
     Reads-part (list_spelled ROLEALLOW_COUNT role_allow_at spell_role_allow RoleAllowFits role_allow_spelled) λ role_allows role_allows-fit.
-    Reads-part (name_transitions_by (nat_le 33 version)) λ name_trans name_trans-fit.
+    Reads-part (name_transitions_by (has_groups version)) λ name_trans name_trans-fit.
     Reads-done _ (record { table = table; conditionals = conditionals; role_trans = role_trans; role_allows = role_allows; name_trans = name_trans }) (record { same = simp (append_assoc, append-nil); fitting = tt })
 
 -- ---- what stands behind those

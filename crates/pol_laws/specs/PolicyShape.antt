@@ -3,12 +3,13 @@ use Rattle.std.specs.Prelude.{ℕ, ◌==◌, not, Option, [], ◌∷◌, length}
 use Rattle.pol_fields.specs.declared.Field.{Field}
 use Rattle.pol_fields.specs.declared.field.Field.{Field}
 use Rattle.pol_fields.specs.declared.fields.TheConstants.{BITMAP_UNIT}
+use Rattle.pol_trans.specs.NameTransitions.{has_groups}
 use Rattle.pol_file.specs.declared.RuleLists.{RuleLists}
 use Rattle.pol_file.specs.declared.LabelLists.{LabelLists}
 use Rattle.pol_file.specs.declared.Parts.{Parts}
 use Rattle.pol_laws.specs.OptionalParts.{wrong_if, first_of, first_placed}
 use Rattle.pol_laws.specs.RecordShapes.{shape_of_av, shape_of_condnode, shape_of_range_trans, shape_of_genfs}
-use Rattle.pol_laws.specs.TableShapes.{shape_of_symbols, has_groups, shape_of_name_transitions, shape_of_contexts}
+use Rattle.pol_laws.specs.TableShapes.{shape_of_symbols, shape_of_name_transitions, shape_of_contexts}
 
 -- the rules but for the range transitions
 unfoldable pub shape_of_rule_lists : ℕ → RuleLists → Option Field

@@ -1,5 +1,5 @@
 -- The first wrong optional part of the tables of a policy, in the order of the file.
-use Rattle.std.specs.Prelude.{ℕ, nat_le, Bool, not, Option, [], ◌∷◌}
+use Rattle.std.specs.Prelude.{ℕ, Bool, not, Option, [], ◌∷◌}
 use Rattle.pol_fields.specs.declared.Field.{Field}
 use Rattle.pol_fields.specs.declared.field.Field.{Field}
 use Rattle.pol_fields.specs.declared.fields.TheConstants.{NAMETRANS_COUNT, NAMEGROUP_COUNT, IBPKEY_COUNT, IBENDPORT_COUNT}
@@ -15,10 +15,7 @@ use Rattle.pol_laws.specs.RecordShapes.{shape_of_class, shape_of_user, shape_of_
 unfoldable pub shape_of_symbols : ℕ → Symbols → Option Field
 shape_of_symbols version symbols = first_of (first_placed (shape_of_class version) symbols.classes.records ∷ first_placed shape_of_user symbols.users.records ∷ [])
 
--- file-name transitions are groups from version 33 on, and stand one by one below it (libsepol's filename_trans_write)
-abbrev pub has_groups : ℕ → Bool
-has_groups version = nat_le 33 version
-
+-- file-name transitions are groups in the versions that have them, and stand one by one in the others
 unfoldable pub shape_of_name_transitions : Bool → NameTrans → Option Field
 shape_of_name_transitions grouped (Entries entries) = wrong_if grouped NAMETRANS_COUNT
 shape_of_name_transitions grouped (Groups groups) = wrong_if (not grouped) NAMEGROUP_COUNT

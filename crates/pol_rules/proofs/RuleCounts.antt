@@ -1,6 +1,6 @@
 -- A policy of at most 64 MiB has at most 400,000,000 rules: its bytes have no room for more.
 use Rattle.std.proofs.Common.{◌≡◌, ℕ, suc, ◌+◌, ◌*◌, ◌≤◌, Bool, true, false, Option, Some, None, List, [], ◌∷◌, ◌++◌, length, map, slice_get, Ok, refl, ap, subst, ◌∙◌, arith}
-use Rattle.std.specs.Prelude.{nat_le, if◌then◌else◌}
+use Rattle.std.specs.Prelude.{if◌then◌else◌}
 use Rattle.std.specs.List.{flat_map, range_with_len}
 use Rattle.std.proofs.lemmas.List.{length-map, length-append, append_assoc}
 use Rattle.std.proofs.lemmas.List.Sums.{length-filter, count_by-le-length}
@@ -30,7 +30,7 @@ use Rattle.pol_trans.specs.RoleAllowRecord.{role_allow_at}
 use Rattle.pol_trans.specs.RangeTransRecord.{range_trans_at}
 use Rattle.pol_trans.specs.NameTransRecord.{name_trans_at}
 use Rattle.pol_trans.specs.NameGroupRecord.{name_datum_at, name_group_at}
-use Rattle.pol_trans.specs.NameTransitions.{entries_at, groups_at, name_transitions_at}
+use Rattle.pol_trans.specs.NameTransitions.{has_groups, entries_at, groups_at, name_transitions_at}
 use Rattle.pol_context.specs.EntryLists.{table_at as context_table_at}
 use Rattle.pol_contexts.specs.ContextTables.{contexts_at}
 use Rattle.pol_genfs.specs.GenfsRecord.{genfs_at}
@@ -236,7 +236,7 @@ module _ (symbols : Symbols) where
       (omega (arith, total_items (rules_of_group symbols) groups, total_less (λ group. 3 * length (rules_of_group symbols group)) (λ group. group_room group.value) groups few_in_group))
 
   room-name_transitions : (version : ℕ) → HasRoom (name_transitions_at version) 0 (λ trans. 3 * length (name_rules symbols trans))
-  room-name_transitions version = either (nat_le 33 version)
+  room-name_transitions version = either (has_groups version)
     where
       either : (b : Bool) → HasRoom (if b then groups_at else entries_at) 0 (λ trans. 3 * length (name_rules symbols trans))
       either true = room-groups

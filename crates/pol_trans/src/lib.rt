@@ -33,7 +33,7 @@ pub use name_datum_rec::{NameDatumRec, NameDatumRecList};
 pub use name_datum_view::{NameDatum, NameDatumView};
 pub use name_group_rec::{NameGroupRec, NameGroupRecList};
 pub use name_group_view::{NameGroupView, read_name_group_entry};
-pub use name_trans::{NameTrans, read_name_trans};
+pub use name_trans::{NameTrans, has_groups, read_name_trans};
 pub use name_trans_rec::{NameTransRec, NameTransRecList};
 pub use name_trans_view::{NameTransView, read_name_trans_entry};
 pub use pol_cursor::{

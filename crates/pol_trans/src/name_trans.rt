@@ -1,5 +1,6 @@
+ghost use Rattle.std.specs.Prelude.{◌≡◌};
 ghost use Rattle.pol_cursor.specs.Outcome.{Yields};
-ghost use Rattle.pol_trans.specs.NameTransitions.{name_transitions_at};
+ghost use Rattle.pol_trans.specs.NameTransitions.{has_groups, name_transitions_at};
 
 use crate::lists::{NameGroupList, NameTransList, read_list};
 use pol_cursor::{Cursor, ReadError};
@@ -15,6 +16,13 @@ pub enum NameTrans<'a> {
     Groups(NameGroupList<'a>),
 }
 
+/// Whether the file-name transitions of a policy of that version are groups.
+pub fn has_groups(version: u32) -> bool
+    ensures { result ≡ has_groups version }
+{
+    version >= 33
+}
+
 /// Reads the count and the file-name transitions of a policy of that version.
 pub fn read_name_trans<'a>(
     alloc: Global,
@@ -23,7 +31,7 @@ pub fn read_name_trans<'a>(
 ) -> Result<NameTrans<'a>, ReadError>
     ensures { Yields (λ trans. trans) result (name_transitions_at version) c.old c.new }
 {
-    if version >= 33 {
+    if has_groups(version) {
         Ok(NameTrans::Groups(read_list(alloc, c, NAMEGROUP_COUNT)?))
     } else {
         Ok(NameTrans::Entries(read_list(alloc, c, NAMETRANS_COUNT)?))

@@ -7,11 +7,12 @@ use Rattle.pol_fields.specs.declared.fields.TheConstants.{BITMAP_UNIT, NAMETRANS
 use Rattle.pol_cursor.specs.References.{Placed, values_of}
 use Rattle.pol_trans.specs.declared.NameTrans.{NameTrans}
 use Rattle.pol_trans.specs.declared.NameTrans.TheVariants.{Entries, Groups}
+use Rattle.pol_trans.specs.NameTransitions.{has_groups}
 use Rattle.pol_contexts.specs.ContextTables.{has_infiniband}
 use Rattle.pol_file.specs.declared.Parts.{Parts}
 use Rattle.pol_laws.specs.OptionalParts.{wrong_if, shape_of_list, first_of, first_in, first_placed}
 use Rattle.pol_laws.specs.RecordShapes.{shape_of_class, shape_of_user, shape_of_av, shape_of_condnode, shape_of_range_trans, shape_of_genfs, shape_of_sid, shape_of_named, shape_of_port, shape_of_address, shape_of_fsuse, shape_of_ibpkey, shape_of_ibendport}
-use Rattle.pol_laws.specs.TableShapes.{shape_of_symbols as shape_of_symbol_tables, has_groups, shape_of_name_transitions, shape_of_contexts as shape_of_context_tables}
+use Rattle.pol_laws.specs.TableShapes.{shape_of_symbols as shape_of_symbol_tables, shape_of_name_transitions, shape_of_contexts as shape_of_context_tables}
 use Rattle.pol_laws.specs.PolicyShape.{shape_of_rule_lists, shape_of_label_lists, shape as policy_shape}
 use Rattle.pol_laws.proofs.ShapedParts.{none-first, none-last}
 use Rattle.pol_tree.specs.PolicyTree.{entries_of, groups_of, tree_of}

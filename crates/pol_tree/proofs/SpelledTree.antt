@@ -5,10 +5,11 @@ use Rattle.pol_trans.specs.NameTransRecord.{spell_name_trans}
 use Rattle.pol_trans.specs.NameGroupRecord.{spell_name_group}
 use Rattle.pol_trans.specs.declared.NameTrans.{NameTrans}
 use Rattle.pol_trans.specs.declared.NameTrans.TheVariants.{Entries, Groups}
+use Rattle.pol_trans.specs.NameTransitions.{has_groups}
 use Rattle.pol_contexts.specs.ContextTables.{has_infiniband}
 use Rattle.pol_file.specs.declared.Parts.{Parts}
 use Rattle.pol_laws.specs.PolicySpelling.{spell_if, spell_list, spell_symbol_table, spell_front as spell_front_parts, spell_symbols as spell_symbol_tables, spell_name_transitions as spell_either, spell_rule_lists, spell_contexts as spell_context_tables, spell_label_lists, spell_policy}
-use Rattle.pol_laws.specs.TableShapes.{has_groups, shape_of_name_transitions}
+use Rattle.pol_laws.specs.TableShapes.{shape_of_name_transitions}
 use Rattle.pol_laws.specs.PolicyShape.{shape_of_rule_lists, shape as policy_shape}
 use Rattle.pol_tree.specs.PolicyTree.{entries_of, groups_of, tree_of}
 use Rattle.pol_tree.specs.TreeSpelling.{spell_front, spell_symbols, spell_rules, spell_contexts, spell_labels, spell}

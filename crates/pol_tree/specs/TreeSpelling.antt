@@ -21,6 +21,7 @@ use Rattle.pol_trans.specs.RoleAllowRecord.{spell_role_allow}
 use Rattle.pol_trans.specs.NameTransRecord.{spell_name_trans}
 use Rattle.pol_trans.specs.NameGroupRecord.{spell_name_group}
 use Rattle.pol_trans.specs.RangeTransRecord.{spell_range_trans}
+use Rattle.pol_trans.specs.NameTransitions.{has_groups}
 use Rattle.pol_contexts.specs.SidRecord.{spell_sid}
 use Rattle.pol_contexts.specs.NamedRecord.{spell_named}
 use Rattle.pol_contexts.specs.PortRecord.{spell_port}
@@ -31,7 +32,6 @@ use Rattle.pol_contexts.specs.IbEndPortRecord.{spell_ibendport}
 use Rattle.pol_contexts.specs.ContextTables.{has_infiniband}
 use Rattle.pol_genfs.specs.GenfsRecord.{spell_genfs}
 use Rattle.pol_laws.specs.PolicySpelling.{spell_if}
-use Rattle.pol_laws.specs.TableShapes.{has_groups}
 use Rattle.pol_tree.specs.declared.tree.Tree.{Tree}
 
 -- the header of a tree

@@ -4,10 +4,12 @@ ghost use Rattle.pol_tree.specs.TreeShape.{shape_of_symbols, shape_of_rules, sha
 
 use crate::shaped::{Shaped, first_wrong, wrong_list, wrong_where};
 use crate::tree::Tree;
+use pol_contexts::has_infiniband;
 use pol_fields::Field;
 use pol_fields::fields::{
     BITMAP_UNIT, IBENDPORT_COUNT, IBPKEY_COUNT, NAMEGROUP_COUNT, NAMETRANS_COUNT,
 };
+use pol_trans::has_groups;
 
 /// The field of the first optional part of a tree, in the order of the file, that is there and must not be or is not there and has
 /// to be. It takes no memory.
@@ -40,7 +42,7 @@ fn wrong_in_rules(tree: &Tree) -> Option<Field>
     ensures { result ≡ shape_of_rules tree.now }
 {
     let version = tree.version;
-    let grouped = version >= 33;
+    let grouped = has_groups(version);
     first_wrong(&[
         tree.avtab.wrong_part(version),
         tree.condlist.wrong_part(version),
@@ -55,7 +57,7 @@ fn wrong_in_contexts(tree: &Tree) -> Option<Field>
     ensures { result ≡ shape_of_contexts tree.now }
 {
     let version = tree.version;
-    let infiniband = version >= 31;
+    let infiniband = has_infiniband(version);
     first_wrong(&[
         tree.sid.wrong_part(version),
         tree.fs.wrong_part(version),

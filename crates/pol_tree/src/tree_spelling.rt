@@ -1,8 +1,10 @@
 // The bytes of a tree, part by part in the order of the file.
 use crate::counted::{Counted, SymbolRecords};
 use crate::tree::Tree;
+use pol_contexts::has_infiniband;
 use pol_cursor::Written;
 use pol_header::HeaderRec;
+use pol_trans::has_groups;
 use std::alloc::AllocError;
 
 impl Written for Tree {
@@ -89,7 +91,7 @@ impl<'a> Written for NameTransitions<'a> {
 
     fn write(&self, out: &mut Vec<u8>) -> Result<(), AllocError> {
         let tree = self.0;
-        if tree.version >= 33 {
+        if has_groups(tree.version) {
             Counted(&tree.namegroup).write(out)
         } else {
             Counted(&tree.nametrans).write(out)
@@ -130,7 +132,7 @@ impl<'a> Written for Infiniband<'a> {
     #[tactic(auto, using(pol_cursor::proofs::Writings::gains_nothing))]
     fn write(&self, out: &mut Vec<u8>) -> Result<(), AllocError> {
         let tree = self.0;
-        if tree.version >= 31 {
+        if has_infiniband(tree.version) {
             (Counted(&tree.ibpkey), Counted(&tree.ibendport)).write(out)
         } else {
             Ok(())

@@ -31,7 +31,7 @@ use Rattle.pol_trans.specs.RoleAllowRecord.{RoleAllowFits}
 use Rattle.pol_trans.specs.NameTransRecord.{NameTransFits}
 use Rattle.pol_trans.specs.NameGroupRecord.{NameGroupFits}
 use Rattle.pol_trans.specs.RangeTransRecord.{RangeTransFits}
-use Rattle.pol_trans.specs.NameTransitions.{entries_at, groups_at}
+use Rattle.pol_trans.specs.NameTransitions.{has_groups, entries_at, groups_at}
 use Rattle.pol_trans.specs.declared.NameTrans.{NameTrans}
 use Rattle.pol_trans.specs.declared.NameTrans.TheVariants.{Entries, Groups}
 use Rattle.pol_contexts.specs.SidRecord.{SidFits}
@@ -49,7 +49,6 @@ use Rattle.pol_file.specs.declared.RuleLists.{RuleLists}
 use Rattle.pol_file.specs.declared.LabelLists.{LabelLists}
 use Rattle.pol_file.specs.declared.Parts.{Parts}
 use Rattle.pol_file.specs.PolicyParts.{front_at, rule_lists_at, label_lists_at, policy_at}
-use Rattle.pol_laws.specs.TableShapes.{has_groups}
 use Rattle.pol_laws.proofs.SpelledPolicy.{end_spelled}
 use Rattle.pol_tree.specs.PolicyTree.{entries_of, groups_of, tree_of}
 use Rattle.pol_tree.specs.TreeRanges.{TreeFits}

@@ -23,7 +23,7 @@ use Rattle.pol_symbols.specs.declared.OtherTables.{OtherTables}
 use Rattle.pol_symbols.specs.PolicySymbols.{rule_tables_at, other_tables_at, symbols_at}
 use Rattle.pol_trans.specs.NameTransRecord.{spell_name_trans, NameTransFits}
 use Rattle.pol_trans.specs.NameGroupRecord.{spell_name_group, NameGroupFits}
-use Rattle.pol_trans.specs.NameTransitions.{entries_at, groups_at}
+use Rattle.pol_trans.specs.NameTransitions.{has_groups, entries_at, groups_at}
 use Rattle.pol_trans.specs.declared.NameTrans.{NameTrans}
 use Rattle.pol_trans.specs.declared.NameTrans.TheVariants.{Entries, Groups}
 use Rattle.pol_contexts.specs.IbPkeyRecord.{spell_ibpkey}
@@ -35,7 +35,6 @@ use Rattle.pol_file.specs.declared.RuleLists.{RuleLists}
 use Rattle.pol_file.specs.declared.LabelLists.{LabelLists}
 use Rattle.pol_file.specs.PolicyParts.{front_at, rule_lists_at, label_lists_at}
 use Rattle.pol_laws.specs.PolicySpelling.{spell_if}
-use Rattle.pol_laws.specs.TableShapes.{has_groups}
 use Rattle.pol_tree.specs.declared.Tree.{Tree}
 use Rattle.pol_tree.specs.PolicyTree.{entries_of, groups_of}
 use Rattle.pol_tree.specs.TreeSpelling.{header_of, table_of, spell_front, spell_symbols, spell_rules, spell_contexts, spell_labels}

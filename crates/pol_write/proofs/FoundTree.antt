@@ -13,6 +13,7 @@ use Rattle.pol_cursor.specs.References.{values_of}
 use Rattle.pol_header.specs.declared.HeaderRec.{HeaderRec}
 use Rattle.pol_symtab.specs.SymbolTables.{Table, BareTable, bare}
 use Rattle.pol_symbols.specs.PolicySymbols.{symbols_at}
+use Rattle.pol_trans.specs.NameTransitions.{has_groups}
 use Rattle.pol_contexts.specs.ContextTables.{has_infiniband}
 use Rattle.pol_symbols.specs.declared.Symbols.{Symbols}
 use Rattle.pol_file.specs.declared.Parts.{Parts}
@@ -20,7 +21,6 @@ use Rattle.pol_file.specs.PolicyParts.{rule_lists_at, label_lists_at, policy_at}
 use Rattle.pol_file.specs.Acceptance.{accept}
 use Rattle.pol_file.proofs.Acceptances.{accepted_was_read}
 use Rattle.pol_laws.specs.OptionalParts.{wrong_if, shape_of_list}
-use Rattle.pol_laws.specs.TableShapes.{has_groups}
 use Rattle.pol_tree.specs.declared.Tree.{Tree}
 use Rattle.pol_tree.specs.PolicyTree.{nprims_of, tree_of}
 use Rattle.pol_tree.specs.TreeSpelling.{spell_symbols, spell_rules, spell_labels, spell}

@@ -18,4 +18,5 @@ returns c =
       c.wrong_part-8.ensures,
       c.wrong_list-2.ensures,
       c.wrong_part-9.ensures,
+      c.has_infiniband-infiniband.ensures,
     ) refl

@@ -3,11 +3,11 @@ use Rattle.pol_fields.specs.declared.fields.TheConstants.{NAMETRANS_COUNT, NAMEG
 use Rattle.pol_cursor.specs.Parts.{spell_counted}
 use Rattle.pol_trans.specs.NameTransRecord.{spell_name_trans}
 use Rattle.pol_trans.specs.NameGroupRecord.{spell_name_group}
+use Rattle.pol_trans.specs.NameTransitions.{has_groups}
 use Rattle.pol_contexts.specs.ContextTables.{has_infiniband}
 use Rattle.pol_contexts.specs.IbPkeyRecord.{spell_ibpkey}
 use Rattle.pol_contexts.specs.IbEndPortRecord.{spell_ibendport}
 use Rattle.pol_ranges.proofs.RangedLists.{none_in}
-use Rattle.pol_laws.specs.TableShapes.{has_groups}
 use Rattle.pol_tree.specs.TreeSpelling.{table_of, spell_front, spell_symbols, spell_rules, spell_contexts, spell_labels, spell}
 use Rattle.pol_write.proofs.LookedTree.{table_fits, list_fits_if, each_right, few_if, few_unless, few_first, few_second}
 use Rattle.pol_write.proofs.looking.look_at.Goals as goal
