@@ -159,7 +159,11 @@ impl<'a> ConstraintView<'a> {
 
 /// The constraint at the cursor, which then stands behind it. Takes no memory.
 ///
-/// The items of a policy's version are read, and a third context is allowed or not.
+/// The items of a policy's version are read, and a third context is allowed or not. `NotOneValue` where there is no item. At an
+/// item, `BadKind` where its kind is not 1 to 5, `NotOneValue` where its operands do not stand before it or the last item leaves
+/// more than one value, `TooDeep` where a leaf makes more than 5 values, `BadAttr` where its attribute is none of its
+/// kind's, or of a third context that is not allowed, `BadOp` where its operator is none of its kind's, and the faults of
+/// `BitmapView::read`.
 #[tactic(auto, unfolding(crate::specs::ConstraintRecord::constraint_at), using(pol_cursor::proofs::Facts::number_is, pol_expr::proofs::PostfixReading::some_item))]
 pub fn read_constraint<'a>(
     c: &mut Cursor<'a>,

@@ -1,4 +1,4 @@
--- The text of a context, as SETools prints it.
+-- The text of a context: that of SETools, but for two categories in a row, which are c1,c2 here and c1.c2 there.
 use Rattle.std.specs.Prelude.{ℕ, List, ◌++◌, codes}
 use Rattle.pol_fields.specs.declared.table_kind.TableKind.TheVariants.{Users, Roles, Types}
 use Rattle.pol_cursor.specs.References.{Named}

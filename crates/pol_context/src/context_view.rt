@@ -99,7 +99,7 @@ impl<'a> ContextView<'a> {
     }
 }
 
-/// The context at the cursor, which then stands behind it. Takes no memory.
+/// The context at the cursor, which then stands behind it. Takes no memory. The faults are `Short` and those of `read_range`.
 #[tactic(auto, unfolding(crate::specs::ContextRecord::context_at), using(pol_cursor::proofs::Facts::number_is))]
 pub fn read_context<'a>(c: &mut Cursor<'a>) -> Result<ContextView<'a>, Fault>
     ensures exact { Answers (λ context. context.value) result context_at c.old c.new }

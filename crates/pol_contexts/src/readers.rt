@@ -19,7 +19,8 @@ use crate::kinds::{
 use pol_cursor::Cursor;
 use pol_fields::Fault;
 
-/// The entry of an initial SID at the cursor, which then stands behind it. Takes no memory; so it is with the readers below.
+/// The entry of an initial SID at the cursor, which then stands behind it. Takes no memory, and has the faults of `read_context`
+/// of pol_context; so it is with the readers below.
 pub fn read_sid_entry<'a>(c: &mut Cursor<'a>) -> Result<SidView<'a>, Fault>
     ensures exact { Answers (λ entry. entry.value) result (sid_at) c.old c.new }
     ensures stands { IfOk result (λ entry. HasSid c.old.bytes c.old.place × (entry ≡ record { place = c.old.place; value = sid_in c.old.bytes c.old.place })) }
@@ -27,7 +28,7 @@ pub fn read_sid_entry<'a>(c: &mut Cursor<'a>) -> Result<SidView<'a>, Fault>
     read_entry::<Sid>(c)
 }
 
-/// The entry of a file system at the cursor, which then stands behind it.
+/// The entry of a file system at the cursor, which then stands behind it. `BadName` where its name is empty or has a byte 0.
 pub fn read_fs_entry<'a>(c: &mut Cursor<'a>) -> Result<FsView<'a>, Fault>
     ensures exact { Answers (λ entry. entry.value) result (named_at FS_LEN FS_NAME) c.old c.new }
     ensures stands { IfOk result (λ entry. HasNamed c.old.bytes c.old.place × (entry ≡ record { place = c.old.place; value = named_in c.old.bytes c.old.place })) }
@@ -43,7 +44,7 @@ pub fn read_port_entry<'a>(c: &mut Cursor<'a>) -> Result<PortView<'a>, Fault>
     read_entry::<Port>(c)
 }
 
-/// The entry of a network interface at the cursor, which then stands behind it.
+/// The entry of a network interface at the cursor, which then stands behind it. `BadName` where its name is empty or has a byte 0.
 pub fn read_netif_entry<'a>(c: &mut Cursor<'a>) -> Result<NetifView<'a>, Fault>
     ensures exact { Answers (λ entry. entry.value) result (named_at NETIF_LEN NETIF_NAME) c.old c.new }
     ensures stands { IfOk result (λ entry. HasNamed c.old.bytes c.old.place × (entry ≡ record { place = c.old.place; value = named_in c.old.bytes c.old.place })) }
@@ -59,7 +60,8 @@ pub fn read_node_entry<'a>(c: &mut Cursor<'a>) -> Result<NodeView<'a>, Fault>
     read_entry::<Node>(c)
 }
 
-/// The entry of the behaviour of a file system at the cursor, which then stands behind it. `BadBehaviour` where the behaviour is none of the three.
+/// The entry of the behaviour of a file system at the cursor, which then stands behind it. `BadBehaviour` where the behaviour is
+/// none of the three, and `BadName` where its name is empty or has a byte 0.
 pub fn read_fsuse_entry<'a>(c: &mut Cursor<'a>) -> Result<FsUseView<'a>, Fault>
     ensures exact { Answers (λ entry. entry.value) result (fsuse_at) c.old c.new }
     ensures stands { IfOk result (λ entry. HasFsUse c.old.bytes c.old.place × (entry ≡ record { place = c.old.place; value = fsuse_in c.old.bytes c.old.place })) }
@@ -83,7 +85,7 @@ pub fn read_ibpkey_entry<'a>(c: &mut Cursor<'a>) -> Result<IbPkeyView<'a>, Fault
     read_entry::<IbPkey>(c)
 }
 
-/// The entry of the port of a device at the cursor, which then stands behind it.
+/// The entry of the port of a device at the cursor, which then stands behind it. `BadName` where its name is empty or has a byte 0.
 pub fn read_ibendport_entry<'a>(c: &mut Cursor<'a>) -> Result<IbEndPortView<'a>, Fault>
     ensures exact { Answers (λ entry. entry.value) result (ibendport_at) c.old c.new }
     ensures stands { IfOk result (λ entry. HasIbEndPort c.old.bytes c.old.place × (entry ≡ record { place = c.old.place; value = ibendport_in c.old.bytes c.old.place })) }

@@ -51,7 +51,8 @@ pub record Position : Type 0 where
   pub place : ℕ
 
 -- What a reader of the code answers, seen by view, is what reading gives where the cursor stood: the
--- value, with the cursor at the place after it, or the first fault.
+-- value, with the cursor at the place after it, or the first fault. After an error nothing is said of the
+-- cursor; so it is with Yields.
 abbrev pub Answers : {X A : Type 0} → (X → A) → Result X Fault → Reader A → Position → Position → Type 0
 Answers view (Ok x) r old new = (r old.bytes old.place ≡ Got (view x) new.place) × (new.bytes ≡ old.bytes)
 Answers view (Err f) r old new = r old.bytes old.place ≡ Bad f

@@ -9,6 +9,7 @@ use byteorder::{ByteOrder, LittleEndian};
 use pol_fields::{Cause, Fault, Field};
 use std::alloc::AllocError;
 
+/// The little-endian number in the 2 bytes at a place.
 #[tactic(auto, unfolding(crate::specs::Parts::num))]
 pub fn u16_in(bytes: &[u8], place: usize) -> u16
     requires { place + 2 ≤ length bytes.now }
@@ -17,6 +18,7 @@ pub fn u16_in(bytes: &[u8], place: usize) -> u16
     LittleEndian::read_u16(&bytes[place..])
 }
 
+/// The little-endian number in the 4 bytes at a place.
 #[tactic(auto, unfolding(crate::specs::Parts::num))]
 pub fn u32_in(bytes: &[u8], place: usize) -> u32
     requires { place + 4 ≤ length bytes.now }
@@ -25,6 +27,7 @@ pub fn u32_in(bytes: &[u8], place: usize) -> u32
     LittleEndian::read_u32(&bytes[place..])
 }
 
+/// The little-endian number in the 8 bytes at a place.
 #[tactic(auto, unfolding(crate::specs::Parts::num))]
 pub fn u64_in(bytes: &[u8], place: usize) -> u64
     requires { place + 8 ≤ length bytes.now }
@@ -33,6 +36,7 @@ pub fn u64_in(bytes: &[u8], place: usize) -> u64
     LittleEndian::read_u64(&bytes[place..])
 }
 
+/// The n bytes from a place on, a part of the buffer.
 pub fn string_in(bytes: &[u8], place: usize, n: usize) -> &[u8]
     requires { place + n ≤ length bytes.now }
     ensures { result.now ≡ take n (drop place bytes.now) }

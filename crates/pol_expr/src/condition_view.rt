@@ -153,6 +153,9 @@ fn item_dangling<N: Names>(names: &N, place: u32, item: ConditionItem) -> Option
 }
 
 /// The condition at the cursor, which then stands behind it. Takes no memory.
+///
+/// `NotOneValue` where it has no item. At an item, `BadKind` where its kind is not 1 to 7, `NotOneValue` where its operands do
+/// not stand before it or the last item leaves more than one value, and `TooDeep` where a boolean makes more than 10 values.
 #[tactic(auto, unfolding(crate::specs::ConditionRecord::condition_at), using(pol_cursor::proofs::Facts::number_is, crate::proofs::PostfixReading::some_item))]
 pub fn read_condition<'a>(c: &mut Cursor<'a>) -> Result<ConditionView<'a>, Fault>
     ensures exact { Answers (λ v. v.value) result condition_at c.old c.new }

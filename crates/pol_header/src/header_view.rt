@@ -61,6 +61,11 @@ impl<'a> HeaderView<'a> {
 }
 
 /// The header at the cursor, which then stands behind it.
+///
+/// `BadMagic` where the magic number is another, `BadIdentity` where the identity is not 8 bytes long or not `SE Linux`,
+/// `UnsupportedVersion` where the version is not 28 to 34, `NotMls` where the policy has no MLS, `BadUnknown` where unknown
+/// classes are both refused and allowed, `BadCounts` where there are not 8 symbol tables, or not as many tables of contexts as
+/// the version has: 7 up to version 30 and 9 from 31 on.
 #[tactic(auto, unfolding(crate::specs::HeaderRecord::header_at), using(pol_cursor::proofs::Facts::number_is))]
 pub fn read_header<'a>(c: &mut Cursor<'a>) -> Result<HeaderView<'a>, Fault>
     ensures exact { Answers (λ v. v) result header_at c.old c.new }

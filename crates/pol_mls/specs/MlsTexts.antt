@@ -1,4 +1,4 @@
--- The texts of levels and ranges, as SETools prints them.
+-- The texts of levels and ranges: those of SETools, but for two categories in a row, which are c1,c2 here and c1.c2 there.
 use Rattle.std.specs.Prelude.{ℕ, ◌+◌, ◌-◌, ◌^◌, ◌==◌, ◌&&◌, Bool, Option, Some, None, is_some, unwrap_or, List, [], ◌∷◌, ◌++◌, length, map, filter, get_or, codes, nat_le, nat_lt, bytes_eq, if◌then◌else◌}
 use Rattle.std.specs.List.{join_by}
 use Rattle.pol_fields.specs.declared.table_kind.TableKind.{TableKind}

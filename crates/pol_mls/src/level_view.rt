@@ -85,7 +85,8 @@ impl<'a> LevelView<'a> {
     }
 }
 
-/// The level at the cursor, which then stands behind it. Takes no memory.
+/// The level at the cursor, which then stands behind it. Takes no memory. The faults are `Short` and those of
+/// `BitmapView::read`.
 #[tactic(auto, unfolding(crate::specs::LevelRecord::level_at), using(pol_cursor::proofs::Facts::number_is))]
 pub fn read_level<'a>(c: &mut Cursor<'a>) -> Result<LevelView<'a>, Fault>
     ensures exact { Answers (λ level. level.value) result level_at c.old c.new }

@@ -158,7 +158,8 @@ fn low_place(bytes: &[u8], place: u32) -> u32
     }
 }
 
-/// The range at the cursor, which then stands behind it. Takes no memory. `BadRange` where it has neither one level nor two.
+/// The range at the cursor, which then stands behind it. Takes no memory. `BadRange` where it has neither one level nor two,
+/// and the faults of `BitmapView::read`.
 #[tactic(auto, unfolding(crate::specs::RangeRecord::range_at), using(pol_cursor::proofs::Facts::number_is))]
 pub fn read_range<'a>(c: &mut Cursor<'a>) -> Result<RangeView<'a>, Fault>
     ensures exact { Answers (λ range. range.value) result range_at c.old c.new }

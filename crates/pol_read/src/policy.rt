@@ -147,12 +147,14 @@ impl<'a> Policy<'a> {
         self.parts.rules.conditionals.condition(node)
     }
 
+    /// The role transitions.
     pub fn role_trans(&self) -> &RoleTransList<'a>
         ensures { result.now ≡ self.now.rules.role_trans }
     {
         &self.parts.rules.role_trans
     }
 
+    /// The role allows.
     pub fn role_allows(&self) -> &RoleAllowList<'a>
         ensures { result.now ≡ self.now.rules.role_allows }
     {
@@ -166,6 +168,7 @@ impl<'a> Policy<'a> {
         &self.parts.rules.name_trans
     }
 
+    /// The range transitions.
     pub fn range_trans(&self) -> &RangeTransList<'a>
         ensures { result.now ≡ self.now.labels.range_trans }
     {

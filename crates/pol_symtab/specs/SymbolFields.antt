@@ -8,7 +8,7 @@ use Rattle.pol_cursor.specs.Outcome.{Reader}
 use Rattle.pol_cursor.specs.Parts.{number_if, string_if, unless}
 use Rattle.pol_symtab.specs.Claims.{Claims, has_name, has_value}
 
--- a name has a byte (libsepol's str_read refuses none)
+-- a name has a byte (libsepol's str_read refuses the length 0)
 abbrev pub length_test : ℕ → Option Cause
 length_test len = unless (nat_le 1 len) EmptyName
 

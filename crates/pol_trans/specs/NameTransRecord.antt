@@ -50,7 +50,7 @@ HasNameTrans bytes place = (name_end bytes place + 16 ≤ length bytes) × (leng
 
 -- ---- what it names
 
--- the same from the place behind the name
+-- source, target, class and default, from the place behind the name
 abbrev pub references_behind_name : ℕ → NameTransRec → List Reference
 references_behind_name place trans =
     record { place = place; field = NAMETRANS_SOURCE; table = Types; value = trans.source } ∷
