@@ -99,6 +99,15 @@ impl<'a> ContextView<'a> {
     }
 }
 
+/// The place behind the context at a place.
+#[tactic(auto, using(crate::proofs::Places::context_ends))]
+pub fn context_end(bytes: &[u8], place: u32) -> u32
+    requires { HasContext bytes.now place }
+    ensures { result ≡ context_end bytes.now place }
+{
+    place + 12 + RangeView::at(bytes, place + 12).size()
+}
+
 /// The context at the cursor, which then stands behind it. Takes no memory. The faults are `Short` and those of `read_range`.
 #[tactic(auto, unfolding(crate::specs::ContextRecord::context_at), using(pol_cursor::proofs::Facts::number_is))]
 pub fn read_context<'a>(c: &mut Cursor<'a>) -> Result<ContextView<'a>, Fault>

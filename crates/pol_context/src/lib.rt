@@ -5,14 +5,12 @@ mod context_rec;
 mod context_view;
 mod context_write;
 mod entry_list;
-mod parts;
 mod record_laws;
 mod texts;
 
 pub use context_rec::{ContextRec, ContextRecList};
-pub use context_view::{ContextView, read_context};
+pub use context_view::{ContextView, context_end, read_context};
 pub use entry_list::read_table;
-pub use parts::{context_end, name_end, name_standing};
 pub use pol_cursor::write_record as write_context;
 pub use record_laws::contexts_have_laws;
 pub use texts::context_text;

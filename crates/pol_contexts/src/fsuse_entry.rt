@@ -7,8 +7,11 @@ use crate::causes::behaviour_cause;
 use crate::entry::{Entry, Standing};
 use crate::fsuse_rec::FsUseRec;
 use crate::kinds::{FsUse, FsUseView};
-use pol_context::{ContextView, name_end, name_standing, read_context};
-use pol_cursor::{ByteList, Cursor, Names, Part, ReadAlone, Written, read_name, refuse, u32_in};
+use pol_context::{ContextView, read_context};
+use pol_cursor::{
+    ByteList, Cursor, Names, Part, ReadAlone, Written, name_end, name_standing, read_name, refuse,
+    u32_in,
+};
 use pol_fields::Fault;
 use pol_fields::fields::{FSUSE_BEHAVIOUR, FSUSE_LEN, FSUSE_NAME};
 use std::alloc::{AllocError, Global};

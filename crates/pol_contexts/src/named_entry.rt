@@ -5,8 +5,10 @@ ghost use Rattle.pol_contexts.specs.NamedRecord.{named_at, named_in, spell_named
 use crate::entry::{Entry, EntryKind, Standing};
 use crate::kinds::NamedView;
 use crate::named_rec::NamedRec;
-use pol_context::{ContextView, context_end, name_end, name_standing, read_context};
-use pol_cursor::{ByteList, Cursor, Names, Part, ReadAlone, Written, read_name};
+use pol_context::{ContextView, context_end, read_context};
+use pol_cursor::{
+    ByteList, Cursor, Names, Part, ReadAlone, Written, name_end, name_standing, read_name,
+};
 use pol_fields::{Fault, Field};
 use std::alloc::{AllocError, Global};
 

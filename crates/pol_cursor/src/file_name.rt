@@ -6,7 +6,7 @@ ghost use Rattle.pol_cursor.specs.Outcome.{Answers};
 ghost use Rattle.pol_cursor.specs.Parts.{num};
 ghost use Rattle.pol_cursor.specs.Writing.{Writes};
 
-use crate::{Cursor, Part, Written, refuse};
+use crate::{Cursor, Part, Written, refuse, string_in, u32_in};
 use pol_fields::{Cause, Fault, Field};
 use std::alloc::AllocError;
 
@@ -80,6 +80,25 @@ pub fn read_name<'a>(
 {
     let len = read_name_length(c, len_field)?;
     read_name_bytes(c, name_field, len)
+}
+
+/// The name that stands at a place.
+pub fn name_standing(bytes: &[u8], place: u32) -> &[u8]
+    requires place { name_end bytes.now place ≤ length bytes.now }
+    requires size { length bytes.now ≤ 67108864 }
+    ensures { result.now ≡ name_in bytes.now place }
+{
+    let len = u32_in(bytes, place as usize);
+    string_in(bytes, place as usize + 4, len as usize)
+}
+
+/// The place behind the name at a place.
+pub fn name_end(bytes: &[u8], place: u32) -> u32
+    requires place { name_end bytes.now place ≤ length bytes.now }
+    requires size { length bytes.now ≤ 67108864 }
+    ensures { result ≡ name_end bytes.now place }
+{
+    place + 4 + u32_in(bytes, place as usize)
 }
 
 /// Appends the length of a name, which has 32 bits at most, and its bytes. Out of memory, a beginning of them was appended.

@@ -20,7 +20,9 @@ mod referring;
 pub use bit_places::{has_bit, set_bit};
 pub use copied::Copied;
 pub use cursor::Cursor;
-pub use file_name::{read_name, read_name_bytes, read_name_length, write_name};
+pub use file_name::{
+    name_end, name_standing, read_name, read_name_bytes, read_name_length, write_name,
+};
 pub use mention::{Mention, first_dangling};
 pub use names::{Names, dangling};
 pub use owned_list::{ByteList, NumberList, OwnedList};

@@ -5,9 +5,10 @@ ghost use Rattle.pol_cursor.specs.References.{dangling_of};
 ghost use Rattle.pol_genfs.specs.GenfsRecord.{path_in, HasPath, class_place, class_references, context_of_path, path_references};
 
 use crate::genfs_rec::GenfsPathRec;
-use pol_context::{ContextView, context_end, name_end, name_standing, read_context};
+use pol_context::{ContextView, context_end, read_context};
 use pol_cursor::{
-    ByteList, Copied, Cursor, Inner, Names, Record, RecordView, dangling, read_name, u32_in,
+    ByteList, Copied, Cursor, Inner, Names, Record, RecordView, dangling, name_end, name_standing,
+    read_name, u32_in,
 };
 use pol_fields::fields::{GENFS_CLASS, GENFS_PATH, GENFS_PATHLEN};
 use pol_fields::{Fault, TableKind};

@@ -8,7 +8,6 @@ mod name_datum_view;
 mod name_group_rec;
 mod name_group_view;
 mod name_group_write;
-mod name_parts;
 mod name_trans;
 mod name_trans_rec;
 mod name_trans_view;

@@ -5,11 +5,11 @@ ghost use Rattle.pol_trans.specs.NameGroupRecord.{name_group_at, name_group_in, 
 
 use crate::name_datum_view::NameDatum;
 use crate::name_group_rec::NameGroupRec;
-use crate::name_parts::{behind_name, name_standing};
 use crate::transition::{Stored, Transition, TransitionView, read_transition};
 use pol_bitmap::BitmapView;
 use pol_cursor::{
-    ByteList, Cursor, Mention, Names, Run, first_dangling, read_name, read_run, u32_in,
+    ByteList, Cursor, Mention, Names, Run, first_dangling, name_end, name_standing, read_name,
+    read_run, u32_in,
 };
 use pol_fields::Fault;
 use pol_fields::TableKind::{Classes, Types};
@@ -33,14 +33,14 @@ impl<'a> NameGroupView<'a> {
     pub fn target(&self) -> u32
         ensures { result ≡ self.now.value.target }
     {
-        u32_in(self.bytes, behind_name(self.bytes, self.place) as usize)
+        u32_in(self.bytes, name_end(self.bytes, self.place) as usize)
     }
 
     /// The value of the class of the new object.
     pub fn class(&self) -> u32
         ensures { result ≡ self.now.value.class }
     {
-        u32_in(self.bytes, behind_name(self.bytes, self.place) as usize + 4)
+        u32_in(self.bytes, name_end(self.bytes, self.place) as usize + 4)
     }
 
     /// The data, in file order.
@@ -49,7 +49,7 @@ impl<'a> NameGroupView<'a> {
         ensures placed { result ≡ name_data_of self.now }
         ensures values { values_of result ≡ self.now.value.datums }
     {
-        let place = behind_name(self.bytes, self.place);
+        let place = name_end(self.bytes, self.place);
         let count = u32_in(self.bytes, place as usize + 8);
         Run::at(self.bytes, place + 12, count)
     }
@@ -110,7 +110,7 @@ impl Transition for NameGroupRec {
     }
 
     fn dangling_in<N: Names>(view: &NameGroupView<'_>, names: &N) -> Option<Fault> {
-        let place = behind_name(view.bytes, view.place);
+        let place = name_end(view.bytes, view.place);
         let own = first_dangling(
             names,
             &[

@@ -2,10 +2,11 @@ ghost use Rattle.std.specs.Prelude.{◌≡◌, IfOk};
 ghost use Rattle.pol_cursor.specs.Outcome.{Answers};
 ghost use Rattle.pol_trans.specs.NameTransRecord.{name_trans_at, name_trans_in, HasNameTrans, name_trans_references};
 
-use crate::name_parts::{behind_name, name_standing};
 use crate::name_trans_rec::NameTransRec;
 use crate::transition::{Stored, Transition, TransitionView, read_transition};
-use pol_cursor::{ByteList, Cursor, Mention, Names, first_dangling, read_name, u32_in};
+use pol_cursor::{
+    ByteList, Cursor, Mention, Names, first_dangling, name_end, name_standing, read_name, u32_in,
+};
 use pol_fields::Fault;
 use pol_fields::TableKind::{Classes, Types};
 use pol_fields::fields::{
@@ -29,31 +30,28 @@ impl<'a> NameTransView<'a> {
     pub fn source(&self) -> u32
         ensures { result ≡ self.now.value.source }
     {
-        u32_in(self.bytes, behind_name(self.bytes, self.place) as usize)
+        u32_in(self.bytes, name_end(self.bytes, self.place) as usize)
     }
 
     /// The value of the type that the object is made in.
     pub fn target(&self) -> u32
         ensures { result ≡ self.now.value.target }
     {
-        u32_in(self.bytes, behind_name(self.bytes, self.place) as usize + 4)
+        u32_in(self.bytes, name_end(self.bytes, self.place) as usize + 4)
     }
 
     /// The value of the class of the new object.
     pub fn class(&self) -> u32
         ensures { result ≡ self.now.value.class }
     {
-        u32_in(self.bytes, behind_name(self.bytes, self.place) as usize + 8)
+        u32_in(self.bytes, name_end(self.bytes, self.place) as usize + 8)
     }
 
     /// The value of the type that the new object has.
     pub fn default(&self) -> u32
         ensures { result ≡ self.now.value.default }
     {
-        u32_in(
-            self.bytes,
-            behind_name(self.bytes, self.place) as usize + 12,
-        )
+        u32_in(self.bytes, name_end(self.bytes, self.place) as usize + 12)
     }
 }
 
@@ -90,7 +88,7 @@ impl Transition for NameTransRec {
     }
 
     fn dangling_in<N: Names>(view: &NameTransView<'_>, names: &N) -> Option<Fault> {
-        let place = view.place + 4 + view.name().len() as u32;
+        let place = name_end(view.bytes, view.place);
         first_dangling(
             names,
             &[
