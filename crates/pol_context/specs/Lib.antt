@@ -1,3 +1,2 @@
 pub mod ContextRecord
 pub mod ContextText
-pub mod EntryLists

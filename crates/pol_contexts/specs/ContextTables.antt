@@ -2,7 +2,8 @@
 use Rattle.std.specs.Prelude.{ℕ, Bool, true, false, List, [], nat_le}
 use Rattle.pol_fields.specs.declared.fields.TheConstants.{SID_COUNT, FS_COUNT, FS_LEN, FS_NAME, PORT_COUNT, NETIF_COUNT, NETIF_LEN, NETIF_NAME, NODE_COUNT, NODE_ADDRESS, NODE_MASK, FSUSE_COUNT, NODE6_COUNT, NODE6_ADDRESS, NODE6_MASK, IBPKEY_COUNT, IBENDPORT_COUNT}
 use Rattle.pol_cursor.specs.Outcome.{Reader, ◌>>=◌, done}
-use Rattle.pol_context.specs.EntryLists.{table_at}
+use Rattle.pol_cursor.specs.Parts.{counted, records_at}
+use Rattle.pol_cursor.specs.References.{placed}
 use Rattle.pol_contexts.specs.SidRecord.{sid_at}
 use Rattle.pol_contexts.specs.NamedRecord.{named_at}
 use Rattle.pol_contexts.specs.PortRecord.{port_at}
@@ -23,13 +24,13 @@ has_infiniband version = nat_le 31 version
 
 unfoldable pub contexts_at : ℕ → Reader Contexts
 contexts_at version = do
-  sid ← table_at SID_COUNT sid_at
-  fs ← table_at FS_COUNT (named_at FS_LEN FS_NAME)
-  port ← table_at PORT_COUNT port_at
-  netif ← table_at NETIF_COUNT (named_at NETIF_LEN NETIF_NAME)
-  node ← table_at NODE_COUNT (address_at NODE_ADDRESS NODE_MASK 4)
-  fsuse ← table_at FSUSE_COUNT fsuse_at
-  node6 ← table_at NODE6_COUNT (address_at NODE6_ADDRESS NODE6_MASK 16)
-  ibpkey ← table_if (has_infiniband version) (table_at IBPKEY_COUNT ibpkey_at)
-  ibendport ← table_if (has_infiniband version) (table_at IBENDPORT_COUNT ibendport_at)
+  sid ← counted SID_COUNT (records_at (placed sid_at))
+  fs ← counted FS_COUNT (records_at (placed (named_at FS_LEN FS_NAME)))
+  port ← counted PORT_COUNT (records_at (placed port_at))
+  netif ← counted NETIF_COUNT (records_at (placed (named_at NETIF_LEN NETIF_NAME)))
+  node ← counted NODE_COUNT (records_at (placed (address_at NODE_ADDRESS NODE_MASK 4)))
+  fsuse ← counted FSUSE_COUNT (records_at (placed fsuse_at))
+  node6 ← counted NODE6_COUNT (records_at (placed (address_at NODE6_ADDRESS NODE6_MASK 16)))
+  ibpkey ← table_if (has_infiniband version) (counted IBPKEY_COUNT (records_at (placed ibpkey_at)))
+  ibendport ← table_if (has_infiniband version) (counted IBENDPORT_COUNT (records_at (placed ibendport_at)))
   done (record { sid = sid; fs = fs; port = port; netif = netif; node = node; fsuse = fsuse; node6 = node6; ibpkey = ibpkey; ibendport = ibendport })

@@ -2,7 +2,8 @@
 
 ghost use Rattle.std.specs.Prelude.{◌≡◌};
 ghost use Rattle.pol_cursor.specs.Outcome.{Yields};
-ghost use Rattle.pol_context.specs.EntryLists.{table_at};
+ghost use Rattle.pol_cursor.specs.Parts.{counted, records_at};
+ghost use Rattle.pol_cursor.specs.References.{placed};
 ghost use Rattle.pol_contexts.specs.ContextTables.{table_if, has_infiniband, contexts_at};
 
 use crate::fsuse_rec::FsUseRec;
@@ -13,8 +14,7 @@ use crate::kinds::{
 };
 use crate::port_rec::PortRec;
 use crate::sid_rec::SidRec;
-use pol_context::read_table;
-use pol_cursor::{Cursor, OwnedList, ReadAlone, ReadError, Records};
+use pol_cursor::{Cursor, OwnedList, ReadAlone, ReadError, Records, read_counted};
 use pol_fields::Field;
 use pol_fields::fields::{
     FS_COUNT, FSUSE_COUNT, IBENDPORT_COUNT, IBPKEY_COUNT, NETIF_COUNT, NODE_COUNT, NODE6_COUNT,
@@ -110,13 +110,13 @@ pub fn read_contexts<'a>(
 {
     let infiniband = has_infiniband(version);
     Ok(Contexts {
-        sid: read_table(alloc, c, SID_COUNT)?,
-        fs: read_table(alloc, c, FS_COUNT)?,
-        port: read_table(alloc, c, PORT_COUNT)?,
-        netif: read_table(alloc, c, NETIF_COUNT)?,
-        node: read_table(alloc, c, NODE_COUNT)?,
-        fsuse: read_table(alloc, c, FSUSE_COUNT)?,
-        node6: read_table(alloc, c, NODE6_COUNT)?,
+        sid: read_counted(alloc, c, SID_COUNT)?,
+        fs: read_counted(alloc, c, FS_COUNT)?,
+        port: read_counted(alloc, c, PORT_COUNT)?,
+        netif: read_counted(alloc, c, NETIF_COUNT)?,
+        node: read_counted(alloc, c, NODE_COUNT)?,
+        fsuse: read_counted(alloc, c, FSUSE_COUNT)?,
+        node6: read_counted(alloc, c, NODE6_COUNT)?,
         ibpkey: read_table_if(alloc, c, infiniband, IBPKEY_COUNT)?,
         ibendport: read_table_if(alloc, c, infiniband, IBENDPORT_COUNT)?,
     })
@@ -130,10 +130,10 @@ fn read_table_if<'a, K: ReadAlone + Drop>(
     there: bool,
     count: Field,
 ) -> Result<Records<'a, K>, ReadError>
-    ensures { Yields (λ entries. entries) result (table_if there (table_at count K.reads)) c.old c.new }
+    ensures { Yields (λ entries. entries) result (table_if there (counted count (records_at (placed K.reads)))) c.old c.new }
 {
     if there {
-        read_table(alloc, c, count)
+        read_counted(alloc, c, count)
     } else {
         Ok(Records::empty(alloc, c.bytes()))
     }

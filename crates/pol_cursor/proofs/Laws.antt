@@ -257,6 +257,13 @@ counted_spelled d items_at sp fits each =
 pub counted_again : {A : Type 0} (d : Field) (items_at : ℕ → Reader (List A)) (sp : A → List ℕ) (fits : A → Type 0) → ((xs : List A) → AllByRecursion fits xs → Again (items_at (length xs)) xs (flat_map sp xs)) → IsReadAgain (counted d items_at) (spell_counted sp) (CountedFits fits)
 counted_again d items_at sp fits each xs h = Again-part _ (Again-number d 4 (length xs) h.count) (each xs h.items)
 
+-- by the laws of a record
+pub counted_records_spelled : {A : Type 0} (d : Field) (r : Reader A) (sp : A → List ℕ) (fits : A → Type 0) → IsReadFromSpelling r sp fits → IsReadFromSpelling (counted d (records_at r)) (spell_counted sp) (CountedFits fits)
+counted_records_spelled d r sp fits each = counted_spelled d (records_at r) sp fits (records_spelled r sp fits each)
+
+pub counted_records_again : {A : Type 0} (d : Field) (r : Reader A) (sp : A → List ℕ) (fits : A → Type 0) → IsReadAgain r sp fits → IsReadAgain (counted d (records_at r)) (spell_counted sp) (CountedFits fits)
+counted_records_again d r sp fits each = counted_again d (records_at r) sp fits (records_again r sp fits each)
+
 -- ---- optional parts
 
 pub Reads-optional : {A : Type 0} (there : Bool) {r : Reader A} {sp : A → List ℕ} {fits : A → Type 0} → Reads r (IsSpelling sp fits) → Reads (optional there r) (IsSpelling (spell_optional sp) (OptionFits there fits))

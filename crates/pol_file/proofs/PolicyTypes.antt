@@ -22,7 +22,6 @@ use Rattle.pol_datums.specs.TypeRecord.{type_at}
 use Rattle.pol_classes.specs.ClassTables.{class_table_at}
 use Rattle.pol_symbols.specs.PolicySymbols.{roles_at, types_at, rule_tables_at, other_tables_at, symbols_at}
 use Rattle.pol_trans.specs.RangeTransRecord.{range_trans_at}
-use Rattle.pol_context.specs.EntryLists.{table_at as context_table_at}
 use Rattle.pol_contexts.specs.ContextTables.{contexts_at}
 use Rattle.pol_genfs.specs.GenfsRecord.{genfs_at}
 use Rattle.pol_file.specs.declared.parts.Parts.{Parts}
@@ -91,7 +90,7 @@ labels_are_long : (version types : ℕ) → Gives (label_lists_at version types)
 unfolding label_lists_at
 labels_are_long version types =
     gives-others (contexts_at version) λ contexts.
-    gives-others (context_table_at GENFS_COUNT genfs_at) λ genfs.
+    gives-others (counted GENFS_COUNT (records_at (placed genfs_at))) λ genfs.
     gives-others (counted RANGETRANS_COUNT (records_at (placed range_trans_at))) λ range_trans.
     Gives-part (type_map_long types) λ type_map long.
     Gives-done _ _ long

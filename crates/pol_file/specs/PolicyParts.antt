@@ -13,7 +13,6 @@ use Rattle.pol_trans.specs.RoleTransRecord.{role_trans_at}
 use Rattle.pol_trans.specs.RoleAllowRecord.{role_allow_at}
 use Rattle.pol_trans.specs.RangeTransRecord.{range_trans_at}
 use Rattle.pol_trans.specs.NameTransitions.{name_transitions_at}
-use Rattle.pol_context.specs.EntryLists.{table_at}
 use Rattle.pol_contexts.specs.ContextTables.{contexts_at}
 use Rattle.pol_genfs.specs.GenfsRecord.{genfs_at}
 use Rattle.pol_file.specs.TypeMapRows.{type_map_at}
@@ -45,7 +44,7 @@ rule_lists_at version = do
 unfoldable pub label_lists_at : ℕ → ℕ → Reader LabelLists
 label_lists_at version types = do
   contexts ← contexts_at version
-  genfs ← table_at GENFS_COUNT genfs_at
+  genfs ← counted GENFS_COUNT (records_at (placed genfs_at))
   range_trans ← counted RANGETRANS_COUNT (records_at (placed range_trans_at))
   type_map ← type_map_at types
   done (record { contexts = contexts; genfs = genfs; range_trans = range_trans; type_map = type_map })

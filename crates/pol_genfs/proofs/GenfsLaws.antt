@@ -4,7 +4,7 @@ use Rattle.std.proofs.lemmas.List.{append-nil}
 use Rattle.pol_fields.specs.declared.fields.TheConstants.{GENFS_LEN, GENFS_FSTYPE, GENFS_NPATHS, GENFS_PATHLEN, GENFS_PATH, GENFS_CLASS}
 use Rattle.pol_cursor.specs.Parts.{counted, records_at, spell_counted, CountedFits}
 use Rattle.pol_cursor.specs.Laws.{IsReadAgain, IsReadFromSpelling}
-use Rattle.pol_cursor.proofs.Laws.{Reads-done, Reads-part, Reads-number, Again-done, Again-part, Again-as, Again-number, records_spelled, records_again, counted_spelled, counted_again}
+use Rattle.pol_cursor.proofs.Laws.{Reads-done, Reads-part, Reads-number, Again-done, Again-part, Again-as, Again-number, counted_records_spelled, counted_records_again}
 use Rattle.pol_cursor.proofs.NameLaws.{name_spelled, name_again}
 use Rattle.pol_genfs.specs.GenfsRecord.{path_at, spell_path, PathFits, genfs_at, spell_genfs, GenfsFits}
 use Rattle.pol_context.proofs.ContextLaws.{context_spelled, context_again}
@@ -31,10 +31,10 @@ path_again entry fits =
     (simp (append_assoc, append-nil))
 
 paths_spelled : IsReadFromSpelling (counted GENFS_NPATHS (records_at path_at)) (spell_counted spell_path) (CountedFits PathFits)
-paths_spelled = counted_spelled GENFS_NPATHS (records_at path_at) spell_path PathFits (records_spelled path_at spell_path PathFits path_spelled)
+paths_spelled = counted_records_spelled GENFS_NPATHS path_at spell_path PathFits path_spelled
 
 paths_again : IsReadAgain (counted GENFS_NPATHS (records_at path_at)) (spell_counted spell_path) (CountedFits PathFits)
-paths_again = counted_again GENFS_NPATHS (records_at path_at) spell_path PathFits (records_again path_at spell_path PathFits path_again)
+paths_again = counted_records_again GENFS_NPATHS path_at spell_path PathFits path_again
 
 pub genfs_spelled : IsReadFromSpelling genfs_at spell_genfs GenfsFits
 unfolding genfs_at

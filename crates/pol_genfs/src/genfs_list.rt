@@ -1,10 +1,10 @@
 ghost use Rattle.pol_cursor.specs.Outcome.{Yields};
-ghost use Rattle.pol_context.specs.EntryLists.{table_at};
+ghost use Rattle.pol_cursor.specs.Parts.{counted, records_at};
+ghost use Rattle.pol_cursor.specs.References.{placed};
 ghost use Rattle.pol_genfs.specs.GenfsRecord.{genfs_at};
 
 use crate::genfs_view::Genfs;
-use pol_context::read_table;
-use pol_cursor::{Cursor, ReadError, Records};
+use pol_cursor::{Cursor, ReadError, Records, read_counted};
 use pol_fields::fields::GENFS_COUNT;
 use std::alloc::Global;
 
@@ -17,7 +17,7 @@ pub fn read_genfs<'a>(
     c: &mut Cursor<'a>,
     _version: u32,
 ) -> Result<GenfsList<'a>, ReadError>
-    ensures { Yields (λ list. list) result (table_at GENFS_COUNT genfs_at) c.old c.new }
+    ensures { Yields (λ list. list) result (counted GENFS_COUNT (records_at (placed genfs_at))) c.old c.new }
 {
-    read_table(alloc, c, GENFS_COUNT)
+    read_counted(alloc, c, GENFS_COUNT)
 }

@@ -4,7 +4,6 @@ use Rattle.std.proofs.lemmas.Bool.{cases_lt}
 use Rattle.std.proofs.lemmas.List.{take_all}
 use Rattle.pol_fields.specs.declared.Fault.{Fault}
 use Rattle.pol_fields.specs.declared.Cause.TheVariants.{Short}
-use Rattle.pol_fields.specs.declared.fields.TheConstants.{GENFS_COUNT}
 use Rattle.pol_cursor.specs.Outcome.{Outcome, fault}
 use Rattle.pol_file.specs.declared.Parts.{Parts}
 use Rattle.pol_file.specs.TypeMapRows.{type_map_at}
@@ -14,7 +13,7 @@ use Rattle.pol_laws.specs.CutFiles.{IsCutShort, IsGoodUpTo, CutField}
 use Rattle.pol_laws.proofs.AcceptedPolicies.{IsRead, accepted_is_read}
 use Rattle.pol_laws.proofs.CutParts.{IsLocal, CutPart, Reaches, local-done, local-then, local-records_after, local-counted, local-placed, local-end}
 use Rattle.pol_laws.proofs.CutRecords.{header_local, bitmap_local}
-use Rattle.pol_laws.proofs.CutTables.{symbols_local, rule_table_local, conditionals_local, role_trans_local, role_allow_local, name_transitions_local, range_trans_local, contexts_local, context_table_local, genfs_local}
+use Rattle.pol_laws.proofs.CutTables.{symbols_local, rule_table_local, conditionals_local, role_trans_local, role_allow_local, name_transitions_local, range_trans_local, contexts_local, genfs_local}
 
 -- ---- its readers look at no byte behind their values
 
@@ -44,7 +43,7 @@ label_lists_local : (version types : ℕ) → IsLocal (label_lists_at version ty
 unfolding label_lists_at
 label_lists_local version types =
     local-then (contexts_local version) λ contexts.
-    local-then (context_table_local GENFS_COUNT genfs_local) λ genfs.
+    local-then (local-counted (local-placed genfs_local) _) λ genfs.
     local-then (local-counted (local-placed range_trans_local) _) λ range_trans.
     local-then (type_map_local types) λ type_map.
     local-done _

@@ -1,7 +1,7 @@
 -- The readers of the parts of a policy look at no byte behind their values: its symbol tables, its rules and its contexts.
 use Rattle.std.proofs.Common.{ℕ, Bool, true, false, Option, Some, None, List}
 use Rattle.pol_fields.specs.declared.field.Field.{Field}
-use Rattle.pol_fields.specs.declared.fields.TheConstants.{NAMETRANS_LEN, NAMETRANS_NAME, NAMEGROUP_LEN, NAMEGROUP_NAME, SID_COUNT, FS_COUNT, FS_LEN, FS_NAME, PORT_COUNT, NETIF_COUNT, NETIF_LEN, NETIF_NAME, NODE_COUNT, NODE_ADDRESS, NODE_MASK, FSUSE_COUNT, FSUSE_LEN, FSUSE_NAME, NODE6_COUNT, NODE6_ADDRESS, NODE6_MASK, IBPKEY_COUNT, IBENDPORT_COUNT, IBENDPORT_LEN, IBENDPORT_NAME, GENFS_LEN, GENFS_FSTYPE, GENFS_PATHLEN, GENFS_PATH}
+use Rattle.pol_fields.specs.declared.fields.TheConstants.{NAMETRANS_LEN, NAMETRANS_NAME, NAMEGROUP_LEN, NAMEGROUP_NAME, FS_LEN, FS_NAME, NETIF_LEN, NETIF_NAME, NODE_ADDRESS, NODE_MASK, FSUSE_LEN, FSUSE_NAME, NODE6_ADDRESS, NODE6_MASK, IBENDPORT_LEN, IBENDPORT_NAME, GENFS_LEN, GENFS_FSTYPE, GENFS_PATHLEN, GENFS_PATH}
 use Rattle.pol_cursor.specs.Outcome.{Reader}
 use Rattle.pol_symtab.specs.SymbolTables.{Table, table_head_at, table_records_at, table_at, table_start}
 use Rattle.pol_commons.specs.declared.CommonRec.{CommonRec}
@@ -27,7 +27,6 @@ use Rattle.pol_contexts.specs.AddressRecord.{address_at}
 use Rattle.pol_contexts.specs.FsUseRecord.{behaviour_at, fsuse_at}
 use Rattle.pol_contexts.specs.IbPkeyRecord.{ibpkey_at}
 use Rattle.pol_contexts.specs.IbEndPortRecord.{ibendport_at}
-use Rattle.pol_context.specs.EntryLists.{table_at as context_table_at}
 use Rattle.pol_contexts.specs.ContextTables.{table_if, has_infiniband, contexts_at}
 use Rattle.pol_genfs.specs.GenfsRecord.{path_at, genfs_at}
 use Rattle.pol_laws.proofs.CutParts.{IsLocal, local-done, local-then, local-number, local-string, local-number_if, local-records_after, local-counted, local-placed, local-either, local-name, local-name_length, local-name_bytes}
@@ -302,10 +301,6 @@ ibendport_local =
     local-then context_local λ context.
     local-done _
 
-pub context_table_local : {A : Type 0} {entry_at : Reader A} (count : Field) → IsLocal entry_at → IsLocal (context_table_at count entry_at)
-unfolding context_table_at
-context_table_local count h = local-counted (local-placed h) _
-
 table_if_local : {A : Type 0} {table : Reader (List A)} (there : Bool) → IsLocal table → IsLocal (table_if there table)
 unfolding table_if
 table_if_local true h = h
@@ -314,15 +309,15 @@ table_if_local false h = local-done _
 pub contexts_local : (version : ℕ) → IsLocal (contexts_at version)
 unfolding contexts_at
 contexts_local version =
-    local-then (context_table_local SID_COUNT sid_local) λ sid.
-    local-then (context_table_local FS_COUNT (named_local FS_LEN FS_NAME)) λ fs.
-    local-then (context_table_local PORT_COUNT port_local) λ port.
-    local-then (context_table_local NETIF_COUNT (named_local NETIF_LEN NETIF_NAME)) λ netif.
-    local-then (context_table_local NODE_COUNT (address_local NODE_ADDRESS NODE_MASK 4)) λ node.
-    local-then (context_table_local FSUSE_COUNT fsuse_local) λ fsuse.
-    local-then (context_table_local NODE6_COUNT (address_local NODE6_ADDRESS NODE6_MASK 16)) λ node6.
-    local-then (table_if_local (has_infiniband version) (context_table_local IBPKEY_COUNT ibpkey_local)) λ ibpkey.
-    local-then (table_if_local (has_infiniband version) (context_table_local IBENDPORT_COUNT ibendport_local)) λ ibendport.
+    local-then (local-counted (local-placed sid_local) _) λ sid.
+    local-then (local-counted (local-placed (named_local FS_LEN FS_NAME)) _) λ fs.
+    local-then (local-counted (local-placed port_local) _) λ port.
+    local-then (local-counted (local-placed (named_local NETIF_LEN NETIF_NAME)) _) λ netif.
+    local-then (local-counted (local-placed (address_local NODE_ADDRESS NODE_MASK 4)) _) λ node.
+    local-then (local-counted (local-placed fsuse_local) _) λ fsuse.
+    local-then (local-counted (local-placed (address_local NODE6_ADDRESS NODE6_MASK 16)) _) λ node6.
+    local-then (table_if_local (has_infiniband version) (local-counted (local-placed ibpkey_local) _)) λ ibpkey.
+    local-then (table_if_local (has_infiniband version) (local-counted (local-placed ibendport_local) _)) λ ibendport.
     local-done _
 
 -- ---- file systems without labels

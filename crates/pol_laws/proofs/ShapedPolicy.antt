@@ -19,7 +19,7 @@ use Rattle.pol_laws.specs.PolicyShape.{shape_of_rule_lists, shape_of_label_lists
 use Rattle.pol_laws.proofs.AcceptedPolicies.{accepted_is_read}
 use Rattle.pol_laws.proofs.ShapedParts.{IsShaped, none-first, none-last, shaped-placed_list}
 use Rattle.pol_laws.proofs.ShapedRecords.{range_trans_shaped, genfs_shaped}
-use Rattle.pol_laws.proofs.ShapedTables.{symbols_shaped, rule_table_shaped, conditionals_shaped, name_transitions_shaped, contexts_shaped, context_table_shaped}
+use Rattle.pol_laws.proofs.ShapedTables.{symbols_shaped, rule_table_shaped, conditionals_shaped, name_transitions_shaped, contexts_shaped}
 
 -- ---- the parts of a policy
 
@@ -41,7 +41,7 @@ label_lists_shaped : (version types : ℕ) → IsShaped (label_lists_at version 
 unfolding label_lists_at shape_of_label_lists
 label_lists_shaped version types =
     Gives-part (contexts_shaped version) λ contexts contexts-shaped.
-    Gives-part (context_table_shaped GENFS_COUNT genfs_shaped) λ genfs genfs-shaped.
+    Gives-part (shaped-placed_list GENFS_COUNT genfs_shaped) λ genfs genfs-shaped.
     Gives-part (shaped-placed_list RANGETRANS_COUNT range_trans_shaped) λ range_trans range_trans-shaped.
     Gives-part (type_map_long types) λ type_map long.
     Gives-done _ _ (none-first _ _ contexts-shaped (none-first _ _ genfs-shaped (none-first _ _ range_trans-shaped (none-first _ _ (right_long (length type_map) types BITMAP_UNIT long) none-last))))

@@ -18,7 +18,6 @@ use Rattle.pol_conditionals.specs.CondNodeList.{conditionals_at}
 use Rattle.pol_trans.specs.NameTransRecord.{name_trans_at}
 use Rattle.pol_trans.specs.NameGroupRecord.{name_group_at}
 use Rattle.pol_trans.specs.NameTransitions.{has_groups, entries_at, groups_at, name_transitions_at}
-use Rattle.pol_context.specs.EntryLists.{table_at as context_table_at}
 use Rattle.pol_contexts.specs.ContextTables.{table_if, has_infiniband, contexts_at}
 use Rattle.pol_file.proofs.ReadValues.{gives-others}
 use Rattle.pol_laws.specs.OptionalParts.{shape_of_list, first_placed}
@@ -100,10 +99,6 @@ name_transitions_shaped version = gives-either (λ grouped trans. shape_of_name_
 
 -- ---- contexts
 
-pub context_table_shaped : {A : Type 0} (count : Field) {entry_at : Reader A} {shape : A → Option Field} → IsShaped entry_at shape → IsShaped (context_table_at count entry_at) (first_placed shape)
-unfolding context_table_at
-context_table_shaped count each = shaped-placed_list _ each
-
 -- a table that is there or is empty
 record ShapedIf {A : Type 0} (there : Bool) (count : Field) (shape : A → Option Field) (table : List (Placed A)) : Type 0 where
   list : shape_of_list there table count ≡ None
@@ -121,15 +116,15 @@ table_if_shaped false count each = Gives-done _ [] (record { list = refl; entrie
 pub contexts_shaped : (version : ℕ) → IsShaped (contexts_at version) (shape_of_contexts version)
 unfolding contexts_at shape_of_contexts
 contexts_shaped version =
-    Gives-part (context_table_shaped SID_COUNT sid_shaped) λ sid sid-shaped.
-    Gives-part (context_table_shaped FS_COUNT (named_shaped FS_LEN FS_NAME)) λ fs fs-shaped.
-    Gives-part (context_table_shaped PORT_COUNT port_shaped) λ port port-shaped.
-    Gives-part (context_table_shaped NETIF_COUNT (named_shaped NETIF_LEN NETIF_NAME)) λ netif netif-shaped.
-    Gives-part (context_table_shaped NODE_COUNT (address_shaped NODE_ADDRESS NODE_MASK 4)) λ node node-shaped.
-    Gives-part (context_table_shaped FSUSE_COUNT fsuse_shaped) λ fsuse fsuse-shaped.
-    Gives-part (context_table_shaped NODE6_COUNT (address_shaped NODE6_ADDRESS NODE6_MASK 16)) λ node6 node6-shaped.
-    Gives-part (table_if_shaped (has_infiniband version) IBPKEY_COUNT (context_table_shaped IBPKEY_COUNT ibpkey_shaped)) λ ibpkey ibpkey-shaped.
-    Gives-part (table_if_shaped (has_infiniband version) IBENDPORT_COUNT (context_table_shaped IBENDPORT_COUNT ibendport_shaped)) λ ibendport ibendport-shaped.
+    Gives-part (shaped-placed_list SID_COUNT sid_shaped) λ sid sid-shaped.
+    Gives-part (shaped-placed_list FS_COUNT (named_shaped FS_LEN FS_NAME)) λ fs fs-shaped.
+    Gives-part (shaped-placed_list PORT_COUNT port_shaped) λ port port-shaped.
+    Gives-part (shaped-placed_list NETIF_COUNT (named_shaped NETIF_LEN NETIF_NAME)) λ netif netif-shaped.
+    Gives-part (shaped-placed_list NODE_COUNT (address_shaped NODE_ADDRESS NODE_MASK 4)) λ node node-shaped.
+    Gives-part (shaped-placed_list FSUSE_COUNT fsuse_shaped) λ fsuse fsuse-shaped.
+    Gives-part (shaped-placed_list NODE6_COUNT (address_shaped NODE6_ADDRESS NODE6_MASK 16)) λ node6 node6-shaped.
+    Gives-part (table_if_shaped (has_infiniband version) IBPKEY_COUNT (shaped-placed_list IBPKEY_COUNT ibpkey_shaped)) λ ibpkey ibpkey-shaped.
+    Gives-part (table_if_shaped (has_infiniband version) IBENDPORT_COUNT (shaped-placed_list IBENDPORT_COUNT ibendport_shaped)) λ ibendport ibendport-shaped.
     Gives-done _ _
     (none-first _ _ sid-shaped
     (none-first _ _ fs-shaped

@@ -49,7 +49,6 @@ use Rattle.pol_contexts.specs.FsUseRecord.{fsuse_at, spell_fsuse, FsUseFits}
 use Rattle.pol_contexts.specs.IbPkeyRecord.{ibpkey_at, spell_ibpkey, IbPkeyFits}
 use Rattle.pol_contexts.specs.IbEndPortRecord.{ibendport_at, spell_ibendport, IbEndPortFits}
 use Rattle.pol_genfs.specs.GenfsRecord.{genfs_at, spell_genfs, GenfsFits}
-use Rattle.pol_context.specs.EntryLists.{table_at}
 use Rattle.pol_contexts.specs.ContextTables.{has_infiniband, contexts_at}
 use Rattle.pol_contexts.proofs.ContextLaws.{sid_spelled, named_spelled, port_spelled, address_spelled, fsuse_spelled, ibpkey_spelled, ibendport_spelled}
 use Rattle.pol_genfs.proofs.GenfsLaws.{genfs_spelled}
@@ -172,7 +171,7 @@ rule_lists_spelled version =
 -- ---- what stands behind those
 
 contexts_spelled : (version : ℕ) → IsSpelledBy (contexts_at version) (spell_contexts version)
-unfolding contexts_at table_at spell_contexts
+unfolding contexts_at spell_contexts
 contexts_spelled version =
     Reads-part (list_spelled SID_COUNT sid_at spell_sid SidFits sid_spelled) λ sid sid-fits.
     Reads-part (list_spelled FS_COUNT (named_at FS_LEN FS_NAME) spell_named NamedFits (named_spelled FS_LEN FS_NAME)) λ fs fs-fits.
@@ -186,7 +185,7 @@ contexts_spelled version =
     Reads-done _ (record { sid = sid; fs = fs; port = port; netif = netif; node = node; fsuse = fsuse; node6 = node6; ibpkey = ibpkey; ibendport = ibendport }) (record { same = simp (append_assoc, append-nil); fitting = tt })
 
 pub label_lists_spelled : (version types : ℕ) → IsSpelledBy (label_lists_at version types) (spell_label_lists version)
-unfolding label_lists_at type_map_at table_at spell_label_lists
+unfolding label_lists_at type_map_at spell_label_lists
 label_lists_spelled version types =
     Reads-part (contexts_spelled version) λ contexts contexts-fit.
     Reads-part (list_spelled GENFS_COUNT genfs_at spell_genfs GenfsFits genfs_spelled) λ genfs genfs-fits.

@@ -25,7 +25,7 @@ use Rattle.pol_make.specs.Made.{made}
 use Rattle.pol_make.proofs.Granted.{Grants, grants-done, grants-part, grants-as}
 use Rattle.pol_make.proofs.GrantedTables.{grants-no_entries}
 use Rattle.pol_make.proofs.GrantedRules.{rule_table-granted}
-use Rattle.pol_make.proofs.GrantedSids.{sids-granted, grants-empty}
+use Rattle.pol_make.proofs.GrantedSids.{sids-granted}
 use Rattle.pol_make.proofs.GrantedRows.{type_map-granted}
 
 -- the rules
@@ -47,14 +47,14 @@ unfolding contexts_at spell_contexts table_if made
 contexts-granted n =
     grants-as
     (grants-part _ sids-granted λ sid is_sid.
-    grants-part _ (grants-empty FS_COUNT (named_at FS_LEN FS_NAME) spell_named) λ fs is_fs.
-    grants-part _ (grants-empty PORT_COUNT port_at spell_port) λ port is_port.
-    grants-part _ (grants-empty NETIF_COUNT (named_at NETIF_LEN NETIF_NAME) spell_named) λ netif is_netif.
-    grants-part _ (grants-empty NODE_COUNT (address_at NODE_ADDRESS NODE_MASK 4) (spell_address {width = 4})) λ node is_node.
-    grants-part _ (grants-empty FSUSE_COUNT fsuse_at spell_fsuse) λ fsuse is_fsuse.
-    grants-part _ (grants-empty NODE6_COUNT (address_at NODE6_ADDRESS NODE6_MASK 16) (spell_address {width = 16})) λ node6 is_node6.
-    grants-part _ (grants-empty IBPKEY_COUNT ibpkey_at spell_ibpkey) λ ibpkey is_ibpkey.
-    grants-part _ (grants-empty IBENDPORT_COUNT ibendport_at spell_ibendport) λ ibendport is_ibendport.
+    grants-part _ (grants-no_entries FS_COUNT (named_at FS_LEN FS_NAME) spell_named) λ fs is_fs.
+    grants-part _ (grants-no_entries PORT_COUNT port_at spell_port) λ port is_port.
+    grants-part _ (grants-no_entries NETIF_COUNT (named_at NETIF_LEN NETIF_NAME) spell_named) λ netif is_netif.
+    grants-part _ (grants-no_entries NODE_COUNT (address_at NODE_ADDRESS NODE_MASK 4) (spell_address {width = 4})) λ node is_node.
+    grants-part _ (grants-no_entries FSUSE_COUNT fsuse_at spell_fsuse) λ fsuse is_fsuse.
+    grants-part _ (grants-no_entries NODE6_COUNT (address_at NODE6_ADDRESS NODE6_MASK 16) (spell_address {width = 16})) λ node6 is_node6.
+    grants-part _ (grants-no_entries IBPKEY_COUNT ibpkey_at spell_ibpkey) λ ibpkey is_ibpkey.
+    grants-part _ (grants-no_entries IBENDPORT_COUNT ibendport_at spell_ibendport) λ ibendport is_ibendport.
     grants-done _ (record { sid = is_sid; fs = is_fs; port = is_port; netif = is_netif; node = is_node; fsuse = is_fsuse; node6 = is_node6; ibpkey = is_ibpkey; ibendport = is_ibendport }))
     (simp (append_assoc, append-nil))
 
@@ -64,7 +64,7 @@ unfolding label_lists_at spell_labels made
 label_lists-granted n many most =
     grants-as
     (grants-part _ (contexts-granted n) λ contexts has_contexts.
-    grants-part _ (grants-empty GENFS_COUNT genfs_at spell_genfs) λ genfs is_genfs.
+    grants-part _ (grants-no_entries GENFS_COUNT genfs_at spell_genfs) λ genfs is_genfs.
     grants-part _ (grants-no_entries RANGETRANS_COUNT range_trans_at spell_range_trans) λ range_trans is_rangetrans.
     grants-part _ (type_map-granted n many most) λ type_map is_typemap.
     grants-done _ (record { contexts = has_contexts; genfs = is_genfs; rangetrans = is_rangetrans; typemap = is_typemap }))

@@ -1,20 +1,18 @@
--- The initial SID of a policy that is made is read, and so are its other tables, which are empty.
-use Rattle.std.proofs.Common.{◌≡◌, ℕ, ◌^◌, ◌<◌, List, [], ◌∷◌, refl, append_assoc, arith}
+-- The initial SID of a policy that is made is read.
+use Rattle.std.proofs.Common.{◌≡◌, ℕ, ◌^◌, ◌<◌, [], ◌∷◌, refl, append_assoc, arith}
 use Rattle.std.proofs.lemmas.List.{append-nil}
-use Rattle.pol_fields.specs.declared.field.Field.{Field}
 use Rattle.pol_fields.specs.declared.fields.TheConstants.{RANGE_N, RANGE_LOW, CONTEXT_USER, CONTEXT_ROLE, CONTEXT_TYPE, SID_COUNT, SID_SID}
-use Rattle.pol_cursor.specs.Outcome.{Reader}
-use Rattle.pol_cursor.specs.Parts.{spell_counted}
+use Rattle.pol_cursor.specs.Parts.{counted, records_at, spell_counted}
+use Rattle.pol_cursor.specs.References.{placed}
 use Rattle.pol_mls.specs.RangeRecord.{range_at, spell_range}
 use Rattle.pol_context.specs.declared.ContextRec.{ContextRec}
 use Rattle.pol_context.specs.ContextRecord.{context_at, spell_context}
-use Rattle.pol_context.specs.EntryLists.{table_at}
 use Rattle.pol_contexts.specs.declared.SidRec.{SidRec}
 use Rattle.pol_contexts.specs.SidRecord.{sid_at, spell_sid}
 use Rattle.pol_make.specs.MadeSymbols.{bare_range}
 use Rattle.pol_make.specs.MadeRules.{made_sids}
 use Rattle.pol_make.proofs.Granted.{GrantsOf, grants-done, grants-then, grants-as, grants-number, grants-number_if, grants-none}
-use Rattle.pol_make.proofs.GrantedTables.{GrantsValues, grants-entries, grants-no_entries}
+use Rattle.pol_make.proofs.GrantedTables.{GrantsValues, grants-entries}
 use Rattle.pol_make.proofs.GrantedFew.{nothing-granted}
 
 -- the range of one level without categories
@@ -55,11 +53,6 @@ sid-granted entry is =
     (grants-done kernel_sid refl)))
     (simp (append_assoc, append-nil)))
 
-pub sids-granted : GrantsValues (table_at SID_COUNT sid_at) made_sids (spell_counted spell_sid made_sids)
-unfolding table_at made_sids
+pub sids-granted : GrantsValues (counted SID_COUNT (records_at (placed sid_at))) made_sids (spell_counted spell_sid made_sids)
+unfolding made_sids
 sids-granted = grants-entries SID_COUNT sid_at spell_sid (λ entry. entry ≡ kernel_sid) sid-granted (kernel_sid ∷ []) (omega arith) (refl, tt)
-
--- an empty table
-pub grants-empty : {A : Type 0} (count : Field) (entry_at : Reader A) (spell : A → List ℕ) → GrantsValues (table_at count entry_at) [] (spell_counted spell [])
-unfolding table_at
-grants-empty count entry_at spell = grants-no_entries count entry_at spell

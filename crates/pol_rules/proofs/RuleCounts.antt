@@ -8,7 +8,7 @@ use Rattle.pol_fields.specs.declared.field.Field.{Field}
 use Rattle.pol_fields.specs.declared.fields.TheConstants.{CONDNODE_NTRUE, CONDNODE_NFALSE, NAMETRANS_LEN, NAMETRANS_NAME, NAMEGROUP_LEN, NAMEGROUP_NAME, GENFS_COUNT, RANGETRANS_COUNT, END_END}
 use Rattle.pol_cursor.specs.Outcome.{Got, Reader, ◌>>=◌, done}
 use Rattle.pol_cursor.specs.Parts.{end_at, counted, records_at}
-use Rattle.pol_cursor.specs.References.{Placed}
+use Rattle.pol_cursor.specs.References.{Placed, placed}
 use Rattle.pol_cursor.proofs.Laws.{and_then_got}
 use Rattle.pol_bitmap.specs.Nodes.{bits_of}
 use Rattle.pol_mls.specs.RangeRecord.{range_at}
@@ -31,7 +31,6 @@ use Rattle.pol_trans.specs.RangeTransRecord.{range_trans_at}
 use Rattle.pol_trans.specs.NameTransRecord.{name_trans_at}
 use Rattle.pol_trans.specs.NameGroupRecord.{name_datum_at, name_group_at}
 use Rattle.pol_trans.specs.NameTransitions.{has_groups, entries_at, groups_at, name_transitions_at}
-use Rattle.pol_context.specs.EntryLists.{table_at as context_table_at}
 use Rattle.pol_contexts.specs.ContextTables.{contexts_at}
 use Rattle.pol_genfs.specs.GenfsRecord.{genfs_at}
 use Rattle.pol_file.specs.declared.Parts.{Parts}
@@ -319,7 +318,7 @@ labels-keep : (size version types : ℕ) → Keeps size (label_lists_at version 
 unfolding label_lists_at
 labels-keep size version types =
     keeps-then (keeps-any (contexts_at version)) λ contexts known.
-    keeps-then (keeps-any (context_table_at GENFS_COUNT genfs_at)) λ genfs known.
+    keeps-then (keeps-any (counted GENFS_COUNT (records_at (placed genfs_at)))) λ genfs known.
     keeps-then (keeps-room (room-counted RANGETRANS_COUNT (λ trans. 192) (room-placed room-range_trans))) λ range_trans few.
     keeps-then (keeps-any (type_map_at types)) λ type_map known.
     keeps-done _ _ (rw (← total_same 192 range_trans) few)

@@ -1,12 +1,9 @@
--- The two laws of transitions and role allows, and of their lists.
-use Rattle.std.proofs.Common.{List, ℕ, None, append_assoc}
+-- The two laws of transitions and role allows.
+use Rattle.std.proofs.Common.{None, append_assoc}
 use Rattle.std.proofs.lemmas.List.{append-nil}
-use Rattle.pol_fields.specs.declared.field.Field.{Field}
 use Rattle.pol_fields.specs.declared.fields.TheConstants.{ROLETRANS_ROLE, ROLETRANS_TYPE, ROLETRANS_NEWROLE, ROLETRANS_CLASS, ROLEALLOW_ROLE, ROLEALLOW_NEWROLE, NAMETRANS_LEN, NAMETRANS_NAME, NAMETRANS_SOURCE, NAMETRANS_TARGET, NAMETRANS_CLASS, NAMETRANS_DEFAULT, NAMEGROUP_LEN, NAMEGROUP_NAME, NAMEGROUP_TARGET, NAMEGROUP_CLASS, NAMEGROUP_NDATUM, NAMEGROUP_DEFAULT, RANGETRANS_SOURCE, RANGETRANS_TARGET, RANGETRANS_CLASS}
-use Rattle.pol_cursor.specs.Outcome.{Reader}
-use Rattle.pol_cursor.specs.Parts.{counted, records_at, spell_counted, CountedFits}
 use Rattle.pol_cursor.specs.Laws.{IsReadAgain, IsReadFromSpelling}
-use Rattle.pol_cursor.proofs.Laws.{Reads-done, Reads-part, Reads-number, Again-done, Again-part, Again-as, Again-number, records_spelled, records_again, counted_spelled, counted_again}
+use Rattle.pol_cursor.proofs.Laws.{Reads-done, Reads-part, Reads-number, Again-done, Again-part, Again-as, Again-number, counted_records_spelled, counted_records_again}
 use Rattle.pol_bitmap.proofs.Laws.{bitmap_spelled, bitmap_again}
 use Rattle.pol_mls.proofs.MlsLaws.{range_spelled, range_again}
 use Rattle.pol_trans.specs.RoleAllowRecord.{role_allow_at, spell_role_allow, RoleAllowFits}
@@ -15,14 +12,6 @@ use Rattle.pol_cursor.proofs.NameLaws.{name_spelled, name_again}
 use Rattle.pol_trans.specs.NameTransRecord.{name_trans_at, spell_name_trans, NameTransFits}
 use Rattle.pol_trans.specs.NameGroupRecord.{name_datum_at, spell_name_datum, NameDatumFits, name_group_at, spell_name_group, NameGroupFits}
 use Rattle.pol_trans.specs.RangeTransRecord.{range_trans_at, spell_range_trans, RangeTransFits}
-
--- ---- lists behind their count, by the laws of their entries
-
-pub list_spelled : {A : Type 0} (count : Field) (r : Reader A) (sp : A → List ℕ) (fits : A → Type 0) → IsReadFromSpelling r sp fits → IsReadFromSpelling (counted count (records_at r)) (spell_counted sp) (CountedFits fits)
-list_spelled count r sp fits each = counted_spelled count (records_at r) sp fits (records_spelled r sp fits each)
-
-pub list_again : {A : Type 0} (count : Field) (r : Reader A) (sp : A → List ℕ) (fits : A → Type 0) → IsReadAgain r sp fits → IsReadAgain (counted count (records_at r)) (spell_counted sp) (CountedFits fits)
-list_again count r sp fits each = counted_again count (records_at r) sp fits (records_again r sp fits each)
 
 -- ---- role allows
 
@@ -149,7 +138,7 @@ name_group_spelled =
     Reads-part (name_spelled NAMEGROUP_LEN NAMEGROUP_NAME) λ name name-fits.
     Reads-part (Reads-number NAMEGROUP_TARGET 4) λ target target-fits.
     Reads-part (Reads-number NAMEGROUP_CLASS 4) λ class class-fits.
-    Reads-part (list_spelled NAMEGROUP_NDATUM name_datum_at spell_name_datum NameDatumFits name_datum_spelled) λ datums datums-fits.
+    Reads-part (counted_records_spelled NAMEGROUP_NDATUM name_datum_at spell_name_datum NameDatumFits name_datum_spelled) λ datums datums-fits.
     Reads-done _ (record { name = name; target = target; class = class; datums = datums }) (record {
       same = simp (append_assoc, append-nil);
       fitting = record { len = name-fits; target = target-fits; class = class-fits; datums = datums-fits };
@@ -162,6 +151,6 @@ name_group_again group fits =
     (Again-part _ (name_again NAMEGROUP_LEN NAMEGROUP_NAME group.name fits.len)
     (Again-part _ (Again-number NAMEGROUP_TARGET 4 group.target fits.target)
     (Again-part _ (Again-number NAMEGROUP_CLASS 4 group.class fits.class)
-    (Again-part _ (list_again NAMEGROUP_NDATUM name_datum_at spell_name_datum NameDatumFits name_datum_again group.datums fits.datums)
+    (Again-part _ (counted_records_again NAMEGROUP_NDATUM name_datum_at spell_name_datum NameDatumFits name_datum_again group.datums fits.datums)
     (Again-done group)))))
     (simp (append_assoc, append-nil))

@@ -12,8 +12,7 @@ use crate::range_trans_rec::RangeTransRec;
 use crate::role_allow_rec::RoleAllowRec;
 use crate::role_trans_rec::RoleTransRec;
 use crate::transition::TransitionKind;
-use pol_cursor::{Cursor, ReadAlone, ReadError, Records, read_counted};
-use pol_fields::Field;
+use pol_cursor::{Cursor, ReadError, Records, read_counted};
 use pol_fields::fields::{RANGETRANS_COUNT, ROLEALLOW_COUNT, ROLETRANS_COUNT};
 use std::alloc::Global;
 
@@ -32,17 +31,6 @@ pub type NameTransList<'a> = Records<'a, TransitionKind<NameTransRec>>;
 /// The file-name transitions of a policy, in groups. Contracts see the list of them, each with its place.
 pub type NameGroupList<'a> = Records<'a, TransitionKind<NameGroupRec>>;
 
-/// Reads a list: a count, at that field, and so many records.
-pub fn read_list<'a, K: ReadAlone + Drop>(
-    alloc: Global,
-    c: &mut Cursor<'a>,
-    count: Field,
-) -> Result<Records<'a, K>, ReadError>
-    ensures { Yields (λ list. list) result (counted count (records_at (placed K.reads))) c.old c.new }
-{
-    read_counted(alloc, c, count)
-}
-
 /// Reads the count and the role transitions, which are the same in each version.
 pub fn read_role_trans<'a>(
     alloc: Global,
@@ -51,7 +39,7 @@ pub fn read_role_trans<'a>(
 ) -> Result<RoleTransList<'a>, ReadError>
     ensures { Yields (λ list. list) result (counted ROLETRANS_COUNT (records_at (placed role_trans_at))) c.old c.new }
 {
-    read_list(alloc, c, ROLETRANS_COUNT)
+    read_counted(alloc, c, ROLETRANS_COUNT)
 }
 
 /// Reads the count and the role allows, which are the same in each version.
@@ -62,7 +50,7 @@ pub fn read_role_allows<'a>(
 ) -> Result<RoleAllowList<'a>, ReadError>
     ensures { Yields (λ list. list) result (counted ROLEALLOW_COUNT (records_at (placed role_allow_at))) c.old c.new }
 {
-    read_list(alloc, c, ROLEALLOW_COUNT)
+    read_counted(alloc, c, ROLEALLOW_COUNT)
 }
 
 /// Reads the count and the range transitions, which are the same in each version.
@@ -73,5 +61,5 @@ pub fn read_range_trans<'a>(
 ) -> Result<RangeTransList<'a>, ReadError>
     ensures { Yields (λ list. list) result (counted RANGETRANS_COUNT (records_at (placed range_trans_at))) c.old c.new }
 {
-    read_list(alloc, c, RANGETRANS_COUNT)
+    read_counted(alloc, c, RANGETRANS_COUNT)
 }

@@ -2,8 +2,8 @@ ghost use Rattle.std.specs.Prelude.{◌≡◌};
 ghost use Rattle.pol_cursor.specs.Outcome.{Yields};
 ghost use Rattle.pol_trans.specs.NameTransitions.{has_groups, name_transitions_at};
 
-use crate::lists::{NameGroupList, NameTransList, read_list};
-use pol_cursor::{Cursor, ReadError};
+use crate::lists::{NameGroupList, NameTransList};
+use pol_cursor::{Cursor, ReadError, read_counted};
 use pol_fields::fields::{NAMEGROUP_COUNT, NAMETRANS_COUNT};
 use std::alloc::Global;
 
@@ -32,8 +32,8 @@ pub fn read_name_trans<'a>(
     ensures { Yields (λ trans. trans) result (name_transitions_at version) c.old c.new }
 {
     if has_groups(version) {
-        Ok(NameTrans::Groups(read_list(alloc, c, NAMEGROUP_COUNT)?))
+        Ok(NameTrans::Groups(read_counted(alloc, c, NAMEGROUP_COUNT)?))
     } else {
-        Ok(NameTrans::Entries(read_list(alloc, c, NAMETRANS_COUNT)?))
+        Ok(NameTrans::Entries(read_counted(alloc, c, NAMETRANS_COUNT)?))
     }
 }

@@ -6,7 +6,6 @@ use Rattle.pol_fields.specs.declared.fields.TheConstants.{ROLETRANS_COUNT, ROLEA
 use Rattle.pol_cursor.specs.Outcome.{Reader}
 use Rattle.pol_cursor.specs.Parts.{counted, records_at, spell_counted, CountedFits}
 use Rattle.pol_cursor.specs.References.{placed, values_of}
-use Rattle.pol_cursor.specs.Laws.{IsReadAgain, IsReadFromSpelling}
 use Rattle.pol_bitmap.specs.Bitmap.{bitmap_at, spell_bitmap, BitmapFits}
 use Rattle.pol_bitmap.proofs.Laws.{bitmap_spelled, bitmap_again}
 use Rattle.pol_symtab.specs.SymbolTables.{Table, bare, table_start, spell_table, TableFits}
@@ -38,7 +37,6 @@ use Rattle.pol_trans.specs.NameTransRecord.{name_trans_at, spell_name_trans, Nam
 use Rattle.pol_trans.specs.NameGroupRecord.{name_group_at, spell_name_group, NameGroupFits}
 use Rattle.pol_trans.specs.RangeTransRecord.{range_trans_at, spell_range_trans, RangeTransFits}
 use Rattle.pol_trans.proofs.TransLaws.{role_trans_spelled, role_trans_again, role_allow_spelled, role_allow_again, name_trans_spelled, name_trans_again, name_group_spelled, name_group_again, range_trans_spelled, range_trans_again}
-use Rattle.pol_context.specs.EntryLists.{table_at as entry_table_at}
 use Rattle.pol_contexts.specs.SidRecord.{sid_at, spell_sid, SidFits}
 use Rattle.pol_contexts.specs.NamedRecord.{named_at, spell_named, NamedFits}
 use Rattle.pol_contexts.specs.PortRecord.{port_at, spell_port, PortFits}
@@ -126,44 +124,36 @@ rangetrans-laws = list-laws RANGETRANS_COUNT range_trans_at spell_range_trans Ra
 
 -- ---- the tables of contexts
 
--- a table
-abbrev HasEntryLaws : {A : Type 0} → Field → Reader A → (A → List ℕ) → (A → Type 0) → Type 0
-HasEntryLaws count entry_at spell fits = HasLaws (entry_table_at count entry_at) (λ entries. values_of entries) (spell_counted spell) (CountedFits fits)
+pub sid-laws : HasListLaws SID_COUNT sid_at spell_sid SidFits
+sid-laws = list-laws SID_COUNT sid_at spell_sid SidFits sid_spelled sid_again
 
-entries-laws : {A : Type 0} (count : Field) (entry_at : Reader A) (spell : A → List ℕ) (fits : A → Type 0) → IsReadFromSpelling entry_at spell fits → IsReadAgain entry_at spell fits → HasEntryLaws count entry_at spell fits
-unfolding entry_table_at
-entries-laws count entry_at spell fits spelled again = list-laws count entry_at spell fits spelled again
+pub named-laws : (count len_field name_field : Field) → HasListLaws count (named_at len_field name_field) spell_named NamedFits
+named-laws count len_field name_field = list-laws count (named_at len_field name_field) spell_named NamedFits (named_spelled len_field name_field) (named_again len_field name_field)
 
-pub sid-laws : HasEntryLaws SID_COUNT sid_at spell_sid SidFits
-sid-laws = entries-laws SID_COUNT sid_at spell_sid SidFits sid_spelled sid_again
+pub port-laws : HasListLaws PORT_COUNT port_at spell_port PortFits
+port-laws = list-laws PORT_COUNT port_at spell_port PortFits port_spelled port_again
 
-pub named-laws : (count len_field name_field : Field) → HasEntryLaws count (named_at len_field name_field) spell_named NamedFits
-named-laws count len_field name_field = entries-laws count (named_at len_field name_field) spell_named NamedFits (named_spelled len_field name_field) (named_again len_field name_field)
-
-pub port-laws : HasEntryLaws PORT_COUNT port_at spell_port PortFits
-port-laws = entries-laws PORT_COUNT port_at spell_port PortFits port_spelled port_again
-
-pub address-laws : (count address_field mask_field : Field) (width : ℕ) → HasEntryLaws count (address_at address_field mask_field width) (spell_address {width = width}) (AddressFits width)
+pub address-laws : (count address_field mask_field : Field) (width : ℕ) → HasListLaws count (address_at address_field mask_field width) (spell_address {width = width}) (AddressFits width)
 address-laws count address_field mask_field width =
-    entries-laws count (address_at address_field mask_field width) (spell_address {width = width}) (AddressFits width) (address_spelled address_field mask_field width) (address_again address_field mask_field width)
+    list-laws count (address_at address_field mask_field width) (spell_address {width = width}) (AddressFits width) (address_spelled address_field mask_field width) (address_again address_field mask_field width)
 
-pub fsuse-laws : HasEntryLaws FSUSE_COUNT fsuse_at spell_fsuse FsUseFits
-fsuse-laws = entries-laws FSUSE_COUNT fsuse_at spell_fsuse FsUseFits fsuse_spelled fsuse_again
+pub fsuse-laws : HasListLaws FSUSE_COUNT fsuse_at spell_fsuse FsUseFits
+fsuse-laws = list-laws FSUSE_COUNT fsuse_at spell_fsuse FsUseFits fsuse_spelled fsuse_again
 
 -- one that is in the file or is empty
 abbrev HasLawsIf : {A : Type 0} → Bool → Field → Reader A → (A → List ℕ) → (A → Type 0) → Type 0
-HasLawsIf there count entry_at spell fits = HasLaws (table_if there (entry_table_at count entry_at)) (λ entries. values_of entries) (λ xs. spell_if there (spell_counted spell xs)) (FitsIf there (CountedFits fits))
+HasLawsIf there count entry_at spell fits = HasLaws (table_if there (counted count (records_at (placed entry_at)))) (λ entries. values_of entries) (λ xs. spell_if there (spell_counted spell xs)) (FitsIf there (CountedFits fits))
 
 pub ibpkey-laws : (there : Bool) → HasLawsIf there IBPKEY_COUNT ibpkey_at spell_ibpkey IbPkeyFits
-ibpkey-laws there = list_if-laws there (entry_table_at IBPKEY_COUNT ibpkey_at) (spell_counted spell_ibpkey) (CountedFits IbPkeyFits) (entries-laws IBPKEY_COUNT ibpkey_at spell_ibpkey IbPkeyFits ibpkey_spelled ibpkey_again)
+ibpkey-laws there = list_if-laws there (counted IBPKEY_COUNT (records_at (placed ibpkey_at))) (spell_counted spell_ibpkey) (CountedFits IbPkeyFits) (list-laws IBPKEY_COUNT ibpkey_at spell_ibpkey IbPkeyFits ibpkey_spelled ibpkey_again)
 
 pub ibendport-laws : (there : Bool) → HasLawsIf there IBENDPORT_COUNT ibendport_at spell_ibendport IbEndPortFits
-ibendport-laws there = list_if-laws there (entry_table_at IBENDPORT_COUNT ibendport_at) (spell_counted spell_ibendport) (CountedFits IbEndPortFits) (entries-laws IBENDPORT_COUNT ibendport_at spell_ibendport IbEndPortFits ibendport_spelled ibendport_again)
+ibendport-laws there = list_if-laws there (counted IBENDPORT_COUNT (records_at (placed ibendport_at))) (spell_counted spell_ibendport) (CountedFits IbEndPortFits) (list-laws IBENDPORT_COUNT ibendport_at spell_ibendport IbEndPortFits ibendport_spelled ibendport_again)
 
 -- ---- what stands behind those
 
-pub genfs-laws : HasEntryLaws GENFS_COUNT genfs_at spell_genfs GenfsFits
-genfs-laws = entries-laws GENFS_COUNT genfs_at spell_genfs GenfsFits genfs_spelled genfs_again
+pub genfs-laws : HasListLaws GENFS_COUNT genfs_at spell_genfs GenfsFits
+genfs-laws = list-laws GENFS_COUNT genfs_at spell_genfs GenfsFits genfs_spelled genfs_again
 
 pub typemap-laws : (types : ℕ) → HasLaws (type_map_at types) (λ rows. values_of rows) (flat_map spell_bitmap) (AreSoManyFitting types BitmapFits)
 unfolding type_map_at

@@ -1,5 +1,5 @@
 use Rattle.pol_fields.specs.declared.fields.TheConstants.{NODE_COUNT, NODE_ADDRESS, NODE_MASK}
-use Rattle.pol_context.proofs.ContextLaws.{entries_spelled, entries_again}
+use Rattle.pol_cursor.proofs.Laws.{counted_records_spelled, counted_records_again}
 use Rattle.pol_contexts.specs.AddressRecord.{address_at, spell_address, AddressFits}
 use Rattle.pol_contexts.proofs.ContextLaws.{address_spelled, address_again}
 use Rattle.pol_contexts.proofs.record_laws.nodes_have_laws.Goals as goal
@@ -11,7 +11,7 @@ pub returns-clause-spelled : goal.returns-clause-spelled
 returns-clause-spelled c = address_spelled NODE_ADDRESS NODE_MASK 4
 
 pub returns-clause-list_again : goal.returns-clause-list_again
-returns-clause-list_again c = entries_again NODE_COUNT (address_at NODE_ADDRESS NODE_MASK 4) spell_address (AddressFits 4) (address_again NODE_ADDRESS NODE_MASK 4)
+returns-clause-list_again c = counted_records_again NODE_COUNT (address_at NODE_ADDRESS NODE_MASK 4) spell_address (AddressFits 4) (address_again NODE_ADDRESS NODE_MASK 4)
 
 pub returns-clause-list_spelled : goal.returns-clause-list_spelled
-returns-clause-list_spelled c = entries_spelled NODE_COUNT (address_at NODE_ADDRESS NODE_MASK 4) spell_address (AddressFits 4) (address_spelled NODE_ADDRESS NODE_MASK 4)
+returns-clause-list_spelled c = counted_records_spelled NODE_COUNT (address_at NODE_ADDRESS NODE_MASK 4) spell_address (AddressFits 4) (address_spelled NODE_ADDRESS NODE_MASK 4)

@@ -1,5 +1,5 @@
 use Rattle.pol_fields.specs.declared.fields.TheConstants.{PORT_COUNT}
-use Rattle.pol_context.proofs.ContextLaws.{entries_spelled, entries_again}
+use Rattle.pol_cursor.proofs.Laws.{counted_records_spelled, counted_records_again}
 use Rattle.pol_contexts.specs.PortRecord.{port_at, spell_port, PortFits}
 use Rattle.pol_contexts.proofs.ContextLaws.{port_spelled, port_again}
 use Rattle.pol_contexts.proofs.record_laws.ports_have_laws.Goals as goal
@@ -11,7 +11,7 @@ pub returns-clause-spelled : goal.returns-clause-spelled
 returns-clause-spelled c = port_spelled
 
 pub returns-clause-list_again : goal.returns-clause-list_again
-returns-clause-list_again c = entries_again PORT_COUNT port_at spell_port PortFits port_again
+returns-clause-list_again c = counted_records_again PORT_COUNT port_at spell_port PortFits port_again
 
 pub returns-clause-list_spelled : goal.returns-clause-list_spelled
-returns-clause-list_spelled c = entries_spelled PORT_COUNT port_at spell_port PortFits port_spelled
+returns-clause-list_spelled c = counted_records_spelled PORT_COUNT port_at spell_port PortFits port_spelled
