@@ -6,7 +6,7 @@ ghost use Rattle.info_lines.specs.Inner.Lines.{PushesLine};
 use std::alloc::AllocError;
 use std::marker::Model;
 
-/// The lines of a listing, one after the other.
+/// The lines of a listing, one after the other. After an error neither the buffer nor what is left may be relied on.
 pub trait Lines {
     /// The lines that are left.
     ghost left: { Self → List (List ℕ) };

@@ -3,7 +3,7 @@ use Rattle.std.proofs.Common.{◌≡◌, ◌≤◌, ◌<◌, ◌+◌, ◌-◌, �
 use Rattle.std.specs.List.{flat_map}
 use Rattle.std.proofs.lemmas.List.{drop_all, take_all, take_more}
 use Rattle.se_items.specs.Inner.Items.{Passes, PushesItem}
-use Rattle.se_items.specs.Paging.{limited}
+use Rattle.se_items.specs.Paging.{beyond, limited}
 use Rattle.se_items.specs.Writing.{Moves, Emits, Sends, Wrote}
 use Rattle.se_items.specs.declared.writing.WriteEnd.{WriteEnd}
 use Rattle.se_items.specs.declared.writing.WriteEnd.TheVariants.{Fault, Memory}
@@ -112,6 +112,12 @@ items-end all left rest number count old new before now had has put u more is_fa
       failed = λ h. absurd (cc h);
     }
 
+-- Then none is left.
+pub none-left : (all left rest : List (List ℕ)) (number count : ℕ) (had put : List ℕ) (more : Bool)
+    → more ≡ false → number ≤ count → left ≡ drop number all → PushesItem left rest had put more → rest ≡ drop count all
+none-left all left rest number count had put more is_false le is pushes =
+    let p = rw is_false at pushes in pass-end all left rest number count le is (p.0, p.1)
+
 -- So many items went on.
 pub items-all : {T : Type 0} (all left : List (List ℕ)) (number count : ℕ) (old new : Option (List ℕ)) (before now : ℕ) (had has : List ℕ) (u : T)
     → number ≡ count → ItemsWritten all left number old new before now had has → Emits old new before now had has (flat_map itself (take count all)) (Ok u)
@@ -150,3 +156,7 @@ page-whole old mid new before m now had kept text u v w empty emits wrote = reco
 -- all texts are the first of more than there are
 pub all-limited : (all : List (List ℕ)) (most : ℕ) → length all ≤ most → take most all ≡ limited None all
 all-limited all most le = take_all most all le
+
+-- and after so many none is left
+pub none-beyond : (all : List (List ℕ)) (most : ℕ) → length all ≤ most → drop most all ≡ beyond None all
+none-beyond all most le = drop_all most all le

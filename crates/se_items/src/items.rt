@@ -4,7 +4,7 @@ ghost use Rattle.se_items.specs.Inner.Items.{Passes, PushesItem};
 
 use std::alloc::AllocError;
 
-/// Items of a listing, which are made one after the other.
+/// Items of a listing, which are made one after the other. After an error neither the buffer nor what is left may be relied on.
 pub trait Items {
     /// The texts of the items that are left.
     ghost left: { Self → List (List ℕ) };

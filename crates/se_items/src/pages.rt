@@ -1,7 +1,7 @@
 // The items that are asked for, which are written as they are made.
-ghost use Rattle.std.specs.Prelude.{◌≡◌, ◌<◌, ◌^◌, drop, length, take};
+ghost use Rattle.std.specs.Prelude.{◌≡◌, ◌<◌, ◌^◌, OnOk, drop, length, take};
 ghost use Rattle.std.specs.List.{concat};
-ghost use Rattle.se_items.specs.Paging.{limited, most_items};
+ghost use Rattle.se_items.specs.Paging.{beyond, limited, most_items};
 ghost use Rattle.se_items.specs.Writing.{Emits, Sends};
 
 use crate::items::Items;
@@ -29,8 +29,9 @@ pub fn write_page<I: Items, S: Sink>(
     out: &mut S,
 ) -> Result<(), WriteEnd>
     requires { length (I.left items.old) < 2 ^ 64 }
-    ensures { Sends (S.written out.old) (S.written out.new) (S.faults out.old) (S.faults out.new)
+    ensures sends { Sends (S.written out.old) (S.written out.new) (S.faults out.old) (S.faults out.new)
         (concat (limited limit (drop from (I.left items.old)))) result }
+    ensures left { OnOk result (I.left items.new ≡ beyond limit (drop from (I.left items.old))) }
 {
     pass_items(items, from);
     let mut buffer = page_buffer(alloc)?;
@@ -57,8 +58,9 @@ fn write_limited<I: Items, S: Sink>(
     buffer: &mut Vec<u8>,
 ) -> Result<(), WriteEnd>
     requires { length (I.left items.old) < 2 ^ 64 }
-    ensures { Emits (S.written out.old) (S.written out.new) (S.faults out.old) (S.faults out.new)
+    ensures emits { Emits (S.written out.old) (S.written out.new) (S.faults out.old) (S.faults out.new)
         buffer.old.items buffer.new.items (concat (limited limit (I.left items.old))) result }
+    ensures left { OnOk result (I.left items.new ≡ beyond limit (I.left items.old)) }
 {
     match limit {
         Some(count) => write_items(items, count, out, buffer),
@@ -73,8 +75,9 @@ fn write_items<I: Items, S: Sink>(
     out: &mut S,
     buffer: &mut Vec<u8>,
 ) -> Result<(), WriteEnd>
-    ensures { Emits (S.written out.old) (S.written out.new) (S.faults out.old) (S.faults out.new)
+    ensures emits { Emits (S.written out.old) (S.written out.new) (S.faults out.old) (S.faults out.new)
         buffer.old.items buffer.new.items (concat (take count (I.left items.old))) result }
+    ensures left { OnOk result (I.left items.new ≡ drop count (I.left items.old)) }
 {
     'items: for _number in 0..count {
         let Ok(more) = items.push_next(buffer) else {

@@ -1,5 +1,5 @@
 // Listings, which are written as they are made.
-ghost use Rattle.std.specs.Prelude.{◌≡◌, ◌<◌, ◌++◌, OnOk, flat_map, length};
+ghost use Rattle.std.specs.Prelude.{◌≡◌, ◌<◌, ◌++◌, [], OnOk, flat_map, length};
 ghost use Rattle.se_listing.specs.Listing.{PushesNext, front_text, heading_text, indent_of, line_text, listing_text};
 ghost use Rattle.se_items.specs.Writing.{Emits, Sends};
 
@@ -19,8 +19,9 @@ pub fn write_listing<L: Lines, S: Sink>(
     flat: bool,
     out: &mut S,
 ) -> Result<(), WriteEnd>
-    ensures { Sends (S.written out.old) (S.written out.new) (S.faults out.old) (S.faults out.new)
+    ensures sends { Sends (S.written out.old) (S.written out.new) (S.faults out.old) (S.faults out.new)
         (listing_text flat title.now (L.left lines.old)) result }
+    ensures done { OnOk result (L.left lines.new ≡ []) }
 {
     let mut buffer = page_buffer(alloc)?;
     let count = lines.count();
@@ -68,8 +69,9 @@ fn write_lines<L: Lines, S: Sink>(
     buffer: &mut Vec<u8>,
 ) -> Result<(), WriteEnd>
     requires { count ≡ length (L.left lines.old) }
-    ensures { Emits (S.written out.old) (S.written out.new) (S.faults out.old) (S.faults out.new)
+    ensures emits { Emits (S.written out.old) (S.written out.new) (S.faults out.old) (S.faults out.new)
         buffer.old.items buffer.new.items (flat_map (line_text indent.now) (L.left lines.old)) result }
+    ensures done { OnOk result (L.left lines.new ≡ []) }
 {
     'lines: for _number in 0..count {
         push_next(lines, indent, buffer)?;

@@ -10,4 +10,4 @@ unfolding counts_text
 returns-in_err-write_all g c =
     let p = err_from_is_err_and c.from_residual-in_err-write_all.result c.from_residual-in_err-write_all.ensures.1 in
     let last : c.deref.result.now ≡ line_text [] (singles_line c.args.policy.now) = c.deref.ensures.value ∙ c.in-Ok.ensures in
-    rw (p.1, p.2, ← c.in-Ok-summary.ensures, ← last) (sent_cut _ _ _ _ _ _ _ _ _ _ c.in_ok-write_listing.ensures c.in_err-write_all.ensures)
+    rw (p.1, p.2, ← c.in-Ok-summary.ensures, ← last) (sent_cut _ _ _ _ _ _ _ _ _ _ c.in_ok-write_listing.ensures.sends c.in_err-write_all.ensures)

@@ -26,4 +26,4 @@ returns g c =
     let is : lines_left c.new-lines.result ≡ map (rule_line c.args.policy.now) c.listed.result.now = c.new-lines.ensures ∙ ap (λ (policy : Parts). map (rule_line policy) c.listed.result.now) c.in-Ok-new.ensures in
     let P : List ℕ → Type 0 =
     λ text. Sends (g.S.Sink.written c.args.out.now) (g.S.Sink.written c.write_page.new.out) (g.S.Sink.faults c.args.out.now) (g.S.Sink.faults c.write_page.new.out) text c.write_page.result in
-    subst P (text-found (search_view c.args.asks.now) c.args.policy.now (lines_left c.new-lines.result) c.listed.result.now is are) c.write_page.ensures
+    subst P (text-found (search_view c.args.asks.now) c.args.policy.now (lines_left c.new-lines.result) c.listed.result.now is are) c.write_page.ensures.sends
