@@ -57,11 +57,7 @@ fn push_word(alloc: Global, word: &str, words: &mut Words) -> Result<(), Cause> 
         return Err(Cause::EmptyWord);
     }
     let bytes = unescaped(alloc, word)?;
-    match str::from_utf8(&bytes) {
-        Ok(text) => words.push(text)?,
-        Err(_) => words.push_not_text()?,
-    }
-    Ok(())
+    Ok(words.push_bytes(&bytes)?)
 }
 
 /// A name with escapes.

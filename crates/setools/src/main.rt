@@ -2,16 +2,13 @@
 #![tactic(auto)]
 
 use se_outside::{RealFiles, RealSink, RegexPatterns};
-use se_tools::run;
+use se_tools::{Status, run};
 use se_words::{Words, words_of_bytes};
 use std::alloc::{AllocError, Global};
 use std::env::{self, Args};
 use std::fs;
 use std::io::ErrorKind;
 use std::process::ExitCode;
-
-// The exit code where there is no memory for the words.
-const NO_MEMORY: u8 = 5;
 
 // The bytes that Linux tells of the words, where the standard library does not give them as texts.
 const COMMAND_LINE: &str = "/proc/self/cmdline";
@@ -49,7 +46,7 @@ fn words_as_told(rt: &HostRuntime) -> Result<Words, AllocError> {
 
 fn main(rt: HostRuntime) -> ExitCode {
     let Ok(words) = words_of(&rt) else {
-        return ExitCode::from(NO_MEMORY);
+        return ExitCode::from(Status::Memory.code());
     };
     let mut files = RealFiles::new(&rt);
     let mut out = RealSink::new(rt.stdout());
