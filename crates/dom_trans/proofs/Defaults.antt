@@ -1,86 +1,259 @@
--- The rules that set the default domain of a process, as lists in the order of rules.
-use Rattle.std.proofs.Common.{◌≡◌, ℕ, Bool, true, false, cond, List, [], ◌∷◌, Some, None, slice_get, refl, sym, ap, ◌∙◌}
-use Rattle.std.specs.Prelude.{◌==◌, ◌&&◌}
-use Rattle.std.specs.List.{All, Contains, filter, fold}
-use Rattle.std.proofs.lemmas.Bool.{eqb-true}
-use Rattle.std.proofs.lemmas.List.Elements.{All-nil, All-cons, All-head, All-tail, All-contains, All-contains_itself, All-filter, filter_passes}
+-- The rules that set the default domain of a process.
+use Rattle.std.proofs.Common.{◌≡◌, ℕ, ◌+◌, ◌<◌, ◌≤◌, Bool, true, false, cond, List, [], ◌∷◌, ◌++◌, Some, length, take, drop, get_or, slice_get, refl, sym, ap, subst, ◌∙◌, arith}
+use Rattle.std.specs.Prelude.{◌==◌, ◌&&◌, ◌||◌, ◌↔◌}
+use Rattle.std.specs.Bool.{IsTrue}
+use Rattle.std.specs.List.{All, Contains, filter, fold, list_any, range_with_len}
+use Rattle.std.specs.List.Sorted.{IsPermutation}
+use Rattle.std.proofs.lemmas.Bool.{and_parts, and_from, eqb-true}
+use Rattle.std.proofs.Math.Seq.{take-append_seam}
+use Rattle.std.proofs.lemmas.List.Elements.{All-contains, All-contains_itself, All-filter, All-weaker, Contains-append_left, Contains-append_right}
+use Rattle.std.proofs.lemmas.List.Folds.{list_any-append}
+use Rattle.std.proofs.lemmas.List.Sorted.{Contains-permutation, IsPermutation-sym, length_permutation}
+use Rattle.pol_bitmap.specs.Sets.{IsCommon, ShareBit}
+use Rattle.pol_bitmap.proofs.Elements.{kept, keeps, contains_range, range_holds}
+use Rattle.pol_expand.proofs.Values.{same_tests}
+use Rattle.pol_fields.specs.declared.TableKind.TheVariants.{Classes}
+use Rattle.pol_symbols.specs.PolicySymbols.{value_in}
 use Rattle.pol_file.specs.declared.Parts.{Parts}
-use Rattle.pol_rules.specs.declared.RulePart.TheVariants.{Default}
 use Rattle.pol_rules.specs.StoredRules.{StoredRule, stored_rules}
-use Rattle.rule_order.specs.ListedOrder.{is_listed_before, ordered_by, with_number}
-use Rattle.rule_ends.specs.ChosenRules.{joins, any_joins, rules_between}
+use Rattle.rule_order.specs.ListedOrder.{AreRules, is_listed_before, ordered_by, with_number}
+use Rattle.rule_ends.specs.ChosenRules.{AreRulesFrom, any_joins, begins_at, ends_at, joins, passes, rule_passes, targets_from, targets_of_rules}
 use Rattle.rule_ends.specs.PlainTypes.{is_type_value}
-use Rattle.rule_ends.proofs.Anys.{any_gives, any_from}
-use Rattle.dom_trans.specs.Grants.{grants, default_rules, has_default, part_has_default, file, entrypoint}
+use Rattle.rule_ends.proofs.Anys.{any_agree, any_gives, any_from, filter_agree, or_assoc, or_false}
+use Rattle.rule_ends.proofs.ByOneEnd.{joins_by_ends}
+use Rattle.rule_ends.proofs.Ends.{passes_within}
+use Rattle.dom_trans.specs.Grants.{counts, rules_that, sets_default, granting_rules, grants, default_rules, has_default, part_has_default, process, file, entrypoint}
 use Rattle.dom_trans.specs.Transitions.{is_default}
-use Rattle.dom_trans.specs.Inner.Targets.{is_default_at, is_found}
-use Rattle.dom_trans.proofs.Entries.{default_of}
+use Rattle.dom_trans.specs.Inner.Targets.{AreTypeValues, HaveDefaultOf, enters_by, starts_at_point, starts_to}
 
--- ---- what an order keeps
+-- the default of a stored rule
+pub default_of : (policy : Parts) (value number : ℕ) (rule : StoredRule) → slice_get (stored_rules policy) number ≡ Some rule → part_has_default value rule.part ≡ has_default policy value number
+unfolding has_default
+default_of policy value number rule at = sym (ap (passes (λ (r : StoredRule). part_has_default value r.part)) at)
 
-module _ (P : ℕ → Type 0) (before : ℕ → ℕ → Bool) where
-  put_keeps : (x : ℕ) (ys : List ℕ) → P x → All P ys → All P (with_number before x ys)
-  put_keeps x [] h all = All-cons P x [] h all
-  put_keeps x (y ∷ ys) h all = by (before y x) (put_keeps x ys h (All-tail P y ys all))
-    where
-      by : (test : Bool) → All P (with_number before x ys) → All P (cond test (y ∷ with_number before x ys) (x ∷ y ∷ ys))
-      by true rest = All-cons P y (with_number before x ys) (All-head P y ys all) rest
-      by false rest = All-cons P x (y ∷ ys) h all
+pub not_so : (b : Bool) → (b ≡ true → ⊥) → b ≡ false
+not_so true h = absurd (h refl)
+not_so false h = refl
 
-  fold_keeps : (done xs : List ℕ) → All P done → All P xs → All P (fold (λ sorted number. with_number before number sorted) done xs)
-  fold_keeps done [] d h = d
-  fold_keeps done (x ∷ xs) d h = fold_keeps (with_number before x done) xs (put_keeps x done (All-head P x xs h) d) (All-tail P x xs h)
+default_within : (policy : Parts) (value number : ℕ) → has_default policy value number ≡ true → number < length (stored_rules policy)
+unfolding has_default
+default_within policy value number e = passes_within policy (λ (r : StoredRule). part_has_default value r.part) number e
 
-order_keeps : (P : ℕ → Type 0) (before : ℕ → ℕ → Bool) (xs : List ℕ) → All P xs → All P (ordered_by before xs)
+-- no rule has no default
+pub default_of_none : (policy : Parts) (value number : ℕ) → length (stored_rules policy) ≤ number → false ≡ has_default policy value number
+default_of_none policy value number past = sym (not_so (has_default policy value number) (λ e. omega (arith, past, default_within policy value number e)))
+
+default_rule_below : (policy : Parts) (number : ℕ) → Contains (default_rules policy) number → number < length (stored_rules policy)
+unfolding rules_that
+default_rule_below policy number there =
+    let count = length (stored_rules policy) in
+    let h = kept (rule_passes policy (λ (r : StoredRule). counts r && sets_default (value_in policy.symbols Classes process) r)) (range_with_len 0 count) number there in
+    let w = All-contains (λ (b : ℕ). (0 ≤ b) × (b < 0 + count)) (range_with_len 0 count) number (range_holds 0 count) h.0 in
+    omega (arith, w.1)
+
+pub from_are_rules : (policy : Parts) (a : ℕ) (numbers : List ℕ) → AreRulesFrom policy (default_rules policy) a numbers → AreRules policy numbers
+from_are_rules policy a numbers from = All-weaker (Contains numbers) (λ (n : ℕ). n < length (stored_rules policy)) (λ n h. default_rule_below policy n ((from.each n).0 h).0) numbers (All-contains_itself numbers)
+
+pub from_are_defaults : (policy : Parts) (a : ℕ) (numbers : List ℕ) → AreRulesFrom policy (default_rules policy) a numbers → All (Contains (default_rules policy)) numbers
+from_are_defaults policy a numbers from = All-weaker (Contains numbers) (Contains (default_rules policy)) (λ n h. ((from.each n).0 h).0) numbers (All-contains_itself numbers)
+
+-- ---- whether some number passes a test, in any order
+
+swap : (a b c : Bool) → (a || (b || c)) ≡ (b || (a || c))
+swap true true c = refl
+swap true false c = refl
+swap false b c = refl
+
+any_put : (p : ℕ → Bool) (before : ℕ → ℕ → Bool) (x : ℕ) (ys : List ℕ) → list_any p (with_number before x ys) ≡ (p x || list_any p ys)
+any_put p before x [] = refl
+any_put p before x (y ∷ ys) = go (before y x) (any_put p before x ys)
+  where
+    go : (b : Bool) → list_any p (with_number before x ys) ≡ (p x || list_any p ys) → list_any p (cond b (y ∷ with_number before x ys) (x ∷ y ∷ ys)) ≡ (p x || (p y || list_any p ys))
+    go true later = ap (λ (b : Bool). p y || b) later ∙ swap (p y) (p x) (list_any p ys)
+    go false later = refl
+
+any_fold : (p : ℕ → Bool) (before : ℕ → ℕ → Bool) (done xs : List ℕ) → list_any p (fold (λ sorted number. with_number before number sorted) done xs) ≡ (list_any p done || list_any p xs)
+any_fold p before done [] = sym (or_false (list_any p done))
+any_fold p before done (x ∷ xs) =
+    any_fold p before (with_number before x done) xs ∙ ap (λ (b : Bool). b || list_any p xs) (any_put p before x done) ∙ or_assoc (p x) (list_any p done) (list_any p xs) ∙ swap (p x) (list_any p done) (list_any p xs)
+
+any_ordered : (p : ℕ → Bool) (before : ℕ → ℕ → Bool) (xs : List ℕ) → list_any p (ordered_by before xs) ≡ list_any p xs
 unfolding ordered_by
-order_keeps P before xs h = fold_keeps P before [] xs (All-nil P) h
+any_ordered p before xs = any_fold p before [] xs
 
--- a rule between two types joins them
-between_joins : (policy : Parts) (rules : List ℕ) (a b number : ℕ) → Contains (rules_between policy rules a b) number → any_joins policy rules a b ≡ true
-between_joins policy rules a b number there =
-    let found = filter (joins policy a b) rules in
-    let is_rule = All-contains (Contains rules) (rules_between policy rules a b) number (order_keeps (Contains rules) (is_listed_before policy) found (All-filter (joins policy a b) (Contains rules) rules (All-contains_itself rules))) there in
-    let does = All-contains (λ n. joins policy a b n ≡ true) (rules_between policy rules a b) number (order_keeps (λ n. joins policy a b n ≡ true) (is_listed_before policy) found (filter_passes (joins policy a b) rules)) there in
-    any_from (joins policy a b) rules number is_rule does
+-- ---- the default domain
 
--- so there is a rule where there is a default
-pub default_joins : (policy : Parts) (a b entry : ℕ) → is_default policy a b entry ≡ true → any_joins policy (default_rules policy) a entry ≡ true
-default_joins policy a b entry e =
-    let f = any_gives (has_default policy b) (rules_between policy (default_rules policy) a entry) e in
-    between_joins policy (default_rules policy) a entry f.0 f.1
+-- A rule makes the one type the default domain of a process that the other starts from an entry type.
+pub record StartsBy (policy : Parts) (a b entry : ℕ) : Type 0 where
+  pub number : ℕ
+  pub is : Contains (default_rules policy) number
+  pub begins : begins_at policy a number ≡ true
+  pub ends : ends_at policy entry number ≡ true
+  pub default : has_default policy b number ≡ true
 
--- ---- the default of one rule
+pub default_rule : (policy : Parts) (a b entry : ℕ) → is_default policy a b entry ≡ true → StartsBy policy a b entry
+default_rule policy a b entry e =
+    let joining = filter (joins policy a entry) (default_rules policy) in
+    let f = any_gives (has_default policy b) joining (sym (any_ordered (has_default policy b) (is_listed_before policy) joining) ∙ e) in
+    let k = kept (joins policy a entry) (default_rules policy) f.0 f.1 in
+    let parts = and_parts (begins_at policy a f.0) (ends_at policy entry f.0) (sym (joins_by_ends policy a entry f.0) ∙ k.1) in
+    record { number = f.0; is = k.0; begins = parts.0; ends = parts.1; default = f.2 }
 
-abbrev is_point : Parts → ℕ → ℕ → Bool
-is_point policy entry b = is_type_value policy b && grants policy b entry file entrypoint
+pub rule_default : (policy : Parts) (a b entry : ℕ) → StartsBy policy a b entry → is_default policy a b entry ≡ true
+rule_default policy a b entry s =
+    let joining = filter (joins policy a entry) (default_rules policy) in
+    let there = keeps (joins policy a entry) (default_rules policy) s.number s.is (joins_by_ends policy a entry s.number ∙ and_from (begins_at policy a s.number) (ends_at policy entry s.number) s.begins s.ends) in
+    any_ordered (has_default policy b) (is_listed_before policy) joining ∙ any_from (has_default policy b) joining s.number there s.default
 
-and_never : (b : Bool) → (b && false) ≡ false
-and_never true = refl
-and_never false = refl
+-- the types from which a process starts, by the rules of its type
+pub starts_are : (policy : Parts) (a b : ℕ) (numbers found : List ℕ) → AreRulesFrom policy (default_rules policy) a numbers → found ≡ filter (has_default policy b) numbers → targets_of_rules policy found ≡ starts_to policy a b
+unfolding targets_of_rules starts_to
+starts_are policy a b numbers found from is = filter_agree (λ type. list_any (ends_at policy type) found) (is_default policy a b) range (λ k d lt. same (get_or range k d))
+  where
+    range : List ℕ
+    range = range_with_len 1 policy.symbols.types.nprim
+
+    same : (entry : ℕ) → list_any (ends_at policy entry) found ≡ is_default policy a b entry
+    same entry = same_tests (list_any (ends_at policy entry) found) (is_default policy a b entry)
+        (λ t.
+        let f = any_gives (ends_at policy entry) found t in
+        let k = kept (has_default policy b) numbers f.0 (subst (λ (xs : List ℕ). Contains xs f.0) is f.1) in
+        let r = (from.each f.0).0 k.0 in
+        rule_default policy a b entry (record { number = f.0; is = r.0; begins = r.1; ends = f.2; default = k.1 }))
+        (λ t.
+        let s = default_rule policy a b entry t in
+        any_from (ends_at policy entry) found s.number (subst (λ (xs : List ℕ). Contains xs s.number) (sym is) (keeps (has_default policy b) numbers s.number ((from.each s.number).1 (s.is, s.begins)) s.default)) s.ends)
+
+-- these are rules of the list
+pub with_default_are : (policy : Parts) (a b : ℕ) (numbers found : List ℕ) → AreRulesFrom policy (default_rules policy) a numbers → found ≡ filter (has_default policy b) numbers → All (Contains (default_rules policy)) found
+with_default_are policy a b numbers found from is =
+    subst (All (Contains (default_rules policy))) (sym is) (All-filter (has_default policy b) (Contains (default_rules policy)) numbers (from_are_defaults policy a numbers from))
+
+pub moved_from : (policy : Parts) (rules : List ℕ) (a : ℕ) (old new : List ℕ) → AreRulesFrom policy rules a old → IsPermutation old new → AreRulesFrom policy rules a new
+moved_from policy rules a old new from moved = record {
+  each = λ number. (λ there. (from.each number).0 (Contains-permutation new old number (IsPermutation-sym old new moved) there), λ h. Contains-permutation old new number moved ((from.each number).1 h));
+}
+
+-- as a vector whose numbers are lent as a slice to be sorted
+pub sorted_from : (policy : Parts) (a : ℕ) (numbers lent sorted seen : List ℕ) (len : ℕ) → AreRulesFrom policy (default_rules policy) a numbers → lent ≡ numbers → len ≡ length numbers → IsPermutation lent sorted → seen ≡ take len (sorted ++ drop (length sorted) numbers)
+    → AreRulesFrom policy (default_rules policy) a seen
+sorted_from policy a numbers lent sorted seen len from is long same back =
+    let whole : len ≡ length sorted = omega (arith, long, length_permutation lent sorted same, ap (length {A = ℕ}) is) in
+    let all : seen ≡ sorted = back ∙ rw whole (take-append_seam sorted (drop (length sorted) numbers)) in
+    subst (AreRulesFrom policy (default_rules policy) a) (sym all) (moved_from policy (default_rules policy) a lent sorted (subst (AreRulesFrom policy (default_rules policy) a) (sym is) from) same)
+
+-- ---- a list in two parts
+
+pub all_parts : (P : ℕ → Type 0) (front rest all : List ℕ) → front ++ rest ≡ all → All P all → All P front × All P rest
+all_parts P front rest all whole holds = (
+  All-weaker (Contains front) P (λ x h. All-contains P all x holds (subst (λ (xs : List ℕ). Contains xs x) whole (Contains-append_left front rest x h))) front (All-contains_itself front),
+  All-weaker (Contains rest) P (λ x h. All-contains P all x holds (subst (λ (xs : List ℕ). Contains xs x) whole (Contains-append_right front rest x h))) rest (All-contains_itself rest),
+)
+
+-- what was added, and what is left
+pub part_added : (p : ℕ → Bool) (front rest all : List ℕ) (old new : Bool) → front ++ rest ≡ all → new ≡ (old || list_any p front) → (new || list_any p rest) ≡ (old || list_any p all)
+part_added p front rest all old new whole added =
+    ap (λ (t : Bool). t || list_any p rest) added ∙ or_assoc old (list_any p front) (list_any p rest) ∙ ap (λ (t : Bool). old || t) (sym (list_any-append p front rest) ∙ ap (list_any p) whole)
+
+pub nothing_left : (p : ℕ → Bool) (left : List ℕ) (now : Bool) → (length left == 0) ≡ true → now ≡ (now || list_any p left)
+nothing_left p [] now e = sym (or_false now)
+nothing_left p (x ∷ xs) now e = absurd (omega (arith, eqb-true (length (x ∷ xs)) 0 e))
+
+-- ---- rules of one default
+
+-- a set of targets has those that the rules join a type to
+pub in_targets_from : (policy : Parts) (rules : List ℕ) (x e : ℕ) (set : List ℕ) → set ≡ targets_from policy rules x → Contains set e ↔ (Contains (range_with_len 1 policy.symbols.types.nprim) e × (any_joins policy rules x e ≡ true))
+unfolding targets_from
+in_targets_from policy rules x e set is =
+    let range = range_with_len 1 policy.symbols.types.nprim in
+    (λ m. kept (any_joins policy rules x) range e (subst (λ (xs : List ℕ). Contains xs e) is m), λ h. subst (λ (xs : List ℕ). Contains xs e) (sym is) (keeps (any_joins policy rules x) range e h.0 h.1))
+
+-- some of them starts a process from an entry point
+pub point_met : (policy : Parts) (numbers : List ℕ) (b : ℕ) (types starts entries points : List ℕ) (met : Bool) → AreTypeValues policy types → starts ≡ targets_of_rules policy numbers → IsCommon starts types entries → points ≡ targets_from policy (granting_rules policy file entrypoint) b
+    → (IsTrue met ↔ ShareBit entries points) → met ≡ list_any (starts_at_point policy types b) numbers
+unfolding targets_of_rules
+point_met policy numbers b types starts entries points met within starts_is common points_is says =
+    same_tests met (list_any (starts_at_point policy types b) numbers)
+    (λ t.
+    let share = says.0 t in
+    let entry = share.bit in
+    let parts = (common.each entry).0 share.left in
+    let start = kept ends range entry (subst (λ (xs : List ℕ). Contains xs entry) starts_is parts.0) in
+    let f = any_gives (ends_at policy entry) numbers start.1 in
+    let point = (in_targets_from policy rules b entry points points_is).0 share.right in
+    any_from (starts_at_point policy types b) numbers f.0 f.1 (any_from (at_point f.0) types entry parts.1 (and_from (ends_at policy entry f.0) (grants policy b entry file entrypoint) f.2 point.1)))
+    (λ t.
+    let f = any_gives (starts_at_point policy types b) numbers t in
+    let g = any_gives (at_point f.0) types f.2 in
+    let both = and_parts (ends_at policy g.0 f.0) (grants policy b g.0 file entrypoint) g.2 in
+    let w = All-contains (λ (value : ℕ). (1 ≤ value) × (value ≤ policy.symbols.types.nprim)) types g.0 within g.1 in
+    let there = contains_range 1 policy.symbols.types.nprim g.0 w.0 (omega (arith, w.1)) in
+    let start = subst (λ (xs : List ℕ). Contains xs g.0) (sym starts_is) (keeps ends range g.0 there (any_from (ends_at policy g.0) numbers f.0 f.1 both.0)) in
+    says.1 (record { bit = g.0; left = (common.each g.0).1 (start, g.1); right = (in_targets_from policy rules b g.0 points points_is).1 (there, both.1) }))
+  where
+    range : List ℕ
+    range = range_with_len 1 policy.symbols.types.nprim
+
+    rules : List ℕ
+    rules = granting_rules policy file entrypoint
+
+    ends : ℕ → Bool
+    ends type = list_any (ends_at policy type) numbers
+
+    at_point : ℕ → ℕ → Bool
+    at_point number entry = ends_at policy entry number && grants policy b entry file entrypoint
+
+any_never : (xs : List ℕ) → list_any (λ x. false) xs ≡ false
+any_never [] = refl
+any_never (x ∷ xs) = any_never xs
+
+any_and : (k : Bool) (p : ℕ → Bool) (xs : List ℕ) → list_any (λ x. k && p x) xs ≡ (k && list_any p xs)
+any_and true p xs = refl
+any_and false p xs = any_never xs
+
+-- whether some of them starts a domain is told by the default of the first
+alike : (policy : Parts) (types numbers : List ℕ) (first c : ℕ) → HaveDefaultOf policy first numbers → list_any (enters_by policy types c) numbers ≡ ((is_type_value policy c && has_default policy c first) && list_any (starts_at_point policy types c) numbers)
+alike policy types numbers first c same =
+    let test = is_type_value policy c && has_default policy c first in
+    any_agree (enters_by policy types c) (λ number. test && starts_at_point policy types c number) numbers (λ k d lt. ap (λ (t : Bool). (is_type_value policy c && t) && starts_at_point policy types c (get_or numbers k d)) (same k d lt c))
+    ∙ any_and test (starts_at_point policy types c) numbers
 
 and_ever : (b : Bool) → (b && true) ≡ b
 and_ever true = refl
 and_ever false = refl
 
--- a rule with another part sets no default
-pub without_default : (policy : Parts) (entry number : ℕ) (rule : StoredRule) → slice_get (stored_rules policy) number ≡ Some rule → ((b : ℕ) → part_has_default b rule.part ≡ false) → (b : ℕ) → is_found None b ≡ is_default_at policy entry b number
-without_default policy entry number rule at none b = sym (ap (λ (t : Bool). t && is_point policy entry b) (sym (default_of policy b number rule at) ∙ none b))
+and_never : (b : Bool) → (b && false) ≡ false
+and_never true = refl
+and_never false = refl
 
--- a rule with a default has that one
-default_point : (policy : Parts) (entry number : ℕ) (rule : StoredRule) (value : ℕ) (t : Bool) → slice_get (stored_rules policy) number ≡ Some rule → rule.part ≡ Default value → is_point policy entry value ≡ t
-    → (b : ℕ) → ((value == b) && t) ≡ is_default_at policy entry b number
-default_point policy entry number rule value t at is point b =
-    one (value == b) (λ e. sym point ∙ ap (is_point policy entry) (eqb-true value b e))
-    ∙ ap (λ (d : Bool). d && is_point policy entry b) (sym (ap (part_has_default b) is) ∙ default_of policy b number rule at)
+or_nothing : (old : Bool) (t : Bool) → t ≡ false → old ≡ (old || t)
+or_nothing old t e = sym (ap (λ (b : Bool). old || b) e ∙ or_false old)
+
+-- rules with no default start none
+pub none_starts : (policy : Parts) (types numbers : List ℕ) (first c : ℕ) (old : Bool) → HaveDefaultOf policy first numbers → has_default policy c first ≡ false → old ≡ (old || list_any (enters_by policy types c) numbers)
+none_starts policy types numbers first c old same none =
+    or_nothing old (list_any (enters_by policy types c) numbers)
+    (alike policy types numbers first c same ∙ ap (λ (t : Bool). (is_type_value policy c && t) && list_any (starts_at_point policy types c) numbers) none ∙ ap (λ (t : Bool). t && list_any (starts_at_point policy types c) numbers) (and_never (is_type_value policy c)))
+
+-- the default, where it is a type that they start from an entry point
+abbrev pub is_started : Parts → List ℕ → List ℕ → ℕ → Bool
+is_started policy types numbers b = is_type_value policy b && list_any (starts_at_point policy types b) numbers
+
+default_starts : (policy : Parts) (types numbers : List ℕ) (first b c : ℕ) (started : Bool) → HaveDefaultOf policy first numbers → (b == c) ≡ has_default policy c first → is_started policy types numbers b ≡ started
+    → list_any (enters_by policy types c) numbers ≡ ((b == c) && started)
+default_starts policy types numbers first b c started same default is =
+    alike policy types numbers first c same
+    ∙ ap (λ (t : Bool). (is_type_value policy c && t) && list_any (starts_at_point policy types c) numbers) (sym default)
+    ∙ one (b == c) (λ e. ap (is_started policy types numbers) (sym (eqb-true b c e)) ∙ is)
   where
-    one : (same : Bool) → (same ≡ true → t ≡ is_point policy entry b) → (same && t) ≡ (same && is_point policy entry b)
-    one true h = h refl
-    one false h = refl
+    one : (t : Bool) → (t ≡ true → is_started policy types numbers c ≡ started) → ((is_type_value policy c && t) && list_any (starts_at_point policy types c) numbers) ≡ (t && started)
+    one true h = ap (λ (t : Bool). t && list_any (starts_at_point policy types c) numbers) (and_ever (is_type_value policy c)) ∙ h refl
+    one false h = ap (λ (t : Bool). t && list_any (starts_at_point policy types c) numbers) (and_never (is_type_value policy c))
 
-pub without_point : (policy : Parts) (entry number : ℕ) (rule : StoredRule) (value : ℕ) → slice_get (stored_rules policy) number ≡ Some rule → rule.part ≡ Default value → is_point policy entry value ≡ false
-    → (b : ℕ) → is_found None b ≡ is_default_at policy entry b number
-without_point policy entry number rule value at is point b = sym (and_never (value == b)) ∙ default_point policy entry number rule value false at is point b
+pub one_starts : (policy : Parts) (types numbers : List ℕ) (first b c : ℕ) (old : Bool) → HaveDefaultOf policy first numbers → (b == c) ≡ has_default policy c first → is_started policy types numbers b ≡ true
+    → (old || (b == c)) ≡ (old || list_any (enters_by policy types c) numbers)
+one_starts policy types numbers first b c old same default is = ap (λ (t : Bool). old || t) (sym (default_starts policy types numbers first b c true same default is ∙ and_ever (b == c)))
 
-pub with_point : (policy : Parts) (entry number : ℕ) (rule : StoredRule) (value : ℕ) → slice_get (stored_rules policy) number ≡ Some rule → rule.part ≡ Default value → is_point policy entry value ≡ true
-    → (b : ℕ) → is_found (Some value) b ≡ is_default_at policy entry b number
-with_point policy entry number rule value at is point b = sym (and_ever (value == b)) ∙ default_point policy entry number rule value true at is point b
+pub no_start : (policy : Parts) (types numbers : List ℕ) (first b c : ℕ) (old : Bool) → HaveDefaultOf policy first numbers → (b == c) ≡ has_default policy c first → is_started policy types numbers b ≡ false
+    → old ≡ (old || list_any (enters_by policy types c) numbers)
+no_start policy types numbers first b c old same default is = or_nothing old (list_any (enters_by policy types c) numbers) (default_starts policy types numbers first b c false same default is ∙ and_never (b == c))

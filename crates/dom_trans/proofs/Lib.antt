@@ -1,5 +1,4 @@
 pub mod Keeps
-pub mod Lists
 pub mod Entries
 pub mod Steps
 pub mod Chosen

@@ -1,5 +1,5 @@
 -- The rules behind a transition, list by list.
-use Rattle.std.proofs.Common.{◌≡◌, ℕ, Bool, List, [], map, refl}
+use Rattle.std.proofs.Common.{◌≡◌, ℕ, Bool, true, false, List, [], map, refl, sym, ap, ◌∙◌}
 use Rattle.std.specs.Prelude.{if◌then◌else◌}
 use Rattle.pol_file.specs.declared.Parts.{Parts}
 use Rattle.dom_trans.specs.declared.reasons.EntryReason.{EntryReason}
@@ -22,3 +22,13 @@ pub reasons_are : (policy : Parts) (a b : ℕ) (standard dynamic : Bool) (moves 
     → ◌≡◌ {A = Reasons} (record { transition = moves; setexec = asks; entries = all; dyntransition = turns; setcurrent = changes }) (reasons_between policy a b)
 unfolding reasons_between
 reasons_are policy a b standard dynamic moves asks turns changes all s d m k l t h = rw (m, k, l, t, h, s, d) refl
+
+-- what is said of entries, where there are some
+pub entries_listed : (policy : Parts) (a b : ℕ) (standard : Bool) (found : List ℕ) → standard ≡ is_standard policy a b → found ≡ (if is_standard policy a b then entries policy a b else [])
+    → map (entry_reason policy a b) found ≡ (if standard then map (entry_reason policy a b) (entries policy a b) else [])
+entries_listed policy a b standard found same is =
+    ap (map (entry_reason policy a b)) is ∙ one (is_standard policy a b) ∙ ap (λ (t : Bool). if t then map (entry_reason policy a b) (entries policy a b) else []) (sym same)
+  where
+    one : (t : Bool) → map (entry_reason policy a b) (if t then entries policy a b else []) ≡ (if t then map (entry_reason policy a b) (entries policy a b) else [])
+    one true = refl
+    one false = refl

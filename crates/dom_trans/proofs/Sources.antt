@@ -1,55 +1,56 @@
 -- The types that may change to a type, found by sets of rules.
 use Rattle.std.proofs.Common.{◌≡◌, ℕ, Bool, true, false, List, refl, sym, ap, subst, ◌∙◌, inl, inr, arith}
 use Rattle.std.specs.Prelude.{◌&&◌, ◌||◌, ◌↔◌}
+use Rattle.std.specs.Bool.{IsTrue}
 use Rattle.std.specs.List.{Contains, filter, list_any, range_with_len}
 use Rattle.std.proofs.lemmas.Bool.{and_parts, and_from, or_cases, or_left, or_right, false≢true}
-use Rattle.pol_bitmap.specs.Sets.{IsUnion, IsCommon}
+use Rattle.pol_bitmap.specs.Sets.{IsUnion, IsCommon, ShareBit}
 use Rattle.pol_bitmap.proofs.Elements.{kept, keeps, contains_range}
 use Rattle.pol_expand.proofs.Values.{same_tests}
 use Rattle.pol_file.specs.declared.Parts.{Parts}
 use Rattle.rule_ends.specs.ChosenRules.{any_joins, targets_from, sources_to, sources_to_any}
 use Rattle.rule_ends.proofs.Anys.{any_gives, any_from}
-use Rattle.dom_trans.specs.Grants.{granting_rules, grants, default_rules, process, file, transition, dyntransition, setexec, setcurrent, execute, entrypoint}
+use Rattle.dom_trans.specs.Grants.{granting_rules, grants, process, file, transition, dyntransition, setexec, setcurrent, execute, entrypoint}
 use Rattle.dom_trans.specs.Transitions.{is_default, is_entry, is_standard, is_dynamic}
 use Rattle.rule_ends.specs.PlainTypes.{are_two_types}
 use Rattle.rule_ends.proofs.TypesOutside.{two_within}
-use Rattle.dom_trans.specs.Inner.Targets.{AreEntering, AreSources, has_entry, may_enter}
-use Rattle.dom_trans.proofs.Defaults.{default_joins}
+use Rattle.dom_trans.specs.Inner.Targets.{AreEntering, AreSources, has_entry, may_enter, starts_to}
+use Rattle.dom_trans.proofs.Defaults.{in_targets_from, not_so}
+use Rattle.dom_trans.proofs.Entries.{entry_default, entry_from, entry_parts, in_starts}
 
 -- ---- an entry from one type
 
--- where a type may not ask for another domain, it enters one by default
-pub enters_by_default : (policy : Parts) (a b : ℕ) (executable points starts entries : List ℕ) → grants policy a a process setexec ≡ false → points ≡ targets_from policy (granting_rules policy file entrypoint) b
-    → executable ≡ targets_from policy (granting_rules policy file execute) a → IsCommon (targets_from policy (default_rules policy) a) points starts → IsCommon starts executable entries → list_any (is_default policy a b) entries ≡ may_enter policy a b
-unfolding targets_from is_entry
-enters_by_default policy a b executable points starts entries never are_points executes started both =
-    same_tests (list_any (is_default policy a b) entries) (has_entry policy a b)
-    (λ e.
-    let f = any_gives (is_default policy a b) entries e in
-    let entry = f.0 in
-    let parts = (both.each entry).0 f.1 in
-    let point = kept (any_joins policy (granting_rules policy file entrypoint) b) range entry (subst (λ (xs : List ℕ). Contains xs entry) are_points ((started.each entry).0 parts.0).1) in
-    let may = kept (any_joins policy (granting_rules policy file execute) a) range entry (subst (λ (xs : List ℕ). Contains xs entry) executes parts.1) in
-    any_from (is_entry policy a b) range entry point.0
-    (and_from (grants policy b entry file entrypoint && grants policy a entry file execute) (grants policy a a process setexec || is_default policy a b entry) (and_from (grants policy b entry file entrypoint) (grants policy a entry file execute) point.1 may.1)
-    (or_right (grants policy a a process setexec) (is_default policy a b entry) f.2)))
-    (λ e.
-    let f = any_gives (is_entry policy a b) range e in
-    let entry = f.0 in
-    let outer = and_parts (grants policy b entry file entrypoint && grants policy a entry file execute) (grants policy a a process setexec || is_default policy a b entry) f.2 in
-    let inner = and_parts (grants policy b entry file entrypoint) (grants policy a entry file execute) outer.0 in
-    let default : is_default policy a b entry ≡ true = elim (or_cases (grants policy a a process setexec) (is_default policy a b entry) outer.1) [
-      | inl asks ↦ absurd (false≢true (sym never ∙ asks))
-      | inr d ↦ d
-    ] in
-    let point = subst (λ (xs : List ℕ). Contains xs entry) (sym are_points) (keeps (any_joins policy (granting_rules policy file entrypoint) b) range entry f.1 inner.0) in
-    let may = subst (λ (xs : List ℕ). Contains xs entry) (sym executes) (keeps (any_joins policy (granting_rules policy file execute) a) range entry f.1 inner.1) in
-    let start = (started.each entry).1 (keeps (any_joins policy (default_rules policy) a) range entry f.1 (default_joins policy a b entry default), point) in
-    any_from (is_default policy a b) entries entry ((both.each entry).1 (start, may)) default)
+-- where a type may not ask for another domain, it enters one that it starts by default
+pub enters_by_default : (policy : Parts) (a b : ℕ) (executable points starts entries : List ℕ) (met : Bool) → grants policy a a process setexec ≡ false → points ≡ targets_from policy (granting_rules policy file entrypoint) b
+    → executable ≡ targets_from policy (granting_rules policy file execute) a → starts ≡ starts_to policy a b → IsCommon starts points entries → (IsTrue met ↔ ShareBit entries executable) → met ≡ may_enter policy a b
+enters_by_default policy a b executable points starts entries met never are_points executes started common says =
+    same_tests met (has_entry policy a b)
+    (λ t.
+    let share = says.0 t in
+    let parts = (common.each share.bit).0 share.left in
+    let start = (in_starts policy a b share.bit starts started).0 parts.0 in
+    let point = (in_targets_from policy (granting_rules policy file entrypoint) b share.bit points are_points).0 parts.1 in
+    let may = (in_targets_from policy (granting_rules policy file execute) a share.bit executable executes).0 share.right in
+    any_from (is_entry policy a b) (range_with_len 1 policy.symbols.types.nprim) share.bit point.0 (entry_from policy a b share.bit point.1 may.1 (or_right (grants policy a a process setexec) (is_default policy a b share.bit) start.1)))
+    (λ t.
+    let f = any_gives (is_entry policy a b) (range_with_len 1 policy.symbols.types.nprim) t in
+    let parts = entry_parts policy a b f.0 f.2 in
+    let start = (in_starts policy a b f.0 starts started).1 (f.1, entry_default policy a b f.0 never parts.2) in
+    let point = (in_targets_from policy (granting_rules policy file entrypoint) b f.0 points are_points).1 (f.1, parts.0) in
+    let may = (in_targets_from policy (granting_rules policy file execute) a f.0 executable executes).1 (f.1, parts.1) in
+    says.1 (record { bit = f.0; left = (common.each f.0).1 (start, point); right = may }))
     ∙ ap (λ (asks : Bool). asks || has_entry policy a b) (sym never)
-  where
-    range : List ℕ
-    range = range_with_len 1 policy.symbols.types.nprim
+
+-- and none whose entry points it does not start from
+pub enters_nowhere : (policy : Parts) (a b : ℕ) (points starts : List ℕ) (met : Bool) → grants policy a a process setexec ≡ false → points ≡ targets_from policy (granting_rules policy file entrypoint) b → starts ≡ starts_to policy a b → (IsTrue met ↔ ShareBit starts points)
+    → met ≡ false → false ≡ may_enter policy a b
+enters_nowhere policy a b points starts met never are_points started says apart =
+    sym (ap (λ (asks : Bool). asks || has_entry policy a b) never ∙ not_so (has_entry policy a b) (λ t.
+    let f = any_gives (is_entry policy a b) (range_with_len 1 policy.symbols.types.nprim) t in
+    let parts = entry_parts policy a b f.0 f.2 in
+    let start = (in_starts policy a b f.0 starts started).1 (f.1, entry_default policy a b f.0 never parts.2) in
+    let point = (in_targets_from policy (granting_rules policy file entrypoint) b f.0 points are_points).1 (f.1, parts.0) in
+    false≢true (sym apart ∙ says.1 (record { bit = f.0; left = start; right = point }))))
 
 -- ---- by sets of sources
 

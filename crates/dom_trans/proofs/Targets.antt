@@ -1,23 +1,25 @@
 -- The types that a type may change to, found by sets of rules.
-use Rattle.std.proofs.Common.{◌≡◌, ℕ, Bool, true, false, List, sym, subst, ◌∙◌, inl, inr, arith}
+use Rattle.std.proofs.Common.{◌≡◌, ℕ, ◌+◌, ◌<◌, ◌≤◌, Bool, true, false, List, sym, subst, ◌∙◌, inl, inr, arith}
 use Rattle.std.specs.Prelude.{◌==◌, ◌&&◌, ◌||◌, not, ◌↔◌}
-use Rattle.std.specs.List.{Contains, list_any, range_with_len}
+use Rattle.std.specs.List.{Contains, filter, list_any, range_with_len}
+use Rattle.std.proofs.lemmas.List.Elements.{All-filter, All-same, All-weaker}
 use Rattle.std.proofs.lemmas.Bool.{and_parts, and_from, or_cases, or_left, or_right, false≢true}
 use Rattle.pol_bitmap.specs.declared.Node.{Node}
 use Rattle.pol_bitmap.specs.Nodes.{bits_of}
 use Rattle.pol_bitmap.specs.Sets.{IsUnion, IsCommon}
-use Rattle.pol_bitmap.proofs.Elements.{kept, keeps, contains_range}
+use Rattle.pol_bitmap.proofs.Elements.{kept, keeps, contains_range, range_holds}
 use Rattle.pol_file.specs.declared.Parts.{Parts}
 use Rattle.value_groups.specs.Among.{is_among}
-use Rattle.rule_ends.specs.ChosenRules.{any_joins, rules_between, targets_from, sources_to_any}
+use Rattle.rule_ends.specs.ChosenRules.{AreRulesFrom, any_joins, ends_at, targets_from, sources_to_any}
 use Rattle.rule_ends.specs.PlainTypes.{are_two_types, is_type_value}
 use Rattle.rule_ends.proofs.Anys.{any_gives, any_from, among_contains, contains_among}
 use Rattle.dom_trans.specs.Grants.{granting_rules, grants, default_rules, has_default, process, file, transition, dyntransition, setexec, setcurrent, execute, entrypoint}
 use Rattle.dom_trans.specs.Transitions.{is_default, is_entry, is_standard, is_dynamic}
 use Rattle.rule_ends.proofs.TypesOutside.{two_within}
 use Rattle.dom_trans.specs.Inner.RuleLists.{IsSourceOf}
-use Rattle.dom_trans.specs.Inner.Targets.{AreEntered, AreTargets, has_entry, is_default_at}
-use Rattle.dom_trans.proofs.Defaults.{default_joins}
+use Rattle.dom_trans.specs.Inner.Targets.{AreEntered, AreTargets, AreTypeValues, enters_by, has_entry, starts_at_point}
+use Rattle.dom_trans.proofs.Defaults.{default_rule, in_targets_from, rule_default}
+use Rattle.dom_trans.proofs.Entries.{entry_default, entry_from, entry_parts}
 use Rattle.dom_trans.proofs.Ways.{dynamic_by_grant, dynamic_refused}
 
 -- ---- by sets of targets
@@ -110,46 +112,46 @@ entered_by_request policy a executable sets changes types source asks is = recor
       );
 }
 
--- where it does not, each type counts with an entry point of its own from which it is the default
-abbrev pub default_from : Parts → ℕ → ℕ → ℕ → Bool
-default_from policy a b entry = list_any (is_default_at policy entry b) (rules_between policy (default_rules policy) a entry)
-
-pub entered_by_defaults : (policy : Parts) (a : ℕ) (executable : List Node) (sets changes : Bool) (entries types : List ℕ) → IsSourceOf policy a executable sets changes → sets ≡ false
-    → IsCommon (targets_from policy (default_rules policy) a) (bits_of executable) entries → ((b : ℕ) → is_among types b ≡ list_any (default_from policy a b) entries) → AreEntered policy a types
-unfolding targets_from is_entry
-entered_by_defaults policy a executable sets changes entries types source never common are = record {
+-- where it does not, each type counts that is the default of a rule, and has an entry point from which that starts
+pub entered_by_defaults : (policy : Parts) (a : ℕ) (executable : List Node) (sets changes : Bool) (numbers types : List ℕ) → IsSourceOf policy a executable sets changes → sets ≡ false
+    → AreRulesFrom policy (default_rules policy) a numbers → ((b : ℕ) → is_among types b ≡ list_any (enters_by policy (bits_of executable) b) numbers) → AreEntered policy a types
+entered_by_defaults policy a executable sets changes numbers types source never from are = record {
   each = λ b two.
       let range = range_with_len 1 policy.symbols.types.nprim in
-      let may = any_joins policy (granting_rules policy file execute) a in
-      let starts = any_joins policy (default_rules policy) a in
       let is_type = (and_parts (is_type_value policy a) (is_type_value policy b) (and_parts (is_type_value policy a && is_type_value policy b) (not (a == b)) two).0).1 in
-      let refused : grants policy a a process setexec ≡ false = sym source.asks ∙ never in (
+      let at_point = λ (number entry : ℕ). ends_at policy entry number && grants policy b entry file entrypoint in (
         λ there.
-            let f = any_gives (default_from policy a b) entries (sym (are b) ∙ contains_among types b there) in
+            let f = any_gives (enters_by policy (bits_of executable) b) numbers (sym (are b) ∙ contains_among types b there) in
+            let outer = and_parts (is_type_value policy b && has_default policy b f.0) (starts_at_point policy (bits_of executable) b f.0) f.2 in
+            let default = (and_parts (is_type_value policy b) (has_default policy b f.0) outer.0).1 in
+            let e = any_gives (at_point f.0) (bits_of executable) outer.1 in
+            let ends = and_parts (ends_at policy e.0 f.0) (grants policy b e.0 file entrypoint) e.2 in
+            let rule = (from.each f.0).0 f.1 in
+            let may = (in_targets_from policy (granting_rules policy file execute) a e.0 (bits_of executable) source.executes).0 e.1 in
+            any_from (is_entry policy a b) range e.0 may.0
+            (entry_from policy a b e.0 ends.1 may.1
+            (or_right (grants policy a a process setexec) (is_default policy a b e.0) (rule_default policy a b e.0 (record { number = f.0; is = rule.0; begins = rule.1; ends = ends.0; default = default })))),
+        λ h.
+            let f = any_gives (is_entry policy a b) range h in
             let entry = f.0 in
-            let g = any_gives (is_default_at policy entry b) (rules_between policy (default_rules policy) a entry) f.2 in
-            let parts = and_parts (has_default policy b g.0) (is_type_value policy b && grants policy b entry file entrypoint) g.2 in
-            let point = (and_parts (is_type_value policy b) (grants policy b entry file entrypoint) parts.1).1 in
-            let e = kept may range entry (subst (λ (xs : List ℕ). Contains xs entry) source.executes ((common.each entry).0 f.1).1) in
-            any_from (is_entry policy a b) range entry e.0
-            (and_from (grants policy b entry file entrypoint && grants policy a entry file execute) (grants policy a a process setexec || is_default policy a b entry) (and_from (grants policy b entry file entrypoint) (grants policy a entry file execute) point e.1)
-            (or_right (grants policy a a process setexec) (is_default policy a b entry) (any_from (has_default policy b) (rules_between policy (default_rules policy) a entry) g.0 g.1 parts.0))),
-        λ e.
-            let f = any_gives (is_entry policy a b) range e in
-            let entry = f.0 in
-            let outer = and_parts (grants policy b entry file entrypoint && grants policy a entry file execute) (grants policy a a process setexec || is_default policy a b entry) f.2 in
-            let inner = and_parts (grants policy b entry file entrypoint) (grants policy a entry file execute) outer.0 in
-            let default : is_default policy a b entry ≡ true = elim (or_cases (grants policy a a process setexec) (is_default policy a b entry) outer.1) [
-              | inl asks ↦ absurd (false≢true (sym refused ∙ asks))
-              | inr d ↦ d
-            ] in
-            let g = any_gives (has_default policy b) (rules_between policy (default_rules policy) a entry) default in
-            let there : Contains entries entry =
-            (common.each entry).1 (keeps starts range entry f.1 (default_joins policy a b entry default), subst (λ (xs : List ℕ). Contains xs entry) (sym source.executes) (keeps may range entry f.1 inner.1)) in
+            let parts = entry_parts policy a b entry f.2 in
+            let s = default_rule policy a b entry (entry_default policy a b entry (sym source.asks ∙ never) parts.2) in
+            let may = (in_targets_from policy (granting_rules policy file execute) a entry (bits_of executable) source.executes).1 (f.1, parts.1) in
             among_contains types b
             (are b
-            ∙ any_from (default_from policy a b) entries entry there
-            (any_from (is_default_at policy entry b) (rules_between policy (default_rules policy) a entry) g.0 g.1
-            (and_from (has_default policy b g.0) (is_type_value policy b && grants policy b entry file entrypoint) g.2 (and_from (is_type_value policy b) (grants policy b entry file entrypoint) is_type inner.0)))),
+            ∙ any_from (enters_by policy (bits_of executable) b) numbers s.number ((from.each s.number).1 (s.is, s.begins))
+            (and_from (is_type_value policy b && has_default policy b s.number) (starts_at_point policy (bits_of executable) b s.number) (and_from (is_type_value policy b) (has_default policy b s.number) is_type s.default)
+            (any_from (at_point s.number) (bits_of executable) entry may (and_from (ends_at policy entry s.number) (grants policy b entry file entrypoint) s.ends parts.0)))),
       );
 }
+
+-- what a type may execute has values of types
+pub executes_types : (policy : Parts) (rules : List ℕ) (a : ℕ) (types : List ℕ) → types ≡ targets_from policy rules a → AreTypeValues policy types
+unfolding targets_from
+executes_types policy rules a types is =
+    All-same (λ (value : ℕ). (1 ≤ value) × (value ≤ policy.symbols.types.nprim)) types (filter (any_joins policy rules a) range) is
+    (All-filter (any_joins policy rules a) (λ (value : ℕ). (1 ≤ value) × (value ≤ policy.symbols.types.nprim)) range
+    (All-weaker (λ (value : ℕ). (1 ≤ value) × (value < 1 + policy.symbols.types.nprim)) (λ (value : ℕ). (1 ≤ value) × (value ≤ policy.symbols.types.nprim)) (λ value w. (w.0, omega (arith, w.1))) range (range_holds 1 policy.symbols.types.nprim)))
+  where
+    range : List ℕ
+    range = range_with_len 1 policy.symbols.types.nprim

@@ -1,33 +1,19 @@
--- The two ways of a transition, and the steps, test by test.
+-- The way without executing a file, and the steps, test by test.
 use Rattle.std.proofs.Common.{◌≡◌, ℕ, Bool, true, false, refl, sym, ap, ◌∙◌}
 use Rattle.std.specs.Prelude.{◌&&◌, ◌||◌, not}
 use Rattle.std.proofs.lemmas.Bool.{and_left, and_right, false≢true, true≢false}
 use Rattle.pol_bitmap.specs.Nodes.{has_bit}
 use Rattle.pol_file.specs.declared.Parts.{Parts}
 use Rattle.rule_ends.specs.PlainTypes.{are_two_types}
-use Rattle.dom_trans.specs.Grants.{grants, process, transition, dyntransition, setcurrent}
-use Rattle.dom_trans.specs.Transitions.{is_standard, is_dynamic, is_transition}
+use Rattle.dom_trans.specs.Grants.{grants, process, dyntransition, setcurrent}
+use Rattle.dom_trans.specs.Transitions.{is_dynamic, is_transition}
 use Rattle.dom_trans.specs.Inner.DomainEdges.{Domains, is_step}
-use Rattle.dom_trans.specs.Inner.Targets.{has_entry}
 
 and_true : (x y : Bool) → y ≡ true → (x && y) ≡ x
 and_true true y e = e
 and_true false y e = refl
 
 module _ (policy : Parts) (a b : ℕ) where
-  -- by executing a file
-  pub standard_of_others : are_two_types policy a b ≡ false → false ≡ is_standard policy a b
-  unfolding is_standard
-  standard_of_others e = sym (and_left (are_two_types policy a b && grants policy a b process transition) (has_entry policy a b) (and_left (are_two_types policy a b) (grants policy a b process transition) e))
-
-  pub standard_without : has_entry policy a b ≡ false → false ≡ is_standard policy a b
-  unfolding is_standard
-  standard_without e = sym (and_right (are_two_types policy a b && grants policy a b process transition) (has_entry policy a b) e)
-
-  pub standard_by_grant : are_two_types policy a b ≡ true → has_entry policy a b ≡ true → grants policy a b process transition ≡ is_standard policy a b
-  unfolding is_standard
-  standard_by_grant two there = sym (and_true (are_two_types policy a b && grants policy a b process transition) (has_entry policy a b) there ∙ ap (λ (t : Bool). t && grants policy a b process transition) two)
-
   -- without one
   pub dynamic_of_others : are_two_types policy a b ≡ false → false ≡ is_dynamic policy a b
   unfolding is_dynamic

@@ -1,16 +1,16 @@
-ghost use Rattle.std.specs.Prelude.{◌≡◌, ℕ, ◌+◌, ◌<◌, ◌||◌, false, [], ◌∷◌, ◌++◌, IfOk, IfSome, OnOk, length, map, if◌then◌else◌};
-ghost use Rattle.std.specs.List.{filter, list_any};
+ghost use Rattle.std.specs.Prelude.{◌≡◌, ℕ, ◌+◌, ◌<◌, ◌≤◌, ◌||◌, ◌==◌, not, false, [], ◌∷◌, ◌++◌, IfOk, OnOk, length, map, slice_index, take, if◌then◌else◌};
+ghost use Rattle.std.specs.List.{All, Contains, filter, list_any};
+ghost use Rattle.std.specs.List.Sorted.{IsPermutation};
 ghost use Rattle.pol_bitmap.specs.Nodes.{bits_of};
-ghost use Rattle.pol_bitmap.specs.Sets.{IsCommon};
 ghost use Rattle.pol_expand.specs.PolicyMap.{IsPolicyMap};
+ghost use Rattle.rule_order.specs.ListedOrder.{AreRules};
 ghost use Rattle.rule_ends.specs.ChosenRules.{rules_between, targets_from, sources_to};
-ghost use Rattle.pol_rules.specs.StoredRules.{stored_rules};
 ghost use Rattle.value_groups.specs.Among.{is_among};
-ghost use Rattle.dom_trans.specs.Inner.Targets.{AreEntered, AreTargets, AreEntering, AreSources, is_default_at, is_found, may_enter};
-ghost use Rattle.dom_trans.specs.Grants.{granting_rules, grants, default_rules, process, dyntransition, setcurrent, file, entrypoint};
-ghost use Rattle.dom_trans.specs.Transitions.{is_default, entries, is_standard, is_dynamic, defaults_between};
+ghost use Rattle.dom_trans.specs.Inner.Targets.{AreEntered, AreTargets, AreEntering, AreSources, AreTypeValues, HaveDefaultOf, enters_by, is_found, may_enter, starts_at_point, starts_to};
+ghost use Rattle.dom_trans.specs.Grants.{granting_rules, grants, default_rules, has_default, process, dyntransition, setcurrent, file, entrypoint};
+ghost use Rattle.dom_trans.specs.Transitions.{entries, is_standard, is_dynamic, defaults_between};
 ghost use Rattle.dom_trans.specs.ReasonLists.{entry_reason, reasons_between};
-ghost use Rattle.dom_trans.specs.Inner.RuleLists.{HaveTypeEnds, IsSourceOf, chosen, leads, rules_of};
+ghost use Rattle.dom_trans.specs.Inner.RuleLists.{HaveTypeEnds, IsSourceOf, chosen, is_allowed, rules_of};
 
 use crate::grant::Grant;
 use crate::keeping::kept_rules;
@@ -113,46 +113,21 @@ impl<'p> DomRules<'p> {
         self.list(Grant::Entrypoint).targets_of(alloc, b)
     }
 
-    // Those of some types from which a process that a type starts has a default domain.
-    fn starts(&self, alloc: Global, a: u32, entries: &Set) -> Result<Set, AllocError>
-        ensures { IfOk result (λ starts. IsCommon (targets_from self.now (default_rules self.now) a) (bits_of entries.now) (bits_of starts)) }
+    // Those of some rules whose default is that type.
+    fn with_default(&self, alloc: Global, b: u32, numbers: &[u32]) -> Result<Vec<u32>, AllocError>
+        requires { AreRules self.now numbers.now }
+        ensures { IfOk result (λ found. found.items ≡ filter (has_default self.now b) numbers.now) }
     {
-        let all = self.list(Grant::Default).targets_of(alloc, a)?;
-        all.common(alloc, entries)
-    }
-
-    // Whether the one type is the default domain of a process that the other starts from an entry type.
-    fn is_default(&self, alloc: Global, a: u32, b: u32, entry: u32) -> Result<bool, AllocError>
-        ensures { IfOk result (λ found. found ≡ is_default self.now a b entry) }
-    {
-        let numbers = self.list(Grant::Default).between(alloc, a, entry)?;
-        for number in &numbers {
+        let mut found = Vec::new(alloc);
+        for number in numbers {
             if has_default(b, &self.policy.rule(*number)) {
-                return Ok(true);
+                found.push(*number)?;
             }
         }
-        Ok(false)
+        Ok(found)
     }
 
-    // Whether it is for one of some entry types.
-    fn is_any_default(
-        &self,
-        alloc: Global,
-        a: u32,
-        b: u32,
-        entries: &Set,
-    ) -> Result<bool, AllocError>
-        ensures { IfOk result (λ found. found ≡ list_any (is_default self.now a b) (bits_of entries.now)) }
-    {
-        for entry in entries.bits() {
-            if self.is_default(alloc, a, b, entry)? {
-                return Ok(true);
-            }
-        }
-        Ok(false)
-    }
-
-    // The rules that say so.
+    // The rules that say that the one type is the default domain of a process that the other starts from an entry type.
     fn defaults_between(
         &self,
         alloc: Global,
@@ -163,31 +138,18 @@ impl<'p> DomRules<'p> {
         ensures { IfOk result (λ found. found ≡ defaults_between self.now a b entry) }
     {
         let numbers = self.list(Grant::Default).between(alloc, a, entry)?;
-        let mut found = Vec::new(alloc);
-        for number in &numbers {
-            if has_default(b, &self.policy.rule(*number)) {
-                found.push(*number)?;
-            }
-        }
+        let found = self.with_default(alloc, b, &numbers)?;
         Ok(OwnedList::from_vec(found))
     }
 
-    // Whether an entry point of a domain, which a type may execute, is an entry.
-    fn leads(
-        &self,
-        alloc: Global,
-        a: u32,
-        source: &Source,
-        b: u32,
-        entry: u32,
-    ) -> Result<bool, AllocError>
-        requires { IsSourceOf self.now a source.now.executable source.now.setexec source.now.setcurrent }
-        ensures { IfOk result (λ found. found ≡ leads self.now a b entry) }
+    // The types from which a process that the one type starts has the other as its default domain.
+    fn starts_to(&self, alloc: Global, a: u32, b: u32) -> Result<Set, AllocError>
+        ensures { IfOk result (λ starts. bits_of starts ≡ starts_to self.now a b) }
     {
-        if !source.setexec {
-            return self.is_default(alloc, a, b, entry);
-        }
-        Ok(true)
+        let rules = self.list(Grant::Default);
+        let numbers = rules.rules_from(alloc, a)?;
+        let found = self.with_default(alloc, b, &numbers)?;
+        rules.targets_of_rules(alloc, &found)
     }
 
     // The entries from a type to a domain, rising.
@@ -203,30 +165,44 @@ impl<'p> DomRules<'p> {
     {
         let points = self.points(alloc, b)?;
         let both = points.common(alloc, &source.executable)?;
-        let mut found = Vec::new(alloc);
-        for entry in both.bits() {
-            if self.leads(alloc, a, source, b, entry)? {
-                found.push(entry)?;
-            }
+        if source.setexec {
+            return values_in(alloc, &both);
         }
-        Ok(found)
+        let starts = self.starts_to(alloc, a, b)?;
+        let entries = both.common(alloc, &starts)?;
+        values_in(alloc, &entries)
     }
 }
 
 // The ways from a type and to a type.
 impl<'p> DomRules<'p> {
-    // Whether there is a transition by executing a file, of which these are the entries.
-    fn is_standard(&self, alloc: Global, a: u32, b: u32, found: &[u32]) -> Result<bool, AllocError>
-        requires { found.now ≡ entries self.now a b }
-        ensures { IfOk result (λ holds. holds ≡ is_standard self.now a b) }
+    // Whether a type may change to another by executing a file.
+    fn is_allowed(&self, alloc: Global, a: u32, b: u32) -> Result<bool, AllocError>
+        ensures { IfOk result (λ holds. holds ≡ is_allowed self.now a b) }
     {
         if !are_two_types(self.policy(), a, b) {
             return Ok(false);
         }
-        if found.is_empty() {
-            return Ok(false);
-        }
         self.list(Grant::Transition).has_between(alloc, a, b)
+    }
+
+    // The entries of the transition by executing a file, rising. There are none where there is no such transition.
+    fn standard_entries(
+        &self,
+        alloc: Global,
+        a: u32,
+        source: &Source,
+        b: u32,
+    ) -> Result<Vec<u32>, AllocError>
+        requires { IsSourceOf self.now a source.now.executable source.now.setexec source.now.setcurrent }
+        ensures found { IfOk result (λ found. found.items ≡ (if is_standard self.now a b then entries self.now a b else [])) }
+        ensures some { IfOk result (λ found. is_standard self.now a b ≡ not (length found.items == 0)) }
+    {
+        if self.is_allowed(alloc, a, b)? {
+            self.entries(alloc, a, source, b)
+        } else {
+            Ok(Vec::new(alloc))
+        }
     }
 
     // Whether there is a transition without one.
@@ -248,12 +224,11 @@ impl<'p> DomRules<'p> {
         requires { IsSourceOf self.now a source.now.executable source.now.setexec source.now.setcurrent }
         ensures { IfOk result (λ set. AreEntered self.now a (bits_of set)) }
     {
-        if source.setexec {
-            self.list(Grant::Entrypoint)
-                .sources_of_any(alloc, &source.executable)
-        } else {
-            self.entered_by_default(alloc, a, source)
+        if !source.setexec {
+            return self.entered_by_default(alloc, a, source);
         }
+        self.list(Grant::Entrypoint)
+            .sources_of_any(alloc, &source.executable)
     }
 
     // The types that are the default domain of a process that a type starts from one of their entry points.
@@ -262,69 +237,98 @@ impl<'p> DomRules<'p> {
         requires without { source.now.setexec ≡ false }
         ensures { IfOk result (λ set. AreEntered self.now a (bits_of set)) }
     {
-        let entries = self.starts(alloc, a, &source.executable)?;
+        let mut numbers = self.list(Grant::Default).rules_from(alloc, a)?;
+        self.sort_by_default(&mut numbers);
         let mut found = DenseSet::new(alloc, self.policy.type_count() as usize + 1)?;
-        for entry in entries.bits() {
-            self.add_defaults(alloc, a, entry, &mut found)?;
+        let mut left = numbers.as_slice();
+        while !left.is_empty() {
+            let (alike, rest) = left.split_at(self.count_alike(left));
+            self.add_default(alloc, alike, &source.executable, &mut found)?;
+            left = rest;
         }
         found.to_set(alloc)
     }
 
-    // Adds the default domains of a process that a type starts from an entry type, where that is an entry point of theirs.
-    fn add_defaults(
-        &self,
-        alloc: Global,
-        a: u32,
-        entry: u32,
-        found: &mut DenseSet,
-    ) -> Result<(), AllocError>
-        requires { found.old.count ≡ self.now.symbols.types.nprim + 1 }
-        ensures count { found.new.count ≡ found.old.count }
-        ensures each { OnOk result ((b : ℕ) → is_among found.new.values b ≡ (is_among found.old.values b || list_any (is_default_at self.now entry b) (rules_between self.now (default_rules self.now) a entry))) }
+    // Puts rules of the same default together.
+    fn sort_by_default(&self, numbers: &mut [u32])
+        ensures { IsPermutation numbers.old numbers.new }
     {
-        let numbers = self.list(Grant::Default).between(alloc, a, entry)?;
-        for number in &numbers {
-            self.add_default(alloc, *number, entry, found)?;
-        }
-        Ok(())
+        numbers.sort_unstable_by_key(|number| self.default_of(*number));
     }
 
-    // Adds the default of a rule, where a type is an entry point of it.
+    // How many of the rules, from the first on, have the default of the first.
+    fn count_alike(&self, numbers: &[u32]) -> usize
+        requires { 1 ≤ length numbers.now }
+        ensures some { 1 ≤ result }
+        ensures most { result ≤ length numbers.now }
+        ensures alike { HaveDefaultOf self.now (slice_index numbers.now 0) (take result numbers.now) }
+    {
+        let first = self.default_of(numbers[0]);
+        for place in 1..numbers.len() {
+            if self.default_of(numbers[place]) != first {
+                return place;
+            }
+        }
+        numbers.len()
+    }
+
+    // The default of the rule of a number, if it has one.
+    fn default_of(&self, number: u32) -> Option<u32>
+        ensures { (b : ℕ) → is_found result b ≡ has_default self.now b number }
+    {
+        if number >= self.policy.rule_count() {
+            return None;
+        }
+        match self.policy.rule(number).part {
+            RulePart::Default(b) => Some(b),
+            _ => None,
+        }
+    }
+
+    // Adds the default that some rules have, where they start it from one of its entry points among some types.
     fn add_default(
         &self,
         alloc: Global,
-        number: u32,
-        entry: u32,
+        numbers: &[u32],
+        executable: &Set,
         found: &mut DenseSet,
     ) -> Result<(), AllocError>
-        requires rule { number < length (stored_rules self.now) }
+        requires some { 1 ≤ length numbers.now }
+        requires rules { All (Contains (default_rules self.now)) numbers.now }
+        requires alike { HaveDefaultOf self.now (slice_index numbers.now 0) numbers.now }
+        requires within { AreTypeValues self.now (bits_of executable.now) }
         requires count { found.old.count ≡ self.now.symbols.types.nprim + 1 }
         ensures count { found.new.count ≡ found.old.count }
-        ensures each { OnOk result ((b : ℕ) → is_among found.new.values b ≡ (is_among found.old.values b || is_default_at self.now entry b number)) }
+        ensures each { OnOk result ((b : ℕ) → is_among found.new.values b ≡ (is_among found.old.values b || list_any (enters_by self.now (bits_of executable.now) b) numbers.now)) }
     {
-        let Some(b) = self.default_at(alloc, number, entry)? else {
+        let Some(b) = self.default_of(numbers[0]) else {
             return Ok(());
         };
-        found.add(b);
+        if !is_type(self.policy(), b) {
+            return Ok(());
+        }
+        if self.start_at_point(alloc, numbers, b, executable)? {
+            found.add(b);
+        }
         Ok(())
     }
 
-    // The default of a rule, where it is a type that an entry type is an entry point of.
-    fn default_at(&self, alloc: Global, number: u32, entry: u32) -> Result<Option<u32>, AllocError>
-        requires { number < length (stored_rules self.now) }
-        ensures each { IfOk result (λ found. (b : ℕ) → is_found found b ≡ is_default_at self.now entry b number) }
-        ensures small { IfOk result (λ found. IfSome found (λ b. b < self.now.symbols.types.nprim + 1)) }
+    // Whether some rules start a process from one of some types that is an entry point of a domain.
+    fn start_at_point(
+        &self,
+        alloc: Global,
+        numbers: &[u32],
+        b: u32,
+        types: &Set,
+    ) -> Result<bool, AllocError>
+        requires rules { All (Contains (default_rules self.now)) numbers.now }
+        requires within { AreTypeValues self.now (bits_of types.now) }
+        ensures { IfOk result (λ holds. holds ≡ list_any (starts_at_point self.now (bits_of types.now) b) numbers.now) }
     {
-        let RulePart::Default(b) = self.policy.rule(number).part else {
-            return Ok(None);
-        };
-        if !is_type(self.policy(), b) {
-            return Ok(None);
-        }
-        if !self.list(Grant::Entrypoint).has_between(alloc, b, entry)? {
-            return Ok(None);
-        }
-        Ok(Some(b))
+        let starts = self.list(Grant::Default).targets_of_rules(alloc, numbers)?;
+        let entries = starts.common(alloc, types)?;
+        let points = self.points(alloc, b)?;
+        Ok(entries.meets(&points))
     }
 
     /// The types that a type, of which this is known, may change to, itself among them where it may.
@@ -391,10 +395,13 @@ impl<'p> DomRules<'p> {
         if self.list(Grant::Setexec).has_between(alloc, a, a)? {
             return Ok(true);
         }
-        let starts = self.starts(alloc, a, points)?;
+        let starts = self.starts_to(alloc, a, b)?;
+        if !starts.meets(points) {
+            return Ok(false);
+        }
         let executable = self.list(Grant::Execute).targets_of(alloc, a)?;
-        let entries = starts.common(alloc, &executable)?;
-        self.is_any_default(alloc, a, b, &entries)
+        let entries = starts.common(alloc, points)?;
+        Ok(entries.meets(&executable))
     }
 
     // The types that may change to a type without executing a file.
@@ -453,35 +460,24 @@ impl<'p> DomRules<'p> {
         ensures { IfOk result (λ reasons. reasons ≡ reasons_between self.now a b) }
     {
         let source = self.source(alloc, a)?;
-        let entries = self.entries(alloc, a, &source, b)?;
-        let standard = self.is_standard(alloc, a, b, &entries)?;
+        let entries = self.standard_entries(alloc, a, &source, b)?;
+        let standard = !entries.is_empty();
         let dynamic = self.is_dynamic(alloc, a, &source, b)?;
         Ok(Reasons {
             transition: between_where(alloc, standard, self.list(Grant::Transition), a, b)?,
             setexec: between_where(alloc, standard, self.list(Grant::Setexec), a, a)?,
-            entries: self.entries_where(alloc, standard, a, b, &entries)?,
+            entries: self.entry_reasons(alloc, a, b, &entries)?,
             dyntransition: between_where(alloc, dynamic, self.list(Grant::Dyntransition), a, b)?,
             setcurrent: between_where(alloc, dynamic, self.list(Grant::Setcurrent), a, a)?,
         })
     }
+}
 
-    // The rules of entries where a test holds.
-    fn entries_where(
-        &self,
-        alloc: Global,
-        holds: bool,
-        a: u32,
-        b: u32,
-        entries: &[u32],
-    ) -> Result<EntryReasonList, AllocError>
-        ensures { IfOk result (λ reasons. reasons ≡ (if holds then map (entry_reason self.now a b) entries.now else [])) }
-    {
-        if holds {
-            self.entry_reasons(alloc, a, b, entries)
-        } else {
-            Ok(OwnedList::from_vec(Vec::new(alloc)))
-        }
-    }
+// The values of a set, rising.
+fn values_in(alloc: Global, set: &Set) -> Result<Vec<u32>, AllocError>
+    ensures { IfOk result (λ values. values.items ≡ bits_of set.now) }
+{
+    set.bits().collect(alloc)
 }
 
 // Adds rules with their ends to lists.

@@ -55,7 +55,7 @@ filter_map_is f p (x ∷ xs) = go (p (f x)) (filter_map_is f p xs)
     go true later = ap (λ (ys : List ℕ). f x ∷ ys) later
     go false later = later
 
-any_map_is : (f : ℕ → ℕ) (p : ℕ → Bool) (xs : List ℕ) → list_any p (map f xs) ≡ list_any (λ x. p (f x)) xs
+pub any_map_is : (f : ℕ → ℕ) (p : ℕ → Bool) (xs : List ℕ) → list_any p (map f xs) ≡ list_any (λ x. p (f x)) xs
 any_map_is f p [] = refl
 any_map_is f p (x ∷ xs) = ap (λ (b : Bool). p (f x) || b) (any_map_is f p xs)
 
@@ -206,7 +206,7 @@ stands_under most keys groups place are lt le =
     not_empty (group_of groups key) place (subst (λ (ps : List ℕ). Contains ps place) (sym (are.each key le)) there)
 
 module _ (policy : Parts) (rules keys others : List ℕ) (groups other_groups : List (List ℕ)) (joined held : ℕ → Bool) (y : ℕ) (are : AreJoined policy rules keys others groups other_groups joined held y) (from : List ℕ) (holders : AreHolders policy groups held from) where
-  key_held : (place : ℕ) → place < length rules → is_among from (slice_index keys place) ≡ held (slice_index keys place)
+  pub key_held : (place : ℕ) → place < length rules → is_among from (slice_index keys place) ≡ held (slice_index keys place)
   key_held place lt =
       let key_lt : place < length keys = omega (arith, lt, are.keys_long) in
       let is = All-get_or (IsEnd policy) keys place 0 key_lt are.keys_are in
@@ -218,7 +218,7 @@ module _ (policy : Parts) (rules keys others : List ℕ) (groups other_groups : 
       let is = All-get_or (IsEnd policy) others place 0 other_lt are.others_are in
       ends.each (slice_index others place) is (stands_under policy.symbols.types.nprim others other_groups place are.others_grouped other_lt is.within.1)
 
-  places_in : (end place : ℕ) → end ≤ policy.symbols.types.nprim → Contains (group_of groups end) place → (place < length rules) × (slice_index keys place ≡ end)
+  pub places_in : (end place : ℕ) → end ≤ policy.symbols.types.nprim → Contains (group_of groups end) place → (place < length rules) × (slice_index keys place ≡ end)
   unfolding places_of
   places_in end place le there =
       let h = kept (is_value_at keys end) (range_with_len 0 (length keys)) place (subst (λ (ps : List ℕ). Contains ps place) (are.groups_are.each end le) there) in

@@ -4,3 +4,4 @@ pub mod Steps
 pub mod TypesOutside
 pub mod Holders
 pub mod Found
+pub mod ByOneEnd

@@ -1,21 +1,22 @@
 ghost use Rattle.std.specs.Prelude.{◌≡◌, ◌<◌, ◌^◌, true, IfOk, length};
-ghost use Rattle.std.specs.List.{All};
+ghost use Rattle.std.specs.List.{All, Contains};
 ghost use Rattle.pol_bitmap.specs.Nodes.{bits_of};
 ghost use Rattle.pol_expand.specs.PolicyMap.{IsPolicyMap};
 ghost use Rattle.rule_order.specs.ListedOrder.{AreRules};
-ghost use Rattle.rule_ends.specs.ChosenRules.{is_between_types, any_joins, rules_between, targets_from, sources_to, sources_to_any};
-ghost use Rattle.rule_ends.specs.Inner.EndTables.{AreEndsOf};
+ghost use Rattle.rule_ends.specs.ChosenRules.{is_between_types, any_joins, rules_between, targets_from, sources_to, sources_to_any, AreRulesFrom, targets_of_rules};
+ghost use Rattle.rule_ends.specs.Inner.EndTables.{AreEndsOf, AreTargetsOf};
 
 use crate::end_table::{EndTable, gathered_rules};
 use crate::gathered::RulesWithEnds;
 use crate::holding::{ends_holding, types_of, values_in};
-use crate::walking::{found_rules, has_rule, other_ends};
+use crate::walking::{found_rules, has_rule, other_ends, rules_with};
 use pol_bitmap::Set;
 use pol_expand::TypeMap;
 use pol_read::Policy;
 use rule_order::{rules_have_one_order, sort_by_rule_order};
 use std::alloc::{AllocError, Global};
 use std::marker::Model;
+use value_groups::Marked;
 
 /// Rules of a policy that were chosen, found by the types that their ends expand to. Contracts see the policy and the numbers of
 /// the rules.
@@ -88,13 +89,6 @@ impl<'p> ChosenRules<'p> {
         })
     }
 
-    /// The policy.
-    pub fn policy(&self) -> &'p Policy<'p>
-        ensures { result.now ≡ self.now.policy }
-    {
-        self.policy
-    }
-
     /// The rules among them whose source expands to the one type, and whose target to the other, in the order in which rules are
     /// listed.
     pub fn between(&self, alloc: Global, source: u32, target: u32) -> Result<Vec<u32>, AllocError>
@@ -164,5 +158,35 @@ impl<'p> ChosenRules<'p> {
         let count = self.policy.type_count() as usize + 1;
         let ends = other_ends(alloc, &table.sources, &table.by_target, &to, count)?;
         types_of(alloc, self.policy, self.types, ends.values())
+    }
+
+    /// The rules among them whose source expands to a type, in no order of their own.
+    pub fn rules_from(&self, alloc: Global, source: u32) -> Result<Vec<u32>, AllocError>
+        ensures { IfOk result (λ found. AreRulesFrom self.now.policy self.now.rules source found.items) }
+    {
+        let table = &self.table;
+        let from = ends_holding(alloc, self.policy, &table.by_source, source)?;
+        rules_with(alloc, &table.rules, &table.by_source, from.values())
+    }
+
+    /// The types that the targets of some of the rules expand to.
+    pub fn targets_of_rules(&self, alloc: Global, numbers: &[u32]) -> Result<Set, AllocError>
+        requires { All (Contains self.now.rules) numbers.now }
+        ensures { IfOk result (λ set. bits_of set ≡ targets_of_rules self.now.policy numbers.now) }
+    {
+        let ends = self.target_ends(alloc, numbers)?;
+        types_of(alloc, self.policy, self.types, ends.values())
+    }
+
+    // The targets of some of the rules, as they are stored.
+    fn target_ends(&self, alloc: Global, numbers: &[u32]) -> Result<Marked, AllocError>
+        requires { All (Contains self.now.rules) numbers.now }
+        ensures { IfOk result (λ ends. AreTargetsOf self.now.policy numbers.now ends.values) }
+    {
+        let mut ends = Marked::new(alloc, self.policy.type_count() as usize + 1)?;
+        for number in numbers {
+            ends.add(self.policy.rule_ends(*number).target)?;
+        }
+        Ok(ends)
     }
 }

@@ -3,7 +3,7 @@ ghost use Rattle.std.specs.Prelude.{◌≡◌, ◌<◌, ◌≤◌, ◌++◌, ◌
 ghost use Rattle.std.specs.List.{All, list_any};
 ghost use Rattle.value_groups.specs.Among.{is_among};
 ghost use Rattle.value_groups.specs.Inner.Grouping.{group_of};
-ghost use Rattle.rule_ends.specs.Inner.EndTables.{places_to, rules_at, rules_found, any_found, is_other_end};
+ghost use Rattle.rule_ends.specs.Inner.EndTables.{places_to, rules_at, rules_found, rules_under, any_found, is_other_end};
 
 use std::alloc::{AllocError, Global};
 use value_groups::{Groups, Marked};
@@ -45,6 +45,34 @@ fn push_rules(
         if to.has(others[at]) {
             found.push(rules[at])?;
         }
+    }
+    Ok(())
+}
+
+/// The rules that have one end among some.
+pub fn rules_with(
+    alloc: Global,
+    rules: &[u32],
+    groups: &Groups,
+    from: &[u32],
+) -> Result<Vec<u32>, AllocError>
+    requires { (end : ℕ) → All (λ place. place < length rules.now) (group_of groups.now end) }
+    ensures { IfOk result (λ found. found.items ≡ rules_under rules.now (group_of groups.now) from.now) }
+{
+    let mut found = Vec::new(alloc);
+    for end in from {
+        push_all(&mut found, rules, groups.places(*end))?;
+    }
+    Ok(found)
+}
+
+// Appends the rules of the places.
+fn push_all(found: &mut Vec<u32>, rules: &[u32], places: &[u32]) -> Result<(), AllocError>
+    requires { All (λ place. place < length rules.now) places.now }
+    ensures { OnOk result (found.new.items ≡ found.old.items ++ rules_at rules.now places.now) }
+{
+    for place in places {
+        found.push(rules[*place as usize])?;
     }
     Ok(())
 }

@@ -1,14 +1,14 @@
 -- The rules that transitions rest on, each list as chosen rules. It serves the code alone.
-use Rattle.std.specs.Prelude.{◌≡◌, ℕ, ◌<◌, ◌^◌, Bool, true, ◌||◌, List, [], ◌∷◌, length, map}
+use Rattle.std.specs.Prelude.{◌≡◌, ℕ, ◌<◌, ◌^◌, Bool, true, ◌&&◌, List, [], ◌∷◌, length, map}
 use Rattle.std.specs.List.{All}
 use Rattle.pol_bitmap.specs.declared.Node.{Node}
 use Rattle.pol_bitmap.specs.Nodes.{bits_of}
 use Rattle.pol_file.specs.declared.Parts.{Parts}
 use Rattle.rule_ends.specs.ChosenRules.{ChosenRules, is_between_types, targets_from}
+use Rattle.rule_ends.specs.PlainTypes.{are_two_types}
 use Rattle.dom_trans.specs.declared.grant.Grant.{Grant}
 use Rattle.dom_trans.specs.declared.grant.Grant.TheVariants.{Transition, Dyntransition, Setexec, Setcurrent, Execute, Entrypoint, Default}
 use Rattle.dom_trans.specs.Grants.{granting_rules, grants, default_rules, process, file, transition, dyntransition, setexec, setcurrent, execute, entrypoint}
-use Rattle.dom_trans.specs.Transitions.{is_default}
 
 -- chosen rules of a policy
 abbrev pub chosen : Parts → List ℕ → ChosenRules
@@ -50,6 +50,6 @@ pub record IsSourceOf (policy : Parts) (a : ℕ) (executable : List Node) (sets_
   pub asks : sets_exec ≡ grants policy a a process setexec
   pub changes : sets_current ≡ grants policy a a process setcurrent
 
--- an entry point of a domain, which a type may execute, is an entry
-abbrev pub leads : Parts → ℕ → ℕ → ℕ → Bool
-leads policy a b entry = grants policy a a process setexec || is_default policy a b entry
+-- a type may change to another by executing a file, where there is an entry
+abbrev pub is_allowed : Parts → ℕ → ℕ → Bool
+is_allowed policy a b = are_two_types policy a b && grants policy a b process transition

@@ -1,11 +1,12 @@
 -- The types that a type may change to, and those that may change to it, as the graph finds them. It serves the code alone.
-use Rattle.std.specs.Prelude.{◌≡◌, ℕ, Bool, true, false, not, ◌&&◌, ◌||◌, ◌==◌, ◌↔◌, Option, Some, None, List}
-use Rattle.std.specs.List.{Contains, list_any, range_with_len}
+use Rattle.std.specs.Prelude.{◌≡◌, ◌≤◌, ℕ, Bool, true, false, not, ◌&&◌, ◌||◌, ◌==◌, ◌↔◌, Option, Some, None, List}
+use Rattle.std.specs.List.{All, Contains, filter, list_any, range_with_len}
 use Rattle.pol_bitmap.specs.Nodes.{has_bit}
 use Rattle.pol_file.specs.declared.Parts.{Parts}
+use Rattle.rule_ends.specs.ChosenRules.{ends_at}
 use Rattle.rule_ends.specs.PlainTypes.{are_two_types, is_type_value}
 use Rattle.dom_trans.specs.Grants.{grants, has_default, process, setexec, file, entrypoint}
-use Rattle.dom_trans.specs.Transitions.{is_entry, is_standard, is_transition}
+use Rattle.dom_trans.specs.Transitions.{is_default, is_entry, is_standard, is_transition}
 use Rattle.dom_trans.specs.Inner.DomainEdges.{Domains}
 
 -- there is an entry from the one type to the other
@@ -22,9 +23,21 @@ pub record AreEntered (policy : Parts) (a : ℕ) (types : List ℕ) : Type 0 whe
 pub record AreTargets (policy : Parts) (a : ℕ) (types : List ℕ) : Type 0 where
   pub each : (b : ℕ) → are_two_types policy a b ≡ true → Contains types b ↔ (is_transition policy a b ≡ true)
 
--- a type is the default of the rule of a number, and has an entry point
-abbrev pub is_default_at : Parts → ℕ → ℕ → ℕ → Bool
-is_default_at policy entry b number = has_default policy b number && (is_type_value policy b && grants policy b entry file entrypoint)
+-- values of types and attributes
+abbrev pub AreTypeValues : Parts → List ℕ → Type 0
+AreTypeValues policy values = All (λ value. (1 ≤ value) × (value ≤ policy.symbols.types.nprim)) values
+
+-- each rule has the default that a rule has, or none where that has none
+abbrev pub HaveDefaultOf : Parts → ℕ → List ℕ → Type 0
+HaveDefaultOf policy first numbers = All (λ number. (b : ℕ) → has_default policy b number ≡ has_default policy b first) numbers
+
+-- a process that starts by a rule, from one of some types, starts from an entry point of a domain
+abbrev pub starts_at_point : Parts → List ℕ → ℕ → ℕ → Bool
+starts_at_point policy types b number = list_any (λ entry. ends_at policy entry number && grants policy b entry file entrypoint) types
+
+-- so it does, and the domain is the default of the rule
+abbrev pub enters_by : Parts → List ℕ → ℕ → ℕ → Bool
+enters_by policy types b number = is_type_value policy b && has_default policy b number && starts_at_point policy types b number
 
 -- a value is the one that was found
 abbrev pub is_found : Option ℕ → ℕ → Bool
@@ -32,6 +45,10 @@ is_found None value = false
 is_found (Some found) value = found == value
 
 -- ---- to a type
+
+-- the types from which a process that the one type starts has the other as its default domain, rising
+unfoldable pub starts_to : Parts → ℕ → ℕ → List ℕ
+starts_to policy a b = filter (is_default policy a b) (range_with_len 1 policy.symbols.types.nprim)
 
 -- a type may ask for another domain, or there is an entry from it to the domain
 abbrev pub may_enter : Parts → ℕ → ℕ → Bool

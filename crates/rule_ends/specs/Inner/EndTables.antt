@@ -9,7 +9,7 @@ use Rattle.pol_rules.specs.StoredRules.{StoredRule}
 use Rattle.pol_expand.specs.PolicyMap.{has_flavour}
 use Rattle.value_groups.specs.Among.{is_among}
 use Rattle.value_groups.specs.Inner.Grouping.{AreGroupsOf, group_of}
-use Rattle.rule_ends.specs.ChosenRules.{holds_type, rule_passes}
+use Rattle.rule_ends.specs.ChosenRules.{ends_at, holds_type, rule_passes}
 
 -- a value is that of a type or of an attribute
 pub record IsEnd (policy : Parts) (value : ℕ) : Type 0 where
@@ -40,7 +40,11 @@ rules_at rules places = map (slice_index rules) places
 abbrev pub rules_found : List ℕ → List ℕ → (ℕ → List ℕ) → List ℕ → List ℕ → List ℕ
 rules_found rules others groups from to = flat_map (λ end. rules_at rules (places_to others to (groups end))) from
 
--- whether there is one
+-- the rules that have one end among some values, group by group
+abbrev pub rules_under : List ℕ → (ℕ → List ℕ) → List ℕ → List ℕ
+rules_under rules groups from = flat_map (λ end. rules_at rules (groups end)) from
+
+-- whether there is a rule that has one end among some values and the other among others
 abbrev pub any_found : List ℕ → (ℕ → List ℕ) → List ℕ → List ℕ → Bool
 any_found others groups from to = list_any (λ end. list_any (λ place. is_among to (slice_index others place)) (groups end)) from
 
@@ -61,6 +65,13 @@ is_attribute_bit policy groups value bit = nat_lt bit policy.symbols.types.nprim
 -- a value expands to one of some types
 abbrev pub holds_any : Parts → List ℕ → ℕ → Bool
 holds_any policy types value = list_any (holds_type policy value) types
+
+-- ---- the targets of some rules
+
+-- These are types and attributes, and they expand to the types that the targets of some rules expand to.
+pub record AreTargetsOf (policy : Parts) (numbers ends : List ℕ) : Type 0 where
+  pub are : All (IsEnd policy) ends
+  pub each : (type : ℕ) → list_any (λ end. holds_type policy end type) ends ≡ list_any (ends_at policy type) numbers
 
 -- ---- the whole table
 
