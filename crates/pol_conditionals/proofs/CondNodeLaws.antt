@@ -8,7 +8,7 @@ use Rattle.pol_cursor.specs.Contexts.{records_after}
 use Rattle.pol_cursor.specs.Parts.{number, list_of, records_at, counted, spell_counted, CountedFits}
 use Rattle.pol_cursor.specs.References.{Placed, placed, without_places}
 use Rattle.pol_cursor.specs.Laws.{IsReadAgain, IsReadFromSpelling}
-use Rattle.pol_cursor.proofs.Laws.{Reads-done, Reads-part, Again-done, Again-part, Again-as, records_spelled, records_again, counted_spelled, counted_again}
+use Rattle.pol_cursor.proofs.Laws.{Reads-done, Reads-part, Again-done, Again-part, Again-as, counted_records_spelled, counted_records_again}
 use Rattle.pol_cursor.proofs.Lists.{records_unplaced}
 use Rattle.pol_expr.proofs.ConditionLaws.{condition_spelled, condition_again}
 use Rattle.pol_avtab.specs.AvRecord.{av_at, spell_av, AvFits}
@@ -19,10 +19,10 @@ use Rattle.pol_conditionals.specs.CondNodeList.{conditionals_at, plain_condition
 -- ---- conditional nodes
 
 conditional_rules_spelled : (version : ℕ) (count : Field) → IsReadFromSpelling (counted count (conditional_rules_at version)) (spell_counted spell_av) (CountedFits AvFits)
-conditional_rules_spelled version count = counted_spelled count (conditional_rules_at version) spell_av AvFits (records_spelled (av_at version None) spell_av AvFits (av_spelled version None))
+conditional_rules_spelled version count = counted_records_spelled count (av_at version None) spell_av AvFits (av_spelled version None)
 
 conditional_rules_again : (version : ℕ) (count : Field) → IsReadAgain (counted count (conditional_rules_at version)) (spell_counted spell_av) (CountedFits AvFits)
-conditional_rules_again version count = counted_again count (conditional_rules_at version) spell_av AvFits (records_again (av_at version None) spell_av AvFits (av_again version None))
+conditional_rules_again version count = counted_records_again count (av_at version None) spell_av AvFits (av_again version None)
 
 pub condnode_spelled : (version : ℕ) → IsReadFromSpelling (condnode_at version) spell_condnode CondNodeFits
 unfolding condnode_at
@@ -49,11 +49,11 @@ condnode_again version node fits =
 
 pub conditionals_spelled : (version : ℕ) → IsReadFromSpelling (plain_conditionals_at version) spell_conditionals ConditionalsFit
 unfolding plain_conditionals_at
-conditionals_spelled version = counted_spelled CONDLIST_COUNT (records_at (condnode_at version)) spell_condnode CondNodeFits (records_spelled (condnode_at version) spell_condnode CondNodeFits (condnode_spelled version))
+conditionals_spelled version = counted_records_spelled CONDLIST_COUNT (condnode_at version) spell_condnode CondNodeFits (condnode_spelled version)
 
 pub conditionals_again : (version : ℕ) → IsReadAgain (plain_conditionals_at version) spell_conditionals ConditionalsFit
 unfolding plain_conditionals_at
-conditionals_again version = counted_again CONDLIST_COUNT (records_at (condnode_at version)) spell_condnode CondNodeFits (records_again (condnode_at version) spell_condnode CondNodeFits (condnode_again version))
+conditionals_again version = counted_records_again CONDLIST_COUNT (condnode_at version) spell_condnode CondNodeFits (condnode_again version)
 
 pub conditionals_unplaced : (version : ℕ) (bytes : List ℕ) (place : ℕ) → without_places (conditionals_at version bytes place) ≡ plain_conditionals_at version bytes place
 unfolding conditionals_at plain_conditionals_at

@@ -78,12 +78,12 @@ module _ (bytes : List ℕ) (place j p : ℕ) (h : HasCondNode bytes place) wher
   node_rule : (branch : Bool) → j < length (branch_rules node branch) → p ≡ get_or (places_of (branch_rules node branch)) j 0 → HasAv bytes p × (slice_get (branch_rules node branch) j ≡ Some (record { place = p; value = av_in bytes p }))
   node_rule true lt at =
       let q = true_count_place bytes place in
-      let are = true_rules_are bytes place in
+      let are = true_rules_are bytes place h in
       let rule = run_rule bytes (q + 4) (num bytes q 4) j p h.1.1 (rw (← are) at lt) (rw (← are) at at) in
       (rule.0, rw (← are) rule.1)
   node_rule false lt at =
       let q = false_count_place bytes place in
-      let are = false_rules_are bytes place in
+      let are = false_rules_are bytes place h in
       let rule = run_rule bytes (q + 4) (num bytes q 4) j p h.2.1 (rw (← are) at lt) (rw (← are) at at) in
       (rule.0, rw (← are) rule.1)
 

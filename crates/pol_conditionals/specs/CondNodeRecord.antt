@@ -1,12 +1,12 @@
 -- Record 19: a conditional node, which is a condition and the rules that hold where it does and where it does not (libsepol's
 -- cond_read_node).
-use Rattle.std.specs.Prelude.{ℕ, ◌+◌, ◌*◌, ◌≤◌, Bool, true, false, Option, Some, None, List, [], ◌∷◌, ◌++◌, length, slice_get, if◌then◌else◌}
+use Rattle.std.specs.Prelude.{ℕ, ◌+◌, ◌*◌, ◌≤◌, Bool, true, false, Option, Some, None, List, [], ◌++◌, length, slice_get, if◌then◌else◌}
 use Rattle.std.specs.List.{flat_map}
 use Rattle.pol_fields.specs.declared.fields.TheConstants.{CONDNODE_NTRUE, CONDNODE_NFALSE}
 use Rattle.pol_cursor.specs.Outcome.{Reader, ◌>>=◌, done}
 use Rattle.pol_cursor.specs.Parts.{num, counted, records_at, spell_counted, CountedFits}
 use Rattle.pol_cursor.specs.References.{Placed, Reference, values_of}
-use Rattle.pol_cursor.specs.Runs.{run_in, run_end, HasRun}
+use Rattle.pol_cursor.specs.Runs.{run_in, run_end, HasRun, placed_from, length_together}
 use Rattle.pol_expr.specs.declared.condition_rec.ConditionRec.{ConditionRec}
 use Rattle.pol_expr.specs.ConditionRecord.{condition_at, spell_condition, ConditionFits, condition_in, condition_size, HasCondition, condition_references}
 use Rattle.pol_avtab.specs.declared.AvRec.{AvRec}
@@ -72,15 +72,9 @@ HasCondNode bytes place = HasCondition bytes place × HasRules bytes (true_count
 
 -- ---- its parts, with their places
 
--- rules that stand one behind the other from a place on
-unfoldable pub placed_rules : ℕ → List AvRec → List (Placed AvRec)
-placed_rules place [] = []
-placed_rules place (av ∷ avs) = record { place = place; value = av } ∷ placed_rules (place + av_length av.specified) avs
-
--- how many bytes they take
-unfoldable pub rules_length : List AvRec → ℕ
-rules_length [] = 0
-rules_length (av ∷ avs) = av_length av.specified + rules_length avs
+-- how many bytes a rule takes
+abbrev pub rule_length : AvRec → ℕ
+rule_length av = av_length av.specified
 
 abbrev pub node_condition : Placed CondNodeRec → Placed ConditionRec
 node_condition node = record { place = node.place; value = node.value.condition }
@@ -90,11 +84,11 @@ abbrev pub true_place : Placed CondNodeRec → ℕ
 true_place node = node.place + 12 + 8 * length node.value.condition.items
 
 abbrev pub false_place : Placed CondNodeRec → ℕ
-false_place node = true_place node + rules_length node.value.true_rules + 4
+false_place node = true_place node + length_together rule_length node.value.true_rules + 4
 
 -- the rules that hold where its condition is true, or where it is false
 abbrev pub branch_rules : Placed CondNodeRec → Bool → List (Placed AvRec)
-branch_rules node branch = if branch then placed_rules (true_place node) node.value.true_rules else placed_rules (false_place node) node.value.false_rules
+branch_rules node branch = if branch then placed_from rule_length (true_place node) node.value.true_rules else placed_from rule_length (false_place node) node.value.false_rules
 
 -- those of the node of that number
 abbrev pub rules_of_branch : List (Placed CondNodeRec) → ℕ → Bool → List (Placed AvRec)

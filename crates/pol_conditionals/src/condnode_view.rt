@@ -100,7 +100,7 @@ impl<'a> CondNodeView<'a> {
     }
 
     /// The node, owned.
-    #[tactic(auto, using(crate::proofs::RulePlaces::values_placed))]
+    #[tactic(auto, using(pol_cursor::proofs::PlacedRuns::values_placed))]
     pub fn rec(&self, alloc: Global) -> Result<CondNodeRec, AllocError>
         ensures { IfOk result (λ node. node ≡ self.now.value) }
     {

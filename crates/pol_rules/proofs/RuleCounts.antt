@@ -9,6 +9,7 @@ use Rattle.pol_fields.specs.declared.fields.TheConstants.{CONDNODE_NTRUE, CONDNO
 use Rattle.pol_cursor.specs.Outcome.{Got, Reader, ◌>>=◌, done}
 use Rattle.pol_cursor.specs.Parts.{end_at, counted, records_at}
 use Rattle.pol_cursor.specs.References.{Placed, placed}
+use Rattle.pol_cursor.specs.Runs.{placed_from}
 use Rattle.pol_cursor.proofs.Laws.{and_then_got}
 use Rattle.pol_bitmap.specs.Nodes.{bits_of}
 use Rattle.pol_mls.specs.RangeRecord.{range_at}
@@ -18,10 +19,10 @@ use Rattle.pol_symbols.specs.declared.Symbols.{Symbols}
 use Rattle.pol_avtab.specs.declared.AvKey.{AvKey}
 use Rattle.pol_avtab.specs.declared.AvRec.{AvRec}
 use Rattle.pol_conditionals.specs.declared.CondNodeRec.{CondNodeRec}
-use Rattle.pol_avtab.specs.AvRecord.{is_extended, av_length, extended_at, data_at, part_at, av_at}
+use Rattle.pol_avtab.specs.AvRecord.{is_extended, extended_at, data_at, part_at, av_at}
 use Rattle.pol_avtab.specs.AvTables.{rule_at, after_rule, no_rules, placed_rules_at, table_at as rule_table_at}
 use Rattle.pol_conditionals.specs.CondNodeList.{conditionals_at}
-use Rattle.pol_conditionals.specs.CondNodeRecord.{condnode_at, placed_rules, rules_of_branch as access_vectors_of, true_place, false_place}
+use Rattle.pol_conditionals.specs.CondNodeRecord.{condnode_at, rule_length, rules_of_branch as access_vectors_of, true_place, false_place}
 use Rattle.pol_trans.specs.declared.NameDatumRec.{NameDatumRec}
 use Rattle.pol_trans.specs.declared.NameGroupRec.{NameGroupRec}
 use Rattle.pol_trans.specs.declared.NameTrans.TheVariants.{Entries, Groups}
@@ -122,10 +123,10 @@ room-conditionals version = room-counted _ (λ node. node_room node.value) (room
 
 -- so many rules stand under the nodes
 
-placed_length : (place : ℕ) (avs : List AvRec) → length (placed_rules place avs) ≡ length avs
-unfolding placed_rules
+placed_length : (place : ℕ) (avs : List AvRec) → length (placed_from rule_length place avs) ≡ length avs
+unfolding placed_from
 placed_length place [] = refl
-placed_length place (av ∷ avs) = ap suc (placed_length (place + av_length av.specified) avs)
+placed_length place (av ∷ avs) = ap suc (placed_length (place + rule_length av) avs)
 
 module _ (nodes : List (Placed CondNodeRec)) where
   rules_at_node : (i : ℕ) (node : Placed CondNodeRec) → slice_get nodes i ≡ Some node → 3 * length (rules_of_node nodes i) ≡ node_room node.value

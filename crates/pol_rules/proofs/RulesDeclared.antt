@@ -19,8 +19,8 @@ use Rattle.pol_avtab.specs.declared.AvPart.TheVariants.{Data, Extended}
 use Rattle.pol_conditionals.specs.declared.CondNodeRec.{CondNodeRec}
 use Rattle.pol_avtab.specs.AvKeys.{kind_of}
 use Rattle.pol_avtab.specs.XPerms.{shown_mask}
-use Rattle.pol_avtab.specs.AvRecord.{av_length, is_default, part_references, av_references}
-use Rattle.pol_conditionals.specs.CondNodeRecord.{placed_rules, node_condition, true_place, false_place, branch_rules, condnode_references, rules_of_branch as access_vectors_of}
+use Rattle.pol_avtab.specs.AvRecord.{is_default, part_references, av_references}
+use Rattle.pol_conditionals.specs.CondNodeRecord.{rule_length, node_condition, true_place, false_place, branch_rules, condnode_references, rules_of_branch as access_vectors_of}
 use Rattle.pol_cursor.specs.Runs.{placed_from}
 use Rattle.pol_trans.specs.declared.RoleTransRec.{RoleTransRec}
 use Rattle.pol_trans.specs.declared.RoleAllowRec.{RoleAllowRec}
@@ -173,10 +173,10 @@ module _ (policy : Parts) where
 
   -- ---- conditional nodes
 
-  placed_right : (place : ℕ) (avs : List AvRec) → All HasRightPart avs → All (λ av. HasRightPart av.value) (placed_rules place avs)
-  unfolding placed_rules
+  placed_right : (place : ℕ) (avs : List AvRec) → All HasRightPart avs → All (λ av. HasRightPart av.value) (placed_from rule_length place avs)
+  unfolding placed_from
   placed_right place [] h = All-nil (λ (av : Placed AvRec). HasRightPart av.value)
-  placed_right place (av ∷ avs) h = All-cons (λ (av : Placed AvRec). HasRightPart av.value) (record { place = place; value = av }) (placed_rules (place + av_length av.specified) avs) (h 0 av (omega arith)) (placed_right (place + av_length av.specified) avs (λ k d lt. h (suc k) d (omega (arith, lt))))
+  placed_right place (av ∷ avs) h = All-cons (λ (av : Placed AvRec). HasRightPart av.value) (record { place = place; value = av }) (placed_from rule_length (place + rule_length av) avs) (h 0 av (omega arith)) (placed_right (place + rule_length av) avs (λ k d lt. h (suc k) d (omega (arith, lt))))
 
   abbrev nodes : List (Placed CondNodeRec)
   nodes = policy.rules.conditionals
