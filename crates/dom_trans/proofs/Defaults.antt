@@ -22,7 +22,7 @@ use Rattle.rule_ends.specs.PlainTypes.{is_type_value}
 use Rattle.rule_ends.proofs.Anys.{any_agree, any_gives, any_from, filter_agree, or_assoc, or_false}
 use Rattle.rule_ends.proofs.ByOneEnd.{joins_by_ends}
 use Rattle.rule_ends.proofs.Ends.{passes_within}
-use Rattle.dom_trans.specs.Grants.{counts, rules_that, sets_default, granting_rules, grants, default_rules, has_default, part_has_default, process, file, entrypoint}
+use Rattle.dom_trans.specs.Grants.{rules_that, sets_default, granting_rules, grants, default_rules, has_default, part_has_default, process, file, entrypoint}
 use Rattle.dom_trans.specs.Transitions.{is_default}
 use Rattle.dom_trans.specs.Inner.Targets.{AreTypeValues, HaveDefaultOf, enters_by, starts_at_point, starts_to}
 
@@ -47,7 +47,7 @@ default_rule_below : (policy : Parts) (number : ℕ) → Contains (default_rules
 unfolding rules_that
 default_rule_below policy number there =
     let count = length (stored_rules policy) in
-    let h = kept (rule_passes policy (λ (r : StoredRule). counts r && sets_default (value_in policy.symbols Classes process) r)) (range_with_len 0 count) number there in
+    let h = kept (rule_passes policy (sets_default (value_in policy.symbols Classes process))) (range_with_len 0 count) number there in
     let w = All-contains (λ (b : ℕ). (0 ≤ b) × (b < 0 + count)) (range_with_len 0 count) number (range_holds 0 count) h.0 in
     omega (arith, w.1)
 

@@ -1,8 +1,7 @@
 -- The rules that are kept, as one pass over all rules finds them.
 use Rattle.std.proofs.Common.{◌≡◌, ℕ, ◌+◌, ◌<◌, ◌≤◌, ◌^◌, Bool, true, false, cond, List, [], ◌∷◌, ◌++◌, Option, Some, None, length, slice_get, refl, sym, ap, subst, ◌∙◌, arith}
-use Rattle.std.specs.Prelude.{◌&&◌}
 use Rattle.std.specs.List.{All, filter, range_with_len}
-use Rattle.std.proofs.lemmas.Bool.{false≢true, and_parts}
+use Rattle.std.proofs.lemmas.Bool.{false≢true}
 use Rattle.std.proofs.lemmas.List.Elements.{All-weaker, filter_passes}
 use Rattle.std.proofs.lemmas.List.FromFn.{length-range_with_len}
 use Rattle.pol_file.specs.declared.Parts.{Parts}
@@ -15,17 +14,17 @@ use Rattle.rule_ends.specs.ChosenRules.{passes, rule_passes, has_type_ends, is_b
 use Rattle.dom_trans.specs.declared.permission.Permission.{Permission}
 use Rattle.dom_trans.specs.declared.keeping.Wanted.{Wanted}
 use Rattle.dom_trans.specs.declared.keeping.Kept.{Kept}
-use Rattle.dom_trans.specs.Grants.{counts, rules_that, part_gives, gives, kind_sets_default, sets_default}
+use Rattle.dom_trans.specs.Grants.{rules_that, part_gives, gives, kind_sets_default, sets_default}
 use Rattle.dom_trans.specs.Inner.Keeping.{kept_of, AreKept, GainsWhere, AddsRule}
 use Rattle.dom_trans.specs.Inner.RuleLists.{HaveTypeEnds}
 
 -- one rule more
-more : (policy : Parts) (test : StoredRule → Bool) (n : ℕ) (rule : StoredRule) (old new : List ℕ) → slice_get (stored_rules policy) n ≡ Some rule → old ≡ kept_of policy n test → GainsWhere n (counts rule && test rule) old new → new ≡ kept_of policy (n + 1) test
+more : (policy : Parts) (test : StoredRule → Bool) (n : ℕ) (rule : StoredRule) (old new : List ℕ) → slice_get (stored_rules policy) n ≡ Some rule → old ≡ kept_of policy n test → GainsWhere n (test rule) old new → new ≡ kept_of policy (n + 1) test
 more policy test n rule old new at was gained =
-    let p = rule_passes policy (λ (r : StoredRule). counts r && test r) in
+    let p = rule_passes policy test in
     gained
-    ∙ ap (λ (xs : List ℕ). xs ++ cond (counts rule && test rule) (n ∷ []) []) was
-    ∙ ap (λ (o : Option StoredRule). kept_of policy n test ++ cond (passes (λ (r : StoredRule). counts r && test r) o) (n ∷ []) []) (sym at)
+    ∙ ap (λ (xs : List ℕ). xs ++ cond (test rule) (n ∷ []) []) was
+    ∙ ap (λ (o : Option StoredRule). kept_of policy n test ++ cond (passes test o) (n ∷ []) []) (sym at)
     ∙ sym (filter_range_one p 0 n n (omega arith))
 
 pub kept_more : (policy : Parts) (wanted : Wanted) (n : ℕ) (rule : StoredRule) (old new : Kept) → slice_get (stored_rules policy) n ≡ Some rule → AreKept policy wanted n old → AddsRule wanted n rule old new → AreKept policy wanted (n + 1) new
@@ -58,13 +57,13 @@ defaults_types class rule e = kind_is_transition rule.kind rule.name class rule.
 
 pub kept_types : (policy : Parts) (n : ℕ) (test : StoredRule → Bool) (numbers : List ℕ) → ((rule : StoredRule) → test rule ≡ true → has_type_ends rule.kind ≡ true) → numbers ≡ kept_of policy n test → All (λ number. is_between_types policy number ≡ true) numbers
 kept_types policy n test numbers types is =
-    let p = rule_passes policy (λ (r : StoredRule). counts r && test r) in
+    let p = rule_passes policy test in
     subst (λ (xs : List ℕ). All (λ number. is_between_types policy number ≡ true) xs) (sym is)
     (All-weaker (λ number. p number ≡ true) (λ number. is_between_types policy number ≡ true) (λ number e. go (slice_get (stored_rules policy) number) e) (filter p (range_with_len 0 n)) (filter_passes p (range_with_len 0 n)))
   where
-    go : (o : Option StoredRule) → passes (λ (r : StoredRule). counts r && test r) o ≡ true → passes (λ (r : StoredRule). has_type_ends r.kind) o ≡ true
+    go : (o : Option StoredRule) → passes test o ≡ true → passes (λ (r : StoredRule). has_type_ends r.kind) o ≡ true
     go None e = absurd (false≢true e)
-    go (Some rule) e = types rule (and_parts (counts rule) (test rule) e).1
+    go (Some rule) e = types rule e
 
 -- ---- they are few
 
@@ -78,7 +77,7 @@ filter_short p (x ∷ xs) = go (p x) (filter_short p xs)
 
 pub kept_few : (policy : Parts) (n : ℕ) (test : StoredRule → Bool) (numbers : List ℕ) → n ≤ 400000000 → numbers ≡ kept_of policy n test → length numbers < 2 ^ 32
 kept_few policy n test numbers few is =
-    let p = rule_passes policy (λ (r : StoredRule). counts r && test r) in
+    let p = rule_passes policy test in
     omega (arith, few, ap (length {A = ℕ}) is, filter_short p (range_with_len 0 n), length-range_with_len 0 n)
 
 pub kept_ends : (policy : Parts) (test : StoredRule → Bool) (numbers : List ℕ) → ((rule : StoredRule) → test rule ≡ true → has_type_ends rule.kind ≡ true) → length (stored_rules policy) ≤ 400000000 → numbers ≡ kept_of policy (length (stored_rules policy)) test

@@ -1,4 +1,5 @@
--- What rules grant to types, by the names of classes and permissions, as the analysis of domain transitions of SETools asks for it.
+-- What rules grant to types, by the names of classes and permissions, as the kernel asks for it when a process executes a file or
+-- changes its domain, and the analysis of domain transitions of SETools after it.
 use Rattle.std.specs.Prelude.{ℕ, Bool, true, false, ◌&&◌, ◌==◌, Option, Some, None, List, length, codes, option_map}
 use Rattle.std.specs.List.{filter, range_with_len}
 use Rattle.pol_fields.specs.declared.TableKind.TheVariants.{Classes}
@@ -14,15 +15,11 @@ use Rattle.pol_rules.specs.StoredRules.{StoredRule, stored_rules}
 use Rattle.rule_ends.specs.ChosenRules.{rule_passes, any_joins}
 use Rattle.dom_trans.specs.declared.permission.Permission.{Permission}
 
--- ---- the rules that count
+-- ---- the rules that pass a test
 
--- each rule counts, whatever condition it stands under
-abbrev pub counts : StoredRule → Bool
-counts rule = true
-
--- the numbers of the rules that count and pass a test, rising
+-- their numbers, rising, whatever conditions they stand under
 unfoldable pub rules_that : Parts → (StoredRule → Bool) → List ℕ
-rules_that policy test = filter (rule_passes policy (λ rule. counts rule && test rule)) (range_with_len 0 (length (stored_rules policy)))
+rules_that policy test = filter (rule_passes policy test) (range_with_len 0 (length (stored_rules policy)))
 
 -- ---- permissions by name
 
@@ -65,7 +62,8 @@ abbrev pub is_nameless : Option (List ℕ) → Bool
 is_nameless None = true
 is_nameless (Some name) = false
 
--- a type_transition without a file name, of a class, which the policy may lack
+-- a type_transition without a file name, of a class, which the policy may lack: the kernel asks for the domain of a new process without
+-- a name, where SETools takes rules with one too
 abbrev pub kind_sets_default : RuleKind → Option (List ℕ) → Option ℕ → ℕ → Bool
 kind_sets_default TypeTransition name class value = is_nameless name && is_value class value
 kind_sets_default kind name class value = false

@@ -1,4 +1,5 @@
--- Transitions from domain to domain, after the manual page of sedta of SETools.
+-- Transitions from domain to domain, after the manual page of sedta of SETools. The permissions setexec and setcurrent are those of a domain
+-- to itself, as the kernel asks, where SETools takes a rule of the domain to any type.
 use Rattle.std.specs.Prelude.{ℕ, Bool, ◌&&◌, ◌||◌, List}
 use Rattle.std.specs.List.{filter, list_any, range_with_len}
 use Rattle.pol_file.specs.declared.Parts.{Parts}

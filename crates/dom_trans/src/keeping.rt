@@ -5,7 +5,7 @@ ghost use Rattle.pol_file.specs.declared.Parts.{Parts};
 ghost use Rattle.dom_trans.specs.declared.keeping.Wanted.{Wanted};
 ghost use Rattle.dom_trans.specs.Inner.Keeping.{wanted_in, AreKept, AddsRule, GainsWhere};
 
-use crate::permission::{Permission, counts, gives, permission_named, sets_default};
+use crate::permission::{Permission, gives, permission_named, sets_default};
 use pol_fields::TableKind;
 use pol_read::{Policy, Rule};
 use pol_symbols::Symbols;
@@ -84,41 +84,20 @@ impl Kept {
     fn add(&mut self, wanted: &Wanted, number: u32, rule: &Rule<'_>) -> Result<(), AllocError>
         ensures { OnOk result (AddsRule wanted.now number (stored rule.now) self.old self.new) }
     {
-        let counts = counts(rule);
-        push_if(
-            &mut self.transition,
-            number,
-            counts && gives(wanted.transition, rule),
-        )?;
+        push_if(&mut self.transition, number, gives(wanted.transition, rule))?;
         push_if(
             &mut self.dyntransition,
             number,
-            counts && gives(wanted.dyntransition, rule),
+            gives(wanted.dyntransition, rule),
         )?;
-        push_if(
-            &mut self.setexec,
-            number,
-            counts && gives(wanted.setexec, rule),
-        )?;
-        push_if(
-            &mut self.setcurrent,
-            number,
-            counts && gives(wanted.setcurrent, rule),
-        )?;
-        push_if(
-            &mut self.execute,
-            number,
-            counts && gives(wanted.execute, rule),
-        )?;
-        push_if(
-            &mut self.entrypoint,
-            number,
-            counts && gives(wanted.entrypoint, rule),
-        )?;
+        push_if(&mut self.setexec, number, gives(wanted.setexec, rule))?;
+        push_if(&mut self.setcurrent, number, gives(wanted.setcurrent, rule))?;
+        push_if(&mut self.execute, number, gives(wanted.execute, rule))?;
+        push_if(&mut self.entrypoint, number, gives(wanted.entrypoint, rule))?;
         push_if(
             &mut self.defaults,
             number,
-            counts && sets_default(wanted.process, rule),
+            sets_default(wanted.process, rule),
         )
     }
 }

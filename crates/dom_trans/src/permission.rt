@@ -1,7 +1,7 @@
 ghost use Rattle.std.specs.Prelude.{◌≡◌, ◌==◌};
 ghost use Rattle.std.specs.Int.{bit_at};
 ghost use Rattle.pol_rules.specs.StoredRules.{stored};
-ghost use Rattle.dom_trans.specs.Grants.{counts, permission_named, gives, is_nameless, is_value, sets_default, part_has_default};
+ghost use Rattle.dom_trans.specs.Grants.{permission_named, gives, is_nameless, is_value, sets_default, part_has_default};
 
 use pol_fields::TableKind;
 use pol_read::{Rule, RuleKind, RulePart};
@@ -28,14 +28,8 @@ pub fn permission_named(symbols: &Symbols<'_>, class: &[u8], name: &[u8]) -> Opt
     Some(Permission { class, value })
 }
 
-/// Whether a rule counts: each does, whatever condition it stands under.
-pub fn counts(rule: &Rule<'_>) -> bool
-    ensures { result ≡ counts (stored rule.now) }
-{
-    true
-}
-
-/// Whether a rule gives a permission: it is an allow rule of the class, and the bit of the permission is set.
+/// Whether a rule gives a permission, whatever condition it stands under: it is an allow rule of the class, and the bit of the permission
+/// is set.
 pub fn gives(permission: Option<Permission>, rule: &Rule<'_>) -> bool
     ensures { result ≡ gives permission (stored rule.now) }
 {

@@ -8,7 +8,7 @@ use Rattle.pol_rules.specs.StoredRules.{StoredRule, stored_rules}
 use Rattle.rule_order.specs.ListedOrder.{AreRules}
 use Rattle.rule_order.proofs.OrderedRules.{all-rules, ordered-rules}
 use Rattle.rule_ends.specs.ChosenRules.{joins, rule_passes, rules_between}
-use Rattle.dom_trans.specs.Grants.{counts, default_rules, gives, granting_rules, has_default, permission_named, rules_that, process, file, transition, dyntransition, setexec, setcurrent, execute, entrypoint}
+use Rattle.dom_trans.specs.Grants.{default_rules, gives, granting_rules, has_default, permission_named, rules_that, process, file, transition, dyntransition, setexec, setcurrent, execute, entrypoint}
 use Rattle.dom_trans.specs.ReasonLists.{entry_reason, grants_between, reasons_between}
 use Rattle.dom_trans.specs.Transitions.{defaults_between, entries, is_dynamic, is_standard}
 use Rattle.se_dom.specs.Inner.ReasonRules.{AreEntryRules, AreReasonRules}
@@ -16,7 +16,7 @@ use Rattle.se_dom.specs.Inner.ReasonRules.{AreEntryRules, AreReasonRules}
 that-rules : (policy : Parts) (test : StoredRule → Bool) → AreRules policy (rules_that policy test)
 unfolding rules_that
 that-rules policy test =
-    All-filter (rule_passes policy (λ rule. counts rule && test rule)) (λ number. number < length (stored_rules policy)) (range_with_len 0 (length (stored_rules policy))) (all-rules policy)
+    All-filter (rule_passes policy test) (λ number. number < length (stored_rules policy)) (range_with_len 0 (length (stored_rules policy))) (all-rules policy)
 
 between-rules : (policy : Parts) (rules : List ℕ) (a b : ℕ) → AreRules policy rules → AreRules policy (rules_between policy rules a b)
 between-rules policy rules a b h = ordered-rules policy (filter (joins policy a b) rules) (All-filter (joins policy a b) (λ number. number < length (stored_rules policy)) rules h)

@@ -1,5 +1,5 @@
 -- The rules that a graph of transitions keeps. It serves the code alone.
-use Rattle.std.specs.Prelude.{◌≡◌, ℕ, Bool, ◌&&◌, List, [], ◌∷◌, ◌++◌, if◌then◌else◌}
+use Rattle.std.specs.Prelude.{◌≡◌, ℕ, Bool, List, [], ◌∷◌, ◌++◌, if◌then◌else◌}
 use Rattle.std.specs.List.{filter, range_with_len}
 use Rattle.pol_fields.specs.declared.TableKind.TheVariants.{Classes}
 use Rattle.pol_symbols.specs.declared.Symbols.{Symbols}
@@ -9,7 +9,7 @@ use Rattle.pol_rules.specs.StoredRules.{StoredRule}
 use Rattle.rule_ends.specs.ChosenRules.{rule_passes}
 use Rattle.dom_trans.specs.declared.keeping.Wanted.{Wanted}
 use Rattle.dom_trans.specs.declared.keeping.Kept.{Kept}
-use Rattle.dom_trans.specs.Grants.{counts, gives, sets_default, permission_named, process, file, transition, dyntransition, setexec, setcurrent, execute, entrypoint}
+use Rattle.dom_trans.specs.Grants.{gives, sets_default, permission_named, process, file, transition, dyntransition, setexec, setcurrent, execute, entrypoint}
 
 -- what rules are tested for: the permissions by name, and the class of processes
 abbrev pub wanted_in : Symbols → Wanted
@@ -23,9 +23,9 @@ wanted_in symbols = record {
   process = value_in symbols Classes process;
 }
 
--- those of the first n rules that count and pass a test
+-- those of the first n rules that pass a test
 abbrev pub kept_of : Parts → ℕ → (StoredRule → Bool) → List ℕ
-kept_of policy n test = filter (rule_passes policy (λ rule. counts rule && test rule)) (range_with_len 0 n)
+kept_of policy n test = filter (rule_passes policy test) (range_with_len 0 n)
 
 -- The numbers of those of the first n rules that give each permission, or set a default.
 pub record AreKept (policy : Parts) (wanted : Wanted) (n : ℕ) (kept : Kept) : Type 0 where
@@ -43,10 +43,10 @@ GainsWhere number passes old new = new ≡ old ++ (if passes then number ∷ [] 
 
 -- The number of a rule is added to each list whose test it passes.
 pub record AddsRule (wanted : Wanted) (number : ℕ) (rule : StoredRule) (old new : Kept) : Type 0 where
-  pub transition : GainsWhere number (counts rule && gives wanted.transition rule) old.transition.items new.transition.items
-  pub dyntransition : GainsWhere number (counts rule && gives wanted.dyntransition rule) old.dyntransition.items new.dyntransition.items
-  pub setexec : GainsWhere number (counts rule && gives wanted.setexec rule) old.setexec.items new.setexec.items
-  pub setcurrent : GainsWhere number (counts rule && gives wanted.setcurrent rule) old.setcurrent.items new.setcurrent.items
-  pub execute : GainsWhere number (counts rule && gives wanted.execute rule) old.execute.items new.execute.items
-  pub entrypoint : GainsWhere number (counts rule && gives wanted.entrypoint rule) old.entrypoint.items new.entrypoint.items
-  pub defaults : GainsWhere number (counts rule && sets_default wanted.process rule) old.defaults.items new.defaults.items
+  pub transition : GainsWhere number (gives wanted.transition rule) old.transition.items new.transition.items
+  pub dyntransition : GainsWhere number (gives wanted.dyntransition rule) old.dyntransition.items new.dyntransition.items
+  pub setexec : GainsWhere number (gives wanted.setexec rule) old.setexec.items new.setexec.items
+  pub setcurrent : GainsWhere number (gives wanted.setcurrent rule) old.setcurrent.items new.setcurrent.items
+  pub execute : GainsWhere number (gives wanted.execute rule) old.execute.items new.execute.items
+  pub entrypoint : GainsWhere number (gives wanted.entrypoint rule) old.entrypoint.items new.entrypoint.items
+  pub defaults : GainsWhere number (sets_default wanted.process rule) old.defaults.items new.defaults.items
