@@ -5,8 +5,16 @@
 //! that differs is printed, with what differs in it, and at last the number of those that do.
 #![tactic(auto)]
 
+mod failing;
+mod playing;
+mod rewriting;
+mod sweeping;
+
+use crate::playing::Contents;
+use crate::rewriting::rewrite;
+use crate::sweeping::case_differences;
 use anyhow::{Context, Result};
-use case_tables::{Case, Contents, Source, case_differences, cases_of, edited, rewrite};
+use case_tables::{Case, Source, cases_of, edited};
 use std::rt::Files;
 use std::{env, fs};
 

@@ -1,7 +1,6 @@
 // Whose call fails, and what a run is refused with then.
-use crate::answer::Answer;
-use crate::case::{Case, Orders, Outside};
-use crate::play::Contents;
+use crate::playing::Contents;
+use case_tables::{Answer, Case, Orders, Outside};
 
 /// Whose call fails.
 #[derive(Clone, Copy)]

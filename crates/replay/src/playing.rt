@@ -3,8 +3,7 @@ ghost use Rattle.std.specs.Prelude.{IfOk};
 ghost use Rattle.se_outside.specs.Outside.{NoneAsked};
 ghost use Rattle.se_outside.specs.MemFiles.{mem_state};
 
-use crate::answer::Answer;
-use crate::case::{Case, Orders, Outside};
+use case_tables::{Answer, Case, Orders, Outside};
 use se_outside::{MemFiles, MemPatterns, MemSink};
 use se_tools::run;
 use std::alloc::{AllocError, Global};
