@@ -14,7 +14,7 @@ use Rattle.pol_places.specs.declared.entry.Place.{Place}
 use Rattle.pol_places.specs.declared.entry.Single.{Single}
 use Rattle.pol_places.specs.Members.{Product, product_of, products_of, product_at, members_of, members}
 use Rattle.pol_places.specs.declared.row.Row.{Row}
-use Rattle.pol_places.specs.Inner.Standing.{members_before, IsAt, StandsAt, IsRowAt}
+use Rattle.pol_places.specs.Standing.{members_before, IsAt, StandsAt, IsRowAt}
 
 -- ---- pieces joined end to end
 

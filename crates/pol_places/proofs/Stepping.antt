@@ -5,7 +5,7 @@ use Rattle.std.proofs.lemmas.Option.{slice_get_within}
 use Rattle.pol_places.specs.declared.entry.Place.{Place}
 use Rattle.pol_places.specs.declared.entry.Single.{Single}
 use Rattle.pol_places.specs.Members.{Product, members}
-use Rattle.pol_places.specs.Inner.Standing.{StandsAt, NextGives, IsNext, IsListing}
+use Rattle.pol_places.specs.Standing.{StandsAt, NextGives, IsNext, IsListing}
 
 drop_here : {X : Type 0} (xs : List X) (k : ℕ) (x : X) → slice_get xs k ≡ Some x → drop k xs ≡ x ∷ drop (k + 1) xs
 drop_here [] k x e = absurd cc

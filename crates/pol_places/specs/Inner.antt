@@ -1,2 +1,1 @@
 pub mod SetCounts
-pub mod Standing

@@ -6,7 +6,7 @@ ghost use Rattle.pol_places.specs.declared.entry.Entry.{Entry};
 ghost use Rattle.pol_places.specs.declared.entry.Place.{Place};
 ghost use Rattle.pol_places.specs.declared.entry.Single.{Single};
 ghost use Rattle.pol_places.specs.Members.{Product, products_of, members, single_rules, AreOfRules};
-ghost use Rattle.pol_places.specs.Inner.Standing.{StandsAt, IsNext, IsListing};
+ghost use Rattle.pol_places.specs.Standing.{StandsAt, IsNext, IsListing};
 
 /// From a place on, step after step, `next` gives exactly the members that are left, in order: from the first place all of them.
 pub fn steps_give_all_members()

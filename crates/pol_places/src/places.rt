@@ -2,7 +2,7 @@ ghost use Rattle.std.specs.Prelude.{◌≡◌, ℕ, ◌+◌, ◌*◌, ◌^◌, �
 ghost use Rattle.pol_bitmap.specs.Nodes.{bits_of};
 ghost use Rattle.pol_bitmap.specs.Sets.{IsSet};
 ghost use Rattle.pol_places.specs.Members.{product_of, products_of, product_at, members_of, members, AreNumbers, HasNumbers};
-ghost use Rattle.pol_places.specs.Inner.Standing.{members_before, IsAt, StandsAt, NextGives, RowGives, HasRestOf};
+ghost use Rattle.pol_places.specs.Standing.{members_before, IsAt, StandsAt, NextGives, RowGives, HasRestOf};
 
 use crate::counted_sets::CountedSets;
 use crate::entry::{Entry, Place, Single};

@@ -11,7 +11,7 @@ use Rattle.pol_places.specs.declared.Place.{Place}
 use Rattle.pol_places.specs.declared.Row.{Row}
 use Rattle.pol_places.specs.declared.Single.{Single}
 use Rattle.pol_places.specs.Members.{Product, members, members_of}
-use Rattle.pol_places.specs.Inner.Standing.{IsRowAt, RowGives, StandsAt, member_in}
+use Rattle.pol_places.specs.Standing.{IsRowAt, RowGives, StandsAt, member_in}
 use Rattle.pol_places.proofs.Products.{get_dropped}
 use Rattle.pol_rules.specs.StoredRules.{stored_rules}
 use Rattle.rule_text.specs.Inner.RuleFrames.{frame_target}

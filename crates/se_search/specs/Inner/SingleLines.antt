@@ -4,7 +4,7 @@ use Rattle.std.specs.List.{All, concat}
 use Rattle.pol_file.specs.declared.Parts.{Parts}
 use Rattle.pol_places.specs.declared.Place.{Place}
 use Rattle.pol_places.specs.Members.{Product, members}
-use Rattle.pol_places.specs.Inner.Standing.{StandsAt, member_in}
+use Rattle.pol_places.specs.Standing.{StandsAt, member_in}
 use Rattle.pol_rules.specs.StoredRules.{stored_rules}
 use Rattle.se_search.specs.declared.row_lines.RowLines.{RowLines}
 use Rattle.se_search.specs.declared.single_lines.SingleLines.{SingleLines}

@@ -1,7 +1,7 @@
 use Rattle.std.proofs.Common.{inl, sym, subst, Some, None}
 use Rattle.pol_bitmap.specs.Nodes.{bits_of}
 use Rattle.pol_places.specs.Members.{product_at}
-use Rattle.pol_places.specs.Inner.Standing.{StandsAt}
+use Rattle.pol_places.specs.Standing.{StandsAt}
 use Rattle.pol_places.proofs.Products.{along, step_target, last_target}
 use Rattle.pol_places.proofs.places.Places.after.Goals as goal
 

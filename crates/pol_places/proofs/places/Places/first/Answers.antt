@@ -1,5 +1,5 @@
 use Rattle.std.proofs.Common.{subst}
-use Rattle.pol_places.specs.Inner.Standing.{StandsAt}
+use Rattle.pol_places.specs.Standing.{StandsAt}
 use Rattle.pol_places.proofs.Products.{from_start_none}
 use Rattle.pol_places.proofs.places.Places.first.Goals as goal
 

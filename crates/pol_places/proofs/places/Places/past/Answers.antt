@@ -1,5 +1,5 @@
 use Rattle.std.proofs.Common.{arith, refl, subst, inl, inr}
-use Rattle.pol_places.specs.Inner.Standing.{IsAt}
+use Rattle.pol_places.specs.Standing.{IsAt}
 use Rattle.pol_places.proofs.Products.{size_at, end_at, passes_one, stops_in, stops_at_end}
 use Rattle.pol_places.proofs.places.Places.past.Goals as goal
 
