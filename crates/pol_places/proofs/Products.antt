@@ -104,9 +104,6 @@ member_is ps place k at =
 pub length_products : (entries : List Entry) (sets : List (List Node)) → length (products_of entries sets) ≡ length entries
 length_products entries sets = length-map entries _
 
-pub product_is : (entries : List Entry) (sets : List (List Node)) (i : ℕ) (e : Entry) → slice_get entries i ≡ Some e → product_at (products_of entries sets) i ≡ product_of sets e
-product_is entries sets i e is = get_or-map (product_of sets) entries i e none (slice_get_within entries i e is) ∙ ap (product_of sets) (get_or_from_slice_get entries i e e is)
-
 -- An entry's members are as many as its sources times its targets.
 pub size_is : (p : Product) (m n : ℕ) → m ≡ length p.sources → n ≡ length p.targets → m * n ≡ length (members_of p)
 size_is p m n is-m is-n =

@@ -1,5 +1,5 @@
 -- Strictly rising lists, and the bits of a set by their index.
-use Rattle.std.proofs.Common.{◌≡◌, ℕ, zero, suc, ◌+◌, ◌-◌, ◌/◌, ◌%◌, ◌^◌, ◌<◌, ◌≤◌, List, [], ◌∷◌, length, length-drop, take, drop, get_or, refl, ap, sym, subst, ◌∙◌, arith, Option, Some, None, slice_get, IfSome, IfNone, inl, inr}
+use Rattle.std.proofs.Common.{◌≡◌, ℕ, zero, suc, ◌+◌, ◌-◌, ◌/◌, ◌%◌, ◌^◌, ◌<◌, ◌≤◌, List, [], ◌∷◌, length, take, drop, get_or, refl, ap, sym, subst, ◌∙◌, arith, Option, Some, None, slice_get, IfSome, IfNone, inl, inr}
 use Rattle.std.specs.Prelude.{slice_index}
 use Rattle.std.specs.Int.{trailing_zeros, w64}
 use Rattle.std.specs.List.{All, AllByRecursion, Contains}
@@ -210,9 +210,3 @@ bit_passed ns bit passed found left ahead rest (Some x) others both next other g
   where
     later : (i : ℕ) → passed ≤ i → (i ≡ passed → ⊥) → passed + 1 ≤ i
     later i le ne = omega (arith, le, ne)
-
--- none is left before it is met
-pub bit_not_there : (ns : List Node) (bit passed : ℕ) (left ahead : List ℕ) → BothLeft (bits_of ns) bit passed left ahead → ahead ≡ [] → (i : ℕ) → slice_get (bits_of ns) i ≡ Some bit → left ≡ drop i (bits_of ns)
-bit_not_there ns bit passed left ahead both none i is =
-    let long : length (drop passed (bits_of ns)) ≡ 0 = ap (λ (xs : List ℕ). length xs) (sym both.ahead_is ∙ none) in
-    absurd (omega (arith, both.before i is, slice_get_within (bits_of ns) i bit is, long, length-drop passed (bits_of ns)))
