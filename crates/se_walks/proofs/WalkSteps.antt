@@ -5,7 +5,7 @@ use Rattle.std.specs.List.{All}
 use Rattle.std.proofs.lemmas.List.{drop_all}
 use Rattle.std.proofs.lemmas.Option.{slice_get_within}
 use Rattle.se_items.specs.Paging.{most_items}
-use Rattle.walk_enum.specs.Inner.Moving.{Moves}
+use Rattle.walk_enum.specs.Moving.{Moves}
 use Rattle.se_walks.specs.Numbered.{numbered}
 
 -- an item of a list, and what stands after it, also of a front of the list

@@ -7,7 +7,7 @@ use Rattle.std.proofs.lemmas.List.{get_or_default}
 use Rattle.std.proofs.Math.ListN.{length-set}
 use Rattle.std.proofs.lemmas.Bool.{cases_order, cases_lt, eqb-true, and_parts, and_from, or_cases, or_left, or_right}
 use Rattle.walk_enum.specs.Walks.{walks_along, Goes}
-use Rattle.walk_enum.specs.Inner.Moving.{row_of, Leads}
+use Rattle.walk_enum.specs.Inner.Turns.{row_of, Leads}
 use Rattle.walk_enum.specs.Inner.Exploring.{Explores, IsAtEnd}
 use Rattle.walk_enum.specs.Inner.Cutting.{is_none, goes_on, leads_in, Cuts}
 use Rattle.walk_enum.proofs.Elements.{in_filter, from_filter, passes_filter, filter_same, flat_same, flat_kept}

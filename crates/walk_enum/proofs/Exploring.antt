@@ -9,7 +9,7 @@ use Rattle.std.proofs.Math.Seq.{get_or-append_seam}
 use Rattle.std.proofs.lemmas.List.{get_or-append-add}
 use Rattle.std.proofs.Math.ListN.{length-set}
 use Rattle.walk_enum.specs.Walks.{Goes}
-use Rattle.walk_enum.specs.Inner.Moving.{row_of}
+use Rattle.walk_enum.specs.Inner.Turns.{row_of}
 use Rattle.walk_enum.specs.Inner.Exploring.{some_count, Explores, Spreads, GoesOn, IsAtEnd}
 use Rattle.walk_enum.proofs.Elements.{not_in_nothing, in_cases, in_first}
 use Rattle.walk_enum.proofs.Along.{goes_on_by, goes_back}

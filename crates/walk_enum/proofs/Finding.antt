@@ -4,7 +4,7 @@ use Rattle.std.specs.Prelude.{slice_index}
 use Rattle.std.specs.List.{All, Contains, range_with_len}
 use Rattle.std.proofs.lemmas.List.Elements.{All-weaker, All-contains_itself, All-from_get_or}
 use Rattle.walk_enum.specs.Walks.{ends_of, walks_along, walks, least_walks, Goes}
-use Rattle.walk_enum.specs.Inner.Moving.{row_of, AreLayers}
+use Rattle.walk_enum.specs.Inner.Turns.{row_of, AreLayers}
 use Rattle.walk_enum.specs.Inner.Exploring.{Explores, IsAtEnd}
 use Rattle.walk_enum.specs.Inner.Cutting.{is_none, IsCut, Cuts}
 use Rattle.walk_enum.proofs.Ascending.{ascends_filter, ascends_range}

@@ -9,7 +9,7 @@ use Rattle.pol_bitmap.specs.Nodes.{bits_of}
 use Rattle.pol_bitmap.specs.Sets.{IsSet, IsCommon, ShareBit}
 use Rattle.pol_bitmap.proofs.BitLists.{bits_increasing}
 use Rattle.walk_enum.specs.declared.leading.Leading.{Leading}
-use Rattle.walk_enum.specs.Inner.Moving.{row_of}
+use Rattle.walk_enum.specs.Inner.Turns.{row_of}
 use Rattle.walk_enum.specs.Inner.Cutting.{is_none, goes_on, AreLeading}
 use Rattle.walk_enum.specs.Inner.Leading.{Notes, Gathers}
 use Rattle.walk_enum.proofs.Elements.{not_in_nothing, in_filter, from_filter, passes_filter, in_first}

@@ -2,7 +2,7 @@
 use Rattle.std.proofs.Common.{◌≡◌, ℕ, zero, suc, ◌+◌, ◌-◌, ◌<◌, List, [], length, get_or, refl, sym, ◌∙◌, arith, add-one, Some, slice_get}
 use Rattle.std.proofs.lemmas.List.{ext_get_or}
 use Rattle.std.proofs.lemmas.Option.{slice_get-get_or, get_or_from_slice_get}
-use Rattle.walk_enum.specs.Inner.Moving.{IsListing}
+use Rattle.walk_enum.specs.Moving.{IsListing}
 
 listed_at : (all seen : List (List ℕ)) → IsListing all seen → (i : ℕ) → i < length seen → slice_get all i ≡ slice_get seen i
 listed_at all seen h zero lt = h.first

@@ -6,7 +6,7 @@ use Rattle.std.proofs.lemmas.Bool.{cases_order}
 use Rattle.std.proofs.lemmas.List.{take-append-drop, drop_all, get_or_default}
 use Rattle.std.proofs.lemmas.List.Elements.{All-weaker, All-contains_itself}
 use Rattle.walk_enum.specs.Walks.{ends_of, AreEnds}
-use Rattle.walk_enum.specs.Inner.Moving.{Follows, Ends}
+use Rattle.walk_enum.specs.Inner.Turns.{Follows, Ends}
 use Rattle.walk_enum.proofs.Elements.{in_filter, from_filter, in_range, range_high, passes_filter}
 use Rattle.walk_enum.proofs.Ascending.{Ascends, increasing_at, same_numbers, ascends_filter, ascends_range}
 

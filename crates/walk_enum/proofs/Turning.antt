@@ -9,7 +9,8 @@ use Rattle.std.proofs.lemmas.Grind.{flat_map-append}
 use Rattle.std.proofs.lemmas.Option.{slice_get-get_or}
 use Rattle.std.proofs.Math.Seq.{get_or-append_seam}
 use Rattle.walk_enum.specs.Walks.{walks_along}
-use Rattle.walk_enum.specs.Inner.Moving.{Follows, Ends, Moves, Leads, IsTurn, first_along}
+use Rattle.walk_enum.specs.Moving.{Moves}
+use Rattle.walk_enum.specs.Inner.Turns.{Follows, Ends, Leads, IsTurn, first_along}
 use Rattle.walk_enum.proofs.Elements.{not_in_nothing, in_cases, in_first, in_rest}
 use Rattle.walk_enum.proofs.Ascending.{Ascends, Before, one_place}
 use Rattle.walk_enum.proofs.Along.{by_step, walk_parts, alone, starts, walk_length, walk_alone}

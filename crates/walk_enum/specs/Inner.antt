@@ -1,4 +1,4 @@
 pub mod Cutting
 pub mod Exploring
 pub mod Leading
-pub mod Moving
+pub mod Turns

@@ -1,7 +1,7 @@
 // One node after another in a row.
 ghost use Rattle.std.specs.Prelude.{◌≡◌, Contains, IfSome, IfNone};
 ghost use Rattle.std.specs.List.Sorted.{IsStrictlyIncreasing};
-ghost use Rattle.walk_enum.specs.Inner.Moving.{Follows, Ends};
+ghost use Rattle.walk_enum.specs.Inner.Turns.{Follows, Ends};
 
 /// The node after a node of a row.
 pub fn node_after(row: &[u32], node: u32) -> Option<u32>

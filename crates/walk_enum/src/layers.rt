@@ -1,6 +1,7 @@
 ghost use Rattle.std.specs.Prelude.{◌≡◌, ◌<◌, ◌+◌, All, Contains, IfOk, length, slice_get, Some};
 ghost use Rattle.walk_enum.specs.Walks.{walks_along};
-ghost use Rattle.walk_enum.specs.Inner.Moving.{row_of, AreLayers, Moves};
+ghost use Rattle.walk_enum.specs.Moving.{Moves};
+ghost use Rattle.walk_enum.specs.Inner.Turns.{row_of, AreLayers};
 
 use crate::table::Table;
 use crate::walk::Walk;
@@ -20,7 +21,7 @@ pub struct Layers {
 impl Model for Layers {
     ghost use Rattle.std.specs.Prelude.{ℕ, List};
     ghost use Rattle.walk_enum.specs.Walks.{walks_along};
-    ghost use Rattle.walk_enum.specs.Inner.Moving.{row_of, AreLayers};
+    ghost use Rattle.walk_enum.specs.Inner.Turns.{row_of, AreLayers};
 
     ghost Value = { List (List ℕ) };
 

@@ -1,6 +1,6 @@
 // Rows of nodes, and of numbers of nodes, looked up by a node.
 ghost use Rattle.std.specs.Prelude.{◌≡◌, ℕ, [], IfOk, length, slice_index};
-ghost use Rattle.walk_enum.specs.Inner.Moving.{row_of};
+ghost use Rattle.walk_enum.specs.Inner.Turns.{row_of};
 
 use std::alloc::{AllocError, Global};
 use std::marker::Model;

@@ -1,7 +1,8 @@
 // Walks read from a table of successors.
 ghost use Rattle.std.specs.Prelude.{◌≡◌, ◌≤◌, ◌<◌, ◌+◌, ◌-◌, ◌++◌, ℕ, Contains, IfOk, IfSome, IfNone, length, slice_index, slice_get, take};
 ghost use Rattle.walk_enum.specs.Walks.{walks_along};
-ghost use Rattle.walk_enum.specs.Inner.Moving.{row_of, AreLayers, IsTurn, Ends, Moves, Leads, first_along};
+ghost use Rattle.walk_enum.specs.Moving.{Moves};
+ghost use Rattle.walk_enum.specs.Inner.Turns.{row_of, AreLayers, IsTurn, Ends, Leads, first_along};
 
 use crate::after::node_after;
 use crate::row::{Row, nodes_at};

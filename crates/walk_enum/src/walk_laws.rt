@@ -5,7 +5,7 @@ ghost use Rattle.std.specs.Cmp.Lexicographic.{slice_cmp};
 ghost use Rattle.std.specs.Ordering.{nat_cmp};
 ghost use Rattle.std.specs.List.Sorted.{IsStrictlySortedBy};
 ghost use Rattle.walk_enum.specs.Walks.{least_walks};
-ghost use Rattle.walk_enum.specs.Inner.Moving.{IsListing};
+ghost use Rattle.walk_enum.specs.Moving.{IsListing};
 
 /// The walks that `first_walk` and then `next_walk` give, until it answers false, are all the walks in their order.
 pub fn listings_are_complete()

@@ -2,7 +2,7 @@
 use Rattle.std.specs.Prelude.{◌≡◌, ◌⊎◌, ◌≤◌, ◌<◌, ◌-◌, ℕ, Bool, true, false, ◌&&◌, ◌||◌, ◌==◌, not, List, [], ◌∷◌, length, slice_index, Contains}
 use Rattle.std.specs.List.{filter}
 use Rattle.walk_enum.specs.Walks.{walks_along}
-use Rattle.walk_enum.specs.Inner.Moving.{row_of}
+use Rattle.walk_enum.specs.Inner.Turns.{row_of}
 use Rattle.walk_enum.specs.Inner.Exploring.{Explores, IsAtEnd}
 
 abbrev pub is_none : {X : Type 0} → List X → Bool

@@ -1,7 +1,7 @@
 -- What a search from a node has found: how deep each node lies, and the successors of those that were asked.
 use Rattle.std.specs.Prelude.{◌≡◌, ◌≤◌, ◌<◌, ◌+◌, ◌⊎◌, ℕ, zero, suc, List, [], ◌∷◌, ◌++◌, length, Contains, slice_index}
 use Rattle.walk_enum.specs.Walks.{Goes}
-use Rattle.walk_enum.specs.Inner.Moving.{row_of}
+use Rattle.walk_enum.specs.Inner.Turns.{row_of}
 
 -- how many numbers are not zero
 abbrev pub some_count : List ℕ → ℕ

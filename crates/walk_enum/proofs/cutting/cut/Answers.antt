@@ -4,7 +4,7 @@ use Rattle.std.specs.List.{filter}
 use Rattle.std.proofs.lemmas.List.{get_or_default}
 use Rattle.std.proofs.Math.ListN.{length-set}
 use Rattle.pol_bitmap.specs.Nodes.{bits_of}
-use Rattle.walk_enum.specs.Inner.Moving.{row_of}
+use Rattle.walk_enum.specs.Inner.Turns.{row_of}
 use Rattle.walk_enum.specs.Inner.Cutting.{Cuts, AreLeading, goes_on}
 use Rattle.walk_enum.proofs.Cuts.{cuts_more}
 use Rattle.walk_enum.proofs.cutting.cut.Goals as goal

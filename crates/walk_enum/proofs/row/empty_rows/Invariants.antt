@@ -1,5 +1,5 @@
 use Rattle.std.proofs.Common.{◌≡◌, ℕ, [], length}
-use Rattle.walk_enum.specs.Inner.Moving.{row_of}
+use Rattle.walk_enum.specs.Inner.Turns.{row_of}
 use Rattle.walk_enum.proofs.row.empty_rows.Given as goal
 
 abbrev pub invariant-loop : goal.invariant-loop

@@ -1,7 +1,7 @@
 use Rattle.std.proofs.Common.{◌≡◌, ◌≤◌, ◌-◌, ℕ, List, arith, ap, sym, ◌∙◌, length, refl}
 use Rattle.std.specs.Prelude.{slice_index}
 use Rattle.walk_enum.specs.Walks.{ends_of, walks_along}
-use Rattle.walk_enum.specs.Inner.Moving.{row_of}
+use Rattle.walk_enum.specs.Inner.Turns.{row_of}
 use Rattle.walk_enum.specs.Inner.Exploring.{Explores, IsAtEnd}
 use Rattle.walk_enum.proofs.Exploring.{depth_small}
 use Rattle.walk_enum.proofs.Finding.{queue_fits, depths_few, answer_none, answer_some, answer_layers, answer_walks}

@@ -2,7 +2,7 @@ use Rattle.std.proofs.Common.{ℕ, List, length, arith, ap, ◌≡◌, ◌+◌}
 use Rattle.std.specs.List.{Contains}
 use Rattle.std.proofs.lemmas.List.Elements.{All-weaker, All-contains_itself}
 use Rattle.walk_enum.specs.Walks.{walks_along}
-use Rattle.walk_enum.specs.Inner.Moving.{row_of}
+use Rattle.walk_enum.specs.Inner.Turns.{row_of}
 use Rattle.walk_enum.proofs.Along.{walk_length}
 use Rattle.walk_enum.proofs.Turning.{begins}
 use Rattle.walk_enum.proofs.layers.Layers.length.Goals as goal

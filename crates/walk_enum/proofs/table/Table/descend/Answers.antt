@@ -1,6 +1,6 @@
 use Rattle.std.proofs.Common.{◌≡◌, ℕ, List, ap, ◌∙◌}
 use Rattle.std.specs.Prelude.{slice_index}
-use Rattle.walk_enum.specs.Inner.Moving.{row_of}
+use Rattle.walk_enum.specs.Inner.Turns.{row_of}
 use Rattle.walk_enum.proofs.Turning.{descends_more}
 use Rattle.walk_enum.proofs.table.Table.descend.Goals as goal
 

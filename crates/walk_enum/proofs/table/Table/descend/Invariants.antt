@@ -1,4 +1,4 @@
-use Rattle.walk_enum.specs.Inner.Moving.{row_of}
+use Rattle.walk_enum.specs.Inner.Turns.{row_of}
 use Rattle.walk_enum.proofs.Turning.{Descends}
 use Rattle.walk_enum.proofs.table.Table.descend.Given as goal
 

@@ -1,7 +1,7 @@
 use Rattle.std.proofs.Common.{◌≡◌, ◌+◌, ◌-◌, ℕ, List, ap, sym, ◌∙◌, arith, Some}
 use Rattle.std.specs.Prelude.{slice_index}
 use Rattle.std.proofs.lemmas.List.{get_or-replicate}
-use Rattle.walk_enum.specs.Inner.Moving.{row_of, first_along}
+use Rattle.walk_enum.specs.Inner.Turns.{row_of, first_along}
 use Rattle.walk_enum.proofs.Turning.{first_walk_is}
 use Rattle.walk_enum.proofs.table.Table.first.Goals as goal
 

@@ -3,7 +3,8 @@ use Rattle.std.specs.Prelude.{slice_index}
 use Rattle.std.proofs.lemmas.List.{take-set-le}
 use Rattle.std.proofs.Math.ListN.{length-set}
 use Rattle.walk_enum.specs.Walks.{walks_along}
-use Rattle.walk_enum.specs.Inner.Moving.{row_of, first_along, Leads, Moves}
+use Rattle.walk_enum.specs.Moving.{Moves}
+use Rattle.walk_enum.specs.Inner.Turns.{row_of, first_along, Leads}
 use Rattle.walk_enum.proofs.Ascending.{ascends_from_increasing}
 use Rattle.walk_enum.proofs.Along.{walk_length, walks_ascend}
 use Rattle.walk_enum.proofs.Turning.{turn_leads, turn_moves, moves_next, moves_last}

@@ -2,7 +2,7 @@ use Rattle.std.proofs.Common.{◌≡◌, ◌+◌, ◌-◌, ℕ, suc, List, drop,
 use Rattle.std.specs.Prelude.{slice_index}
 use Rattle.std.specs.List.{Contains}
 use Rattle.walk_enum.specs.Walks.{walks_along}
-use Rattle.walk_enum.specs.Inner.Moving.{row_of, Ends}
+use Rattle.walk_enum.specs.Inner.Turns.{row_of, Ends}
 use Rattle.walk_enum.proofs.Along.{starts, walk_length}
 use Rattle.walk_enum.proofs.Turning.{ends_at, ends_before, step_at}
 use Rattle.walk_enum.proofs.table.Table.turn_of.Goals as goal

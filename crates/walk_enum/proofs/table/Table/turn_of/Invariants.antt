@@ -1,7 +1,7 @@
 use Rattle.std.proofs.Common.{◌-◌, drop}
 use Rattle.std.specs.Prelude.{slice_index}
 use Rattle.walk_enum.specs.Walks.{walks_along}
-use Rattle.walk_enum.specs.Inner.Moving.{row_of, Ends}
+use Rattle.walk_enum.specs.Inner.Turns.{row_of, Ends}
 use Rattle.walk_enum.proofs.table.Table.turn_of.Given as goal
 
 abbrev pub invariant-loop-back : goal.invariant-loop-back
