@@ -41,13 +41,6 @@ row_cases rows i row b lt = elim (cases_order i b) [
   | inr (inr more) ↦ inr (let ne : b ≢ i = omega arith in get_or-set_other rows i b row [] ne)
 ]
 
-pub cuts_start : (next : ℕ → List ℕ) (to : ℕ) (depths queue : List ℕ) (kept : List (List ℕ)) (head place : ℕ) → head ≤ place → length kept ≡ length depths → ((b : ℕ) → row_of kept b ≡ []) → Cuts next to depths queue kept head place
-cuts_start next to depths queue kept head place at long empty = record {
-  long = long;
-  done = λ i le lt. absurd (omega (arith, le, lt, at));
-  none = λ b. inl (empty b);
-}
-
 module _ (next : ℕ → List ℕ) (nodes from to : ℕ) (depths queue : List ℕ) (rows : List (List ℕ)) (head : ℕ)
     (e : Explores next nodes from to depths queue rows head) (end : IsAtEnd depths queue head to) (found : 1 ≤ slice_index depths to) where
   less_deep : (i : ℕ) → i < head → slice_index depths (slice_index queue i) < slice_index depths to

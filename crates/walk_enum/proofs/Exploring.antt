@@ -201,10 +201,6 @@ module _ (next : ℕ → List ℕ) (nodes from to : ℕ) (depths queue : List �
     | inl some ↦ let p = at_place queue b (e.listed b some) in omega (arith, ap (slice_index depths) p.2, e.shallow p.0 p.1, p.1, queue_small)
   ]
 
-  -- the node to ask has a depth
-  pub head_depth : head < length queue → 1 ≤ slice_index depths (slice_index queue head)
-  head_depth lt = e.marked (slice_index queue head) (Contains-get_or queue head 0 lt)
-
   module _ (end : IsAtEnd depths queue head to) where
     pub was_asked : (b : ℕ) → 1 ≤ slice_index depths b → (slice_index depths to ≡ 0) ⊎ (slice_index depths b < slice_index depths to) → (i : ℕ) × (i < head) × (slice_index queue i ≡ b)
     was_asked b some less =

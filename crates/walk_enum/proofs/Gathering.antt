@@ -24,17 +24,6 @@ module _ (depths : List ℕ) (kept : List (List ℕ)) (to : ℕ) where
   abbrev pub Leads : Leading → Type 0
   Leads l = AreLeading depths kept to (bits_of l.set) l.others.items l.deepest
 
-  pub leads_start : (l : Leading) → ((b : ℕ) → row_of kept b ≡ []) → bits_of l.set ≡ to ∷ [] → l.others.items ≡ [] → Leads l
-  leads_start l empty is none = record {
-    target = subst (λ (xs : List ℕ). Contains xs to) (sym is) (in_first to []);
-    each = λ c some. absurd (by (row_of kept c) (empty c) some);
-    deep = λ c has. not_in_nothing c (subst (λ (xs : List ℕ). Contains xs c) none has);
-  }
-    where
-      by : (xs : List ℕ) → xs ≡ [] → is_none xs ≡ false → ⊥
-      by [] e some = absurd cc
-      by (x ∷ xs) e some = absurd cc
-
   pub leads_gathered : (old new : Leading) (depth : ℕ) → Leads old → Gathers old new depth → Leads new
   leads_gathered old new depth h g = record {
     target = g.set to h.target;

@@ -125,9 +125,6 @@ module _ (old now queue_old queue all left rest : List ℕ) (depth x : ℕ) (u :
   pub up_to_old : 1 ≤ slice_index now x → SpreadsUpTo old now queue_old queue all rest depth
   up_to_old some = record { done = u.done ++ x ∷ []; parts = parts_next; spreads = spreads_old old now queue_old queue u.done depth x u.spreads some }
 
-pub up_to_all : (old now queue_old queue all : List ℕ) (depth : ℕ) → SpreadsUpTo old now queue_old queue all [] depth → Spreads old now queue_old queue all depth
-up_to_all old now queue_old queue all depth u = subst (λ (l : List ℕ). Spreads old now queue_old queue l depth) (sym (u.parts ∙ append-nil u.done)) u.spreads
-
 -- ---- many nodes, without those that are known to have a depth
 
 pub fits_difference : (found known others : List ℕ) (n : ℕ) → IsDifference found known others → All (λ b. b < n) found → All (λ b. b < n) others

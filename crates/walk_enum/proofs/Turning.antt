@@ -2,7 +2,7 @@
 use Rattle.std.proofs.Common.{◌≡◌, inl, inr, ℕ, zero, suc, ◌+◌, ◌-◌, ◌<◌, true, false, List, [], ◌∷◌, ◌++◌, length, map, get_or-set_same, take, drop, get_or, set, refl, sym, ap, subst, ◌∙◌, arith, append_assoc, append-nil, add-one, drop-cons, length-append, Some, slice_get}
 use Rattle.std.specs.Prelude.{slice_index}
 use Rattle.std.specs.List.{Contains, flat_map}
-use Rattle.std.proofs.lemmas.List.{take_more, take-set-le, take_all, get_or_default, map-append}
+use Rattle.std.proofs.lemmas.List.{take_more, take-set-le, get_or_default, map-append}
 use Rattle.std.proofs.Math.ListN.{length-set}
 use Rattle.std.proofs.lemmas.List.Elements.{Contains-append_right}
 use Rattle.std.proofs.lemmas.Grind.{flat_map-append}
@@ -191,11 +191,6 @@ pub record Descends (next : ℕ → List ℕ) (b k from : ℕ) (old now : List �
   pub leads : Leads next b (slice_index now i) (k - i)
   pub is : take i now ++ first_along next (slice_index now i) (k - i) ≡ take from old ++ first_along next (slice_index old from) (k - from)
 
-pub descends_some : (next : ℕ → List ℕ) (b k from i : ℕ) (old now : List ℕ) → Descends next b k from old now i → i < k → 0 < length (next (slice_index now i))
-descends_some next b k from i old now d lt =
-    let e : k - i ≡ suc (k - (i + 1)) = omega (arith, lt) in
-    (subst (Leads next b (slice_index now i)) e d.leads).0
-
 pub descends_more : (next : ℕ → List ℕ) (b k from i : ℕ) (old now : List ℕ) → Descends next b k from old now i → i < k → Descends next b k from old (set now (i + 1) (slice_index (next (slice_index now i)) 0)) (i + 1)
 descends_more next b k from i old now d lt =
     let j = k - (i + 1) in
@@ -213,13 +208,6 @@ descends_more next b k from i old now d lt =
       is = ap (λ (u : List ℕ). u ++ first_along next (slice_index (set now (i + 1) c) (i + 1)) j) front ∙ ap (λ (x : ℕ). (take i now ++ slice_index now i ∷ []) ++ first_along next x j) here
           ∙ append_assoc (take i now) (slice_index now i ∷ []) (first_along next c j) ∙ was;
     }
-
-pub descends_end : (next : ℕ → List ℕ) (b k from i : ℕ) (old now : List ℕ) → Descends next b k from old now i → i ≡ k → now ≡ take from old ++ first_along next (slice_index old from) (k - from)
-descends_end next b k from i old now d at =
-    let none : k - i ≡ 0 = omega (arith, at) in
-    let was : take i now ++ (slice_index now i ∷ []) ≡ take from old ++ first_along next (slice_index old from) (k - from) =
-    subst (λ (n : ℕ). take i now ++ first_along next (slice_index now i) n ≡ take from old ++ first_along next (slice_index old from) (k - from)) none d.is in
-    sym (take_all (i + 1) now (omega (arith, d.long, at))) ∙ take_more now i 0 (omega (arith, d.long, at)) ∙ was
 
 -- ---- a turn as the code finds it
 
