@@ -59,11 +59,7 @@ contains_bits ns b = (has_bit-from_bits ns b, bits-from_has_bit ns b)
 pub tells_bit : (r : Bool) (ns : List Node) (b : ℕ) → r ≡ has_bit ns b → IsTrue r ↔ Contains (bits_of ns) b
 tells_bit r ns b e = (λ t. bits-from_has_bit ns b (sym e ∙ t), λ m. e ∙ has_bit-from_bits ns b m)
 
--- what holds of each bit that the nodes have holds of the list
-pub all_bits : (P : ℕ → Type 0) (ns : List Node) → ((b : ℕ) → has_bit ns b ≡ true → P b) → All P (bits_of ns)
-all_bits P ns each = All-weaker (Contains (bits_of ns)) P (λ b h. each b (has_bit-from_bits ns b h)) (bits_of ns) (All-contains_itself (bits_of ns))
-
--- the same of one node
+-- what holds of each bit that a node has holds of its list
 pub all_node_bits : (P : ℕ → Type 0) (n : Node) → ((b : ℕ) → node_has b n ≡ true → P b) → All P (node_bits n)
 all_node_bits P n each = All-weaker (Contains (node_bits n)) P (λ b h. each b (node_has-from_bits n b h)) (node_bits n) (All-contains_itself (node_bits n))
 

@@ -39,10 +39,6 @@ unfolding node_at
 node_again limit highbit left floor n fits =
     Again-as (Again-part _ (Again-number_if BITMAP_STARTBIT 4 n.start _ fits.0) (Again-part _ (Again-number_if BITMAP_MAP 8 n.map _ fits.1) (Again-done n))) (simp append-nil)
 
--- nodes that fit, the last of them ending at highbit
-abbrev AllEnd : ℕ → ℕ → List Node → Type 0
-AllEnd highbit count ns = (length ns ≡ count) × AllByRecursion NodeFits ns × (high_of ns ≡ highbit)
-
 high_of-cons : (highbit count : ℕ) (n : Node) (ns : List Node) → EndsAt highbit count n → AllByRecursion NodeFits ns × (length ns ≡ count) → ((m : ℕ) → count ≡ suc m → high_of ns ≡ highbit) → high_of (n ∷ ns) ≡ highbit
 high_of-cons highbit count n [] h all rest = h.1 (sym all.1)
 high_of-cons highbit count n (m ∷ ns) h all rest = rest (length ns) (sym all.1)

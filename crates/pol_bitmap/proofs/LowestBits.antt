@@ -36,9 +36,6 @@ filter_first p q a (suc n) found le lt none here gone same = elim (cases_order a
 abbrev pub without_lowest : ℕ → ℕ
 without_lowest m = bit_and m (bit_not w64 (1 * 2 ^ trailing_zeros w64 m % 2 ^ 64))
 
-pub lowest_within : (m : ℕ) → 0 < m → m < 2 ^ 64 → trailing_zeros w64 m < 64
-lowest_within m full fits = (bit_at-trailing_zeros w64 m full fits).0
-
 -- what is left is as it was, without that one
 lowest_gone : (m i : ℕ) → 0 < m → m < 2 ^ 64 → i ≤ trailing_zeros w64 m → bit_at (without_lowest m) i ≡ 0
 lowest_gone m i full fits le =

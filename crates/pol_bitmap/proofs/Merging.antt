@@ -33,9 +33,6 @@ pub record Merging (test : Bool → Bool → Bool) (first second out a b : List 
   pub right_above : IsRisingFrom end b
   pub bits : (bit : ℕ) → (has_bit out bit || test (has_bit a bit) (has_bit b bit)) ≡ test (has_bit first bit) (has_bit second bit)
 
-pub Merging-start : (test : Bool → Bool → Bool) (first second : List Node) → IsSet first → IsSet second → Merging test first second [] first second
-Merging-start test first second p q = record { end = 0; made = omega arith; fits = tt; left = p; right = q; left_above = p.0; right_above = q.0; bits = λ bit. refl }
-
 -- nodes that rise from a place have no bit below it
 pub rising_above : (base : ℕ) (ns : List Node) (bit : ℕ) → IsRisingFrom base ns → bit < base → has_bit ns bit ≡ false
 rising_above base [] bit h lt = refl

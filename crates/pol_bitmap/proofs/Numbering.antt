@@ -11,9 +11,6 @@ use Rattle.pol_bitmap.specs.declared.node.Node.{Node}
 use Rattle.pol_bitmap.specs.Sets.{nodes_eq}
 use Rattle.pol_bitmap.specs.Kept.{IsNumberOf}
 
-node_eq : Node → Node → Bool
-node_eq = eq_of_both (on (λ n. n.start) ◌==◌) (on (λ n. n.map) ◌==◌)
-
 both : (a b : Bool) → (a && b) ≡ true → (a ≡ true) × (b ≡ true)
 both true true h = (refl, refl)
 both true false h = absurd (cc h)
