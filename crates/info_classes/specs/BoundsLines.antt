@@ -2,8 +2,7 @@
 use Rattle.std.specs.Prelude.{ℕ, ◌==◌, not, Bool, List, ◌++◌, map, codes}
 use Rattle.std.specs.List.{filter}
 use Rattle.pol_fields.specs.declared.TableKind.TheVariants.{Types}
-use Rattle.pol_cursor.specs.References.{Placed}
-use Rattle.pol_mls.specs.MlsTexts.{name_of}
+use Rattle.pol_cursor.specs.References.{Placed, name_of}
 use Rattle.pol_datums.specs.declared.TypeRec.{TypeRec}
 use Rattle.pol_symbols.specs.declared.symbols.Symbols.{Symbols}
 use Rattle.pol_symbols.specs.PolicySymbols.{name_in}

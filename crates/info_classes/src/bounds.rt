@@ -6,9 +6,9 @@ ghost use Rattle.info_classes.specs.RecordOrder.{records_at, types_in_order};
 ghost use Rattle.info_classes.specs.BoundsLines.{is_bounded, bounds_line, bounds_listing};
 
 use info_lines::{EntryLines, EntryText, primary_order};
+use pol_cursor::push_name;
 use pol_datums::TypeView;
 use pol_fields::TableKind;
-use pol_mls::push_name;
 use pol_read::Policy;
 use pol_symbols::Symbols;
 use std::alloc::{AllocError, Global};

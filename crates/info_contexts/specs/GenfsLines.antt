@@ -2,8 +2,7 @@
 use Rattle.std.specs.Prelude.{ℕ, ◌==◌, Option, List, [], ◌++◌, map, codes, if◌then◌else◌}
 use Rattle.std.specs.List.{flat_map}
 use Rattle.pol_fields.specs.declared.table_kind.TableKind.TheVariants.{Classes}
-use Rattle.pol_cursor.specs.References.{Named, Placed}
-use Rattle.pol_mls.specs.MlsTexts.{name_of}
+use Rattle.pol_cursor.specs.References.{Named, Placed, name_of}
 use Rattle.pol_symbols.specs.declared.symbols.Symbols.{Symbols}
 use Rattle.pol_symbols.specs.PolicySymbols.{name_in}
 use Rattle.pol_texts.specs.NameTexts.{name_text}

@@ -5,9 +5,8 @@ ghost use Rattle.info_contexts.specs.GenfsLines.{place_text, class_word, genfs_l
 use crate::contexts::push_context;
 use crate::genfs_entry::GenfsEntry;
 use info_lines::EntryText;
-use pol_cursor::Names;
+use pol_cursor::{Names, push_name};
 use pol_fields::TableKind;
-use pol_mls::push_name;
 use pol_symbols::Symbols;
 use pol_texts::push_name_text;
 use std::alloc::AllocError;

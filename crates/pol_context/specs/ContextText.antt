@@ -1,8 +1,8 @@
 -- The text of a context: that of SETools, but for two categories in a row, which are c1,c2 here and c1.c2 there.
 use Rattle.std.specs.Prelude.{ℕ, List, ◌++◌, codes}
 use Rattle.pol_fields.specs.declared.table_kind.TableKind.TheVariants.{Users, Roles, Types}
-use Rattle.pol_cursor.specs.References.{Named}
-use Rattle.pol_mls.specs.MlsTexts.{name_of, range_text}
+use Rattle.pol_cursor.specs.References.{Named, name_of}
+use Rattle.pol_mls.specs.MlsTexts.{range_text}
 use Rattle.pol_context.specs.declared.context_rec.ContextRec.{ContextRec}
 
 -- USER:ROLE:TYPE:RANGE

@@ -2,9 +2,9 @@ ghost use Rattle.std.specs.Prelude.{◌≡◌, IfOk};
 ghost use Rattle.pol_context.specs.ContextText.{context_text};
 
 use crate::context_view::ContextView;
-use pol_cursor::Names;
+use pol_cursor::{Names, push_name};
 use pol_fields::TableKind;
-use pol_mls::{push_name, range_text};
+use pol_mls::range_text;
 use std::alloc::{AllocError, Global};
 
 /// The text of a context, `USER:ROLE:TYPE:RANGE`. A value without a name has the empty name.

@@ -1,6 +1,6 @@
 -- References of a record to the values of the symbol tables (libsepol's policydb_validate): each value that a record
 -- names has to be declared by a primary record of its table.
-use Rattle.std.specs.Prelude.{◌≡◌, ℕ, List, [], ◌∷◌, Option, Some, None, is_some, map, if◌then◌else◌, Result, Ok, Err}
+use Rattle.std.specs.Prelude.{◌≡◌, ℕ, List, [], ◌∷◌, Option, Some, None, is_some, unwrap_or, map, if◌then◌else◌, Result, Ok, Err}
 use Rattle.std.specs.List.{flat_map}
 use Rattle.pol_fields.specs.declared.field.Field.{Field}
 use Rattle.pol_fields.specs.declared.fault.Fault.{Fault}
@@ -35,6 +35,10 @@ pub record Reference : Type 0 where
 -- what names a value, by its table, where a primary record declares it
 abbrev pub Named : Type 0
 Named = TableKind → ℕ → Option (List ℕ)
+
+-- the name of a value, which is empty where no primary record declares it
+abbrev pub name_of : Named → TableKind → ℕ → List ℕ
+name_of named table value = unwrap_or (named table value) []
 
 -- the first reference whose value is not declared, as a fault at its field
 abbrev pub dangling_of : Named → List Reference → Option Fault

@@ -24,7 +24,7 @@ pub use file_name::{
     name_end, name_standing, read_name, read_name_bytes, read_name_length, write_name,
 };
 pub use mention::{Mention, first_dangling};
-pub use names::{Names, dangling};
+pub use names::{Names, dangling, push_name};
 pub use owned_list::{ByteList, NumberList, OwnedList};
 pub use part::{Part, Written, write_record};
 pub use parts::{array_in, push_number, refuse, string_in, u16_in, u32_in, u64_in};

@@ -1,8 +1,9 @@
-ghost use Rattle.std.specs.Prelude.{◌≡◌, ℕ, List, [], ◌∷◌, is_some, option_map};
+ghost use Rattle.std.specs.Prelude.{◌≡◌, ℕ, List, [], ◌∷◌, ◌++◌, is_some, option_map, OnOk};
 ghost use Rattle.std.specs.declared.option.Option.{Option};
-ghost use Rattle.pol_cursor.specs.References.{dangling_of};
+ghost use Rattle.pol_cursor.specs.References.{dangling_of, name_of};
 
 use pol_fields::{Cause, Fault, Field, TableKind};
+use std::alloc::AllocError;
 
 /// The names of the records that declare values.
 pub trait Names {
@@ -18,6 +19,21 @@ pub trait Names {
     /// Whether a primary record declares that value. No name is looked at.
     fn declares(&self, table: TableKind, value: u32) -> bool
         ensures { result ≡ is_some (named self.now table value) };
+}
+
+/// Appends the name of a value, or nothing where no primary record declares it.
+pub fn push_name<N: Names>(
+    out: &mut Vec<u8>,
+    table: TableKind,
+    value: u32,
+    names: &N,
+) -> Result<(), AllocError>
+    ensures { OnOk result (out.new.items ≡ out.old.items ++ name_of (N.named names.now) table value) }
+{
+    match names.name(table, value) {
+        Some(name) => out.extend_from_slice(name),
+        None => Ok(()),
+    }
 }
 
 /// The fault of a reference, where no primary record of its table declares the value that it names.

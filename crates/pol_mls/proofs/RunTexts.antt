@@ -5,10 +5,10 @@ use Rattle.std.specs.List.{range_with_len, join_by}
 use Rattle.std.proofs.lemmas.List.{append-nil}
 use Rattle.std.proofs.lemmas.List.FromFn.{length-range_with_len, get_or-range_with_len}
 use Rattle.std.proofs.lemmas.Bool.{le-leb}
-use Rattle.pol_cursor.specs.References.{Named}
+use Rattle.pol_cursor.specs.References.{Named, name_of}
 use Rattle.pol_fields.specs.declared.table_kind.TableKind.TheVariants.{Categories}
 use Rattle.pol_mls.specs.declared.run.Run.{Run}
-use Rattle.pol_mls.specs.MlsTexts.{name_of, runs_of, run_text, runs_text}
+use Rattle.pol_mls.specs.MlsTexts.{runs_of, run_text, runs_text}
 use Rattle.pol_mls.specs.Inner.Runs.{values_of}
 use Rattle.pol_mls.proofs.NumberRuns.{numbers_on, runs_alone, runs_cut, start}
 

@@ -1,16 +1,11 @@
 -- The texts of levels and ranges: those of SETools, but for two categories in a row, which are c1,c2 here and c1.c2 there.
-use Rattle.std.specs.Prelude.{ℕ, ◌+◌, ◌-◌, ◌^◌, ◌==◌, ◌&&◌, Bool, Option, Some, None, is_some, unwrap_or, List, [], ◌∷◌, ◌++◌, length, map, filter, get_or, codes, nat_le, nat_lt, bytes_eq, if◌then◌else◌}
+use Rattle.std.specs.Prelude.{ℕ, ◌+◌, ◌-◌, ◌^◌, ◌==◌, ◌&&◌, Bool, Option, Some, None, is_some, List, [], ◌∷◌, ◌++◌, length, map, filter, get_or, codes, nat_le, nat_lt, bytes_eq, if◌then◌else◌}
 use Rattle.std.specs.List.{join_by}
-use Rattle.pol_fields.specs.declared.table_kind.TableKind.{TableKind}
 use Rattle.pol_fields.specs.declared.table_kind.TableKind.TheVariants.{Levels, Categories}
-use Rattle.pol_cursor.specs.References.{Named}
+use Rattle.pol_cursor.specs.References.{Named, name_of}
 use Rattle.pol_bitmap.specs.Nodes.{bits_of}
 use Rattle.pol_mls.specs.declared.level_rec.LevelRec.{LevelRec}
 use Rattle.pol_mls.specs.declared.range_rec.RangeRec.{RangeRec}
-
--- the name of a value, which is empty where no primary record declares it
-abbrev pub name_of : Named → TableKind → ℕ → List ℕ
-name_of named table value = unwrap_or (named table value) []
 
 -- ---- the categories of a level
 

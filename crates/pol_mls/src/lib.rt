@@ -19,5 +19,4 @@ pub use pol_cursor::{write_record as write_level, write_record as write_range};
 pub use range_rec::{RangeRec, RangeRecList};
 pub use range_view::{RangeView, read_range};
 pub use record_laws::{levels_have_laws, ranges_have_laws};
-pub use run_text::push_name;
 pub use texts::{level_text, range_text};

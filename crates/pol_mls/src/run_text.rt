@@ -1,27 +1,13 @@
 ghost use Rattle.std.specs.Prelude.{◌≡◌, ◌∷◌, ◌++◌, ◌+◌, ℕ, List, Some, OnOk, IfOk};
 ghost use Rattle.pol_fields.specs.declared.table_kind.TableKind.TheVariants.{Categories};
-ghost use Rattle.pol_mls.specs.MlsTexts.{name_of, run_text, categories_of};
+ghost use Rattle.pol_cursor.specs.References.{name_of};
+ghost use Rattle.pol_mls.specs.MlsTexts.{run_text, categories_of};
 ghost use Rattle.pol_mls.specs.Inner.Runs.{values_of, text_left};
 
 use crate::run::Run;
-use pol_cursor::Names;
+use pol_cursor::{Names, push_name};
 use pol_fields::TableKind;
 use std::alloc::AllocError;
-
-/// Appends the name of a value, or nothing where no primary record declares it.
-pub fn push_name<N: Names>(
-    out: &mut Vec<u8>,
-    table: TableKind,
-    value: u32,
-    names: &N,
-) -> Result<(), AllocError>
-    ensures { OnOk result (out.new.items ≡ out.old.items ++ name_of (N.named names.now) table value) }
-{
-    match names.name(table, value) {
-        Some(name) => out.extend_from_slice(name),
-        None => Ok(()),
-    }
-}
 
 /// Appends a run.
 #[tactic(auto, using(crate::proofs::RunTexts::text_of_one, crate::proofs::RunTexts::text_of_two, crate::proofs::RunTexts::text_of_more))]

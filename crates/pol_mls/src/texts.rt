@@ -5,9 +5,9 @@ ghost use Rattle.pol_mls.specs.Inner.Runs.{text_left};
 
 use crate::range_view::RangeView;
 use crate::run::Run;
-use crate::run_text::{push_name, push_run, push_value};
+use crate::run_text::{push_run, push_value};
 use pol_bitmap::BitmapView;
-use pol_cursor::Names;
+use pol_cursor::{Names, push_name};
 use pol_fields::TableKind;
 use std::alloc::{AllocError, Global};
 

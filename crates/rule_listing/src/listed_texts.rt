@@ -11,7 +11,7 @@ use crate::kept_head::KeptHead;
 use crate::kept_texts::KeptTexts;
 use crate::listed_rule::ListedRule;
 use pol_avtab::AvView;
-use pol_mls::push_name;
+use pol_cursor::push_name;
 use pol_read::{Policy, Rule, RuleEnds, RuleKind, RulePart, vector_ends, vector_rule};
 use rule_text::{RuleTexts, push_class};
 use std::alloc::{AllocError, Global};

@@ -1,7 +1,7 @@
 -- A rule's line with its ends left open is its line between any two.
 use Rattle.std.proofs.Common.{◌≡◌, ℕ, Some, List, [], ◌++◌, slice_get, refl, append_assoc}
 use Rattle.std.specs.Prelude.{codes}
-use Rattle.pol_mls.specs.MlsTexts.{name_of}
+use Rattle.pol_cursor.specs.References.{name_of}
 use Rattle.pol_symbols.specs.PolicySymbols.{name_in}
 use Rattle.pol_symbols.specs.declared.Symbols.{Symbols}
 use Rattle.pol_file.specs.declared.Parts.{Parts}

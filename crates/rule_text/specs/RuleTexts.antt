@@ -2,7 +2,8 @@
 -- leaves open is this project's profile).
 use Rattle.std.specs.Prelude.{ℕ, Option, Some, None, List, [], ◌++◌, codes, slice_get, option_map}
 use Rattle.pol_fields.specs.declared.TableKind.TheVariants.{Classes}
-use Rattle.pol_mls.specs.MlsTexts.{name_of, range_text}
+use Rattle.pol_cursor.specs.References.{name_of}
+use Rattle.pol_mls.specs.MlsTexts.{range_text}
 use Rattle.pol_symbols.specs.PolicySymbols.{name_in, permissions_in_class}
 use Rattle.pol_symbols.specs.declared.Symbols.{Symbols}
 use Rattle.pol_texts.specs.NameTexts.{name_text}

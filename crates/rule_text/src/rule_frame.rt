@@ -4,7 +4,7 @@ ghost use Rattle.std.specs.Prelude.{◌≡◌, ◌++◌, OnOk};
 ghost use Rattle.rule_text.specs.Inner.RuleFrames.{frame_head, frame_target};
 
 use crate::rule_parts::push_head;
-use pol_mls::push_name;
+use pol_cursor::push_name;
 use pol_read::RuleKind;
 use pol_symbols::Symbols;
 use std::alloc::AllocError;

@@ -1,7 +1,8 @@
 //! The parts of a rule's text.
 
 ghost use Rattle.std.specs.Prelude.{◌≡◌, ◌++◌, OnOk, option_map};
-ghost use Rattle.pol_mls.specs.MlsTexts.{name_of, range_text};
+ghost use Rattle.pol_cursor.specs.References.{name_of};
+ghost use Rattle.pol_mls.specs.MlsTexts.{range_text};
 ghost use Rattle.pol_symbols.specs.PolicySymbols.{name_in, permissions_in_class};
 ghost use Rattle.pol_rules.specs.RuleOrder.{target_table};
 ghost use Rattle.rule_text.specs.Inner.ClassPermissions.{ShowsPart};
@@ -11,8 +12,9 @@ ghost use Rattle.rule_text.specs.RuleTexts.{keyword, class_text, part_text, file
 use crate::ioctl_texts::push_ioctl_text;
 use crate::shown_names::push_shown;
 use pol_commons::PermissionView;
+use pol_cursor::push_name;
 use pol_fields::TableKind;
-use pol_mls::{RangeView, push_name, range_text};
+use pol_mls::{RangeView, range_text};
 use pol_read::{Rule, RuleKind, RulePart};
 use pol_symbols::Symbols;
 use pol_texts::push_name_text;

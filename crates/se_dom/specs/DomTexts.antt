@@ -3,7 +3,7 @@ use Rattle.std.specs.Prelude.{ℕ, List, ◌++◌, codes}
 use Rattle.std.specs.List.{flat_map}
 use Rattle.pol_fields.specs.declared.TableKind.TheVariants.{Types}
 use Rattle.pol_file.specs.declared.Parts.{Parts}
-use Rattle.pol_mls.specs.MlsTexts.{name_of}
+use Rattle.pol_cursor.specs.References.{name_of}
 use Rattle.pol_symbols.specs.PolicySymbols.{name_in}
 use Rattle.dom_trans.specs.declared.EntryReason.{EntryReason}
 use Rattle.dom_trans.specs.declared.Reasons.{Reasons}

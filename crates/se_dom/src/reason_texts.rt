@@ -7,8 +7,8 @@ ghost use Rattle.se_dom.specs.Inner.ReasonRules.{AreEntryRules, AreReasonRules};
 ghost use Rattle.se_dom.specs.DomTexts.{entry_text, reason_line, reason_lines, reasons_text};
 
 use dom_trans::{EntryReason, Reasons};
+use pol_cursor::push_name;
 use pol_fields::TableKind;
-use pol_mls::push_name;
 use pol_symbols::Symbols;
 use rule_text::RuleTexts;
 use std::alloc::AllocError;

@@ -3,8 +3,8 @@ ghost use Rattle.std.specs.Prelude.{◌≡◌, ◌++◌, OnOk};
 ghost use Rattle.se_walks.specs.WalkTexts.{edge_text, ends_text};
 
 use crate::EdgeTexts;
+use pol_cursor::push_name;
 use pol_fields::TableKind;
-use pol_mls::push_name;
 use pol_symbols::Symbols;
 use std::alloc::AllocError;
 

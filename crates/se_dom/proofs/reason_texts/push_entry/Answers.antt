@@ -1,6 +1,6 @@
 use Rattle.std.proofs.Common.{◌≡◌, ◌∙◌, ◌++◌, List, ℕ, OnOk, ap, codes, subst}
 use Rattle.pol_fields.specs.declared.TableKind.TheVariants.{Types}
-use Rattle.pol_mls.specs.MlsTexts.{name_of}
+use Rattle.pol_cursor.specs.References.{name_of}
 use Rattle.pol_symbols.specs.PolicySymbols.{name_in}
 use Rattle.pol_symbols.specs.declared.Symbols.{Symbols}
 use Rattle.se_dom.specs.DomTexts.{entry_text, reason_lines}
