@@ -19,7 +19,7 @@ use Rattle.pol_symbols.specs.declared.symbols.RuleTables.{RuleTables}
 use Rattle.pol_symbols.specs.declared.symbols.OtherTables.{OtherTables}
 use Rattle.pol_symbols.specs.PolicySymbols.{roles_at, types_at, users_at, booleans_at, levels_at, categories_at, rule_tables_at, other_tables_at, symbols_at}
 use Rattle.pol_symbols.specs.Inner.UserFreshness.{user_is_fresh}
-use Rattle.info_lines.specs.Inner.ListedOnce.{IsListedOnce}
+use Rattle.info_lines.specs.ListedOnce.{IsListedOnce}
 use Rattle.info_lines.specs.NameOrder.{number_of_rank, primary_numbers}
 use Rattle.info_lines.proofs.ListedOnce.{AreDistinct, ranges_listed}
 use Rattle.info_lines.proofs.DistinctRecords.{table_distinct}

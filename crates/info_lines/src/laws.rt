@@ -5,7 +5,7 @@ ghost use Rattle.pol_cursor.specs.Outcome.{Got};
 ghost use Rattle.pol_fields.specs.declared.TableKind.{TableKind};
 ghost use Rattle.pol_symbols.specs.declared.symbols.Symbols.{Symbols};
 ghost use Rattle.pol_symbols.specs.PolicySymbols.{symbols_at};
-ghost use Rattle.info_lines.specs.Inner.ListedOnce.{IsListedOnce};
+ghost use Rattle.info_lines.specs.ListedOnce.{IsListedOnce};
 ghost use Rattle.info_lines.specs.NameOrder.{primary_numbers};
 
 /// The numbers in the order of the names are those of the primary records, each once, and their names rise in the order of their
