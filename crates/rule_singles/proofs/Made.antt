@@ -18,7 +18,7 @@ use Rattle.pol_rules.specs.StoredRules.{StoredRule, ends_of, stored_rules}
 use Rattle.rule_criteria.specs.declared.Criteria.{Criteria}
 use Rattle.rule_criteria.specs.declared.Criterion.{Criterion}
 use Rattle.rule_singles.specs.Inner.EndSets.{AreAsked, AreSetsOf, Grows, IsEntryOf, IsNumberIn, ends_left, leaves}
-use Rattle.rule_singles.specs.Singles.{ends_found, ends_of_rule, is_listed, listed_ends}
+use Rattle.rule_singles.specs.Singles.{ends_found, ends_of_rule, is_listed_end, listed_ends}
 use Rattle.rule_singles.proofs.DeclaredMembers.{members_are_declared}
 use Rattle.rule_singles.proofs.Pools.{bits_stay, longer}
 
@@ -29,11 +29,11 @@ filter_alike p q [] h = refl
 filter_alike p q (x ∷ xs) h = rw (All-head (λ (x : ℕ). p x ≡ q x) x xs h, filter_alike p q xs (All-tail (λ (x : ℕ). p x ≡ q x) x xs h)) refl
 
 module _ (policy : Parts) (criterion : Option Criterion) (left : Option (List Node)) (asked : AreAsked policy criterion left) (value : ℕ) where
-  types_alike : IsDeclaredIn policy.symbols tables.Types value → filter (leaves left) (expand policy value) ≡ filter (is_listed policy criterion) (expand policy value)
+  types_alike : IsDeclaredIn policy.symbols tables.Types value → filter (leaves left) (expand policy value) ≡ filter (is_listed_end policy criterion) (expand policy value)
   types_alike declared =
       let members = expand policy value in
-      filter_alike (leaves left) (is_listed policy criterion) members
-      (All-weaker (IsDeclaredIn policy.symbols tables.Types) (λ (type : ℕ). leaves left type ≡ is_listed policy criterion type) (λ type d. asked.each type d) members (members_are_declared policy value declared))
+      filter_alike (leaves left) (is_listed_end policy criterion) members
+      (All-weaker (IsDeclaredIn policy.symbols tables.Types) (λ (type : ℕ). leaves left type ≡ is_listed_end policy criterion type) (λ type d. asked.each type d) members (members_are_declared policy value declared))
 
   ends_alike : (table : TableKind) → IsDeclaredIn policy.symbols table value → ends_left policy left table value ≡ listed_ends policy criterion table value
   ends_alike tables.Types declared = types_alike declared

@@ -17,13 +17,13 @@ use Rattle.rule_query.specs.Ends.{meets_type}
 
 -- A type of an expansion is listed where a rule that names the type itself would meet the criterion of that end. Without a criterion, and
 -- with one that compares the stored end alone, each is.
-abbrev pub is_listed : Parts → Option Criterion → ℕ → Bool
-is_listed policy None type = true
-is_listed policy (Some criterion) type = is_direct criterion.mode || meets_type policy criterion type
+abbrev pub is_listed_end : Parts → Option Criterion → ℕ → Bool
+is_listed_end policy None type = true
+is_listed_end policy (Some criterion) type = is_direct criterion.mode || meets_type policy criterion type
 
 -- what an end of a table stands for, rising: a type or an attribute for the listed types that it expands to, and a role for itself
 abbrev pub listed_ends : Parts → Option Criterion → TableKind → ℕ → List ℕ
-listed_ends policy criterion Types value = filter (is_listed policy criterion) (expand policy value)
+listed_ends policy criterion Types value = filter (is_listed_end policy criterion) (expand policy value)
 listed_ends policy criterion other value = value ∷ []
 
 -- the sources and the targets of the rule of a number, and none where there is no rule

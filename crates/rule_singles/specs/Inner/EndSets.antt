@@ -13,7 +13,7 @@ use Rattle.pol_rules.specs.DeclaredRules.{IsDeclaredIn}
 use Rattle.rule_criteria.specs.Modes.{is_direct}
 use Rattle.rule_criteria.specs.declared.Criteria.{Criteria}
 use Rattle.rule_criteria.specs.declared.Criterion.{Criterion}
-use Rattle.rule_singles.specs.Singles.{ends_of_rule, is_listed}
+use Rattle.rule_singles.specs.Singles.{ends_of_rule, is_listed_end}
 
 -- a type is left by a set, and by none each is
 abbrev pub leaves : Option (List Node) → ℕ → Bool
@@ -27,7 +27,7 @@ types_left (Some criterion) met = if is_direct criterion.mode then None else met
 
 -- of the types that the policy declares those are left that a criterion lists
 pub record AreAsked (policy : Parts) (criterion : Option Criterion) (left : Option (List Node)) : Type 0 where
-  pub each : (type : ℕ) → IsDeclaredIn policy.symbols Types type → leaves left type ≡ is_listed policy criterion type
+  pub each : (type : ℕ) → IsDeclaredIn policy.symbols Types type → leaves left type ≡ is_listed_end policy criterion type
 
 -- what an end of a table stands for, by what is left
 abbrev pub ends_left : Parts → Option (List Node) → TableKind → ℕ → List ℕ
