@@ -7,8 +7,8 @@ use Rattle.std.proofs.lemmas.List.FromFn.{get_or-map-range_with_len}
 use Rattle.pol_avtab.specs.AvKeys.{kind_of}
 use Rattle.pol_rules.specs.declared.RuleKind.TheVariants.{AllowXperm, AuditallowXperm, DontauditXperm}
 use Rattle.pol_rules.specs.StoredRules.{rule_kind}
-use Rattle.rule_tests.specs.AskedKinds.{is_any_asked, is_kind_asked}
-use Rattle.rule_tests.specs.Inner.AskedVectors.{extended_kinds, is_low_asked, low_marks}
+use Rattle.rule_tests.specs.AskedKinds.{is_kind_asked}
+use Rattle.rule_tests.specs.Inner.AskedVectors.{extended_kinds, is_any_asked, is_low_asked, low_marks}
 
 -- a number that is none of those of the other kinds is that of a kind with ioctl numbers
 extended_asked : (kinds : List Bool) (a b : Bool) → is_kind_asked kinds (if a then AllowXperm else if b then AuditallowXperm else DontauditXperm) ≡ true → is_any_asked kinds extended_kinds ≡ true

@@ -1,7 +1,8 @@
 // The kinds of rules that are asked.
 ghost use Rattle.std.specs.Prelude.{◌≡◌, ◌<◌};
 ghost use Rattle.pol_rules.specs.RuleOrder.{kind_number};
-ghost use Rattle.rule_tests.specs.AskedKinds.{is_any_asked, is_kind_asked};
+ghost use Rattle.rule_tests.specs.AskedKinds.{is_kind_asked};
+ghost use Rattle.rule_tests.specs.Inner.AskedVectors.{is_any_asked};
 
 use pol_read::RuleKind;
 

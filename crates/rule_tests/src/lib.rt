@@ -14,7 +14,7 @@ mod text_elements;
 mod text_numbers;
 
 pub use asked_vectors::AskedVectors;
-pub use kinds::{is_any_asked, is_kind_asked};
+pub use kinds::is_kind_asked;
 pub use number_test::NumberTest;
 pub use permission_test::PermissionTest;
 pub use spans::Span;

@@ -1,16 +1,20 @@
 -- Which access vectors may be asked, told by marks. It serves the code alone.
 use Rattle.std.specs.Prelude.{ℕ, ◌%◌, Bool, true, false, ◌||◌, ◌&&◌, Option, Some, None, List, [], ◌∷◌, map, slice_get, slice_index_or}
-use Rattle.std.specs.List.{range_with_len}
+use Rattle.std.specs.List.{list_any, range_with_len}
 use Rattle.pol_cursor.specs.References.{Placed}
 use Rattle.pol_avtab.specs.declared.AvRec.{AvRec}
 use Rattle.pol_rules.specs.declared.RuleKind.{RuleKind}
 use Rattle.pol_rules.specs.declared.RuleKind.TheVariants.{AllowXperm, AuditallowXperm, DontauditXperm}
 use Rattle.pol_rules.specs.StoredRules.{rule_kind}
-use Rattle.rule_tests.specs.AskedKinds.{is_any_asked, is_kind_asked}
+use Rattle.rule_tests.specs.AskedKinds.{is_kind_asked}
 use Rattle.value_groups.specs.Among.{is_among}
 use Rattle.value_groups.specs.Inner.Marking.{MarkedValues}
 
 -- ---- kinds
+
+-- one of some kinds is asked
+abbrev pub is_any_asked : List Bool → List RuleKind → Bool
+is_any_asked kinds some = list_any (is_kind_asked kinds) some
 
 -- the kinds of access vectors with ioctl numbers
 abbrev pub extended_kinds : List RuleKind
