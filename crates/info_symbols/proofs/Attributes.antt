@@ -11,7 +11,7 @@ use Rattle.pol_datums.specs.declared.Flavour.TheVariants.{Attribute}
 use Rattle.pol_datums.specs.TypeRecord.{flavour_of}
 use Rattle.pol_symbols.specs.PolicySymbols.{index_in, value_in}
 use Rattle.pol_file.specs.declared.parts.Parts.{Parts}
-use Rattle.pol_file.specs.Inner.TypeValues.{IsTypeValue}
+use Rattle.pol_file.specs.TypeValues.{IsTypeValue}
 use Rattle.info_lines.specs.Inner.Listings.{line_of}
 use Rattle.info_lines.specs.NameOrder.{primary_numbers}
 use Rattle.info_lines.specs.NameSets.{names_of_values}

@@ -17,7 +17,7 @@ use Rattle.pol_datums.specs.declared.Flavour.TheVariants.{Plain, Attribute}
 use Rattle.pol_symbols.specs.declared.symbols.Symbols.{Symbols}
 use Rattle.pol_symbols.specs.PolicySymbols.{flavour_in}
 use Rattle.pol_file.specs.declared.parts.Parts.{Parts}
-use Rattle.pol_file.specs.Inner.TypeValues.{IsTypeValue}
+use Rattle.pol_file.specs.TypeValues.{IsTypeValue}
 use Rattle.pol_expand.specs.Expansion.{Expansions, IsDeclared, IsNumberOfBits, HaveRows, expansion, expand_all, expansion_of, row_of}
 use Rattle.pol_expand.specs.Flavours.{is_flavour}
 use Rattle.pol_expand.specs.PolicyMap.{IsPolicyMap, row_found, row_in, rows_of, has_flavour, values_of_flavour, expand}

@@ -4,7 +4,7 @@ use Rattle.pol_fields.specs.declared.Fault.{Fault}
 use Rattle.pol_cursor.specs.Outcome.{Outcome, Got, Bad}
 use Rattle.pol_file.specs.declared.parts.Parts.{Parts}
 use Rattle.pol_file.specs.PolicyParts.{policy_at}
-use Rattle.pol_file.specs.Inner.TypeValues.{HasTypeValues}
+use Rattle.pol_file.specs.TypeValues.{HasTypeValues}
 use Rattle.pol_file.specs.Acceptance.{undeclared, unless_undeclared, judged, accept}
 use Rattle.pol_file.proofs.PolicyTypes.{type_values_read}
 

@@ -26,7 +26,7 @@ use Rattle.pol_contexts.specs.ContextTables.{contexts_at}
 use Rattle.pol_genfs.specs.GenfsRecord.{genfs_at}
 use Rattle.pol_file.specs.declared.parts.Parts.{Parts}
 use Rattle.pol_file.specs.TypeMapRows.{type_map_at}
-use Rattle.pol_file.specs.Inner.TypeValues.{IsTypeValue, HasTypeValues}
+use Rattle.pol_file.specs.TypeValues.{IsTypeValue, HasTypeValues}
 use Rattle.pol_file.specs.PolicyParts.{front_at, rule_lists_at, label_lists_at, policy_at}
 use Rattle.pol_file.proofs.ReadValues.{gives-others, gives-weaker, gives-records_after}
 

@@ -2,4 +2,4 @@ pub mod TypeMapRows
 pub mod PolicyParts
 pub mod PolicyReferences
 pub mod Acceptance
-pub mod Inner
+pub mod TypeValues

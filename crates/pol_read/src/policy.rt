@@ -1,7 +1,7 @@
 ghost use Rattle.std.specs.Prelude.{◌≡◌, ◌<◌, ◌≤◌, ◌-◌, Ok, Some, None, IfOk, option_map, slice_get, length};
 ghost use Rattle.pol_conditionals.specs.CondNodeRecord.{node_condition};
 ghost use Rattle.pol_file.specs.Acceptance.{accept, undeclared, Accepts};
-ghost use Rattle.pol_file.specs.Inner.TypeValues.{IsTypeValue, HasTypeValues};
+ghost use Rattle.pol_file.specs.TypeValues.{IsTypeValue, HasTypeValues};
 
 use pol_avtab::AvTable;
 use pol_bitmap::BitmapView;
@@ -43,7 +43,7 @@ impl<'a> Model for Policy<'a> {
     ghost use Rattle.std.specs.Prelude.{◌≡◌, Ok};
     ghost use Rattle.pol_file.specs.declared.Parts.{Parts};
     ghost use Rattle.pol_file.specs.Acceptance.{accept};
-    ghost use Rattle.pol_file.specs.Inner.TypeValues.{HasTypeValues};
+    ghost use Rattle.pol_file.specs.TypeValues.{HasTypeValues};
     ghost use Rattle.pol_rules.specs.Inner.RuleNumbers.{IsIndexOf};
 
     ghost Value = { Parts };

@@ -4,7 +4,7 @@ ghost use Rattle.pol_fields.specs.declared.TableKind.TheVariants.{Types};
 ghost use Rattle.pol_symbols.specs.PolicySymbols.{flavour_in};
 ghost use Rattle.pol_symbols.specs.declared.Symbols.{Symbols};
 ghost use Rattle.pol_file.specs.Acceptance.{accept};
-ghost use Rattle.pol_file.specs.Inner.TypeValues.{IsTypeValue};
+ghost use Rattle.pol_file.specs.TypeValues.{IsTypeValue};
 ghost use Rattle.pol_file.specs.declared.Parts.{Parts};
 ghost use Rattle.pol_rules.specs.DeclaredRules.{IsDeclaredIn};
 

@@ -15,7 +15,7 @@ use Rattle.pol_datums.specs.declared.Flavour.TheVariants.{Plain, Attribute}
 use Rattle.pol_datums.specs.TypeRecord.{is_primary_type, is_attribute, flavour_of}
 use Rattle.pol_symbols.specs.PolicySymbols.{flavour_found}
 use Rattle.pol_file.specs.declared.Parts.{Parts}
-use Rattle.pol_file.specs.Inner.TypeValues.{IsTypeValue, HasTypeValues}
+use Rattle.pol_file.specs.TypeValues.{IsTypeValue, HasTypeValues}
 use Rattle.pol_rules.specs.declared.RuleKind.{RuleKind}
 use Rattle.pol_rules.specs.declared.RuleKind.TheVariants.{RoleAllow, RoleTransition}
 use Rattle.pol_rules.specs.StoredRules.{StoredRule, stored_rules}

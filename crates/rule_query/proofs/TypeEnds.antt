@@ -14,7 +14,7 @@ use Rattle.pol_datums.specs.declared.TypeRec.{TypeRec}
 use Rattle.pol_symbols.specs.PolicySymbols.{value_in, flavour_in}
 use Rattle.pol_file.specs.declared.Parts.{Parts}
 use Rattle.pol_file.specs.Acceptance.{accept}
-use Rattle.pol_file.specs.Inner.TypeValues.{IsTypeValue}
+use Rattle.pol_file.specs.TypeValues.{IsTypeValue}
 use Rattle.pol_file.proofs.Acceptances.{accepted_has_type_values}
 use Rattle.pol_rules.specs.DeclaredRules.{IsDeclaredIn}
 use Rattle.pol_rules.proofs.DeclaredTypes.{declared_type_has_flavour, declared_type_is_value}
