@@ -35,9 +35,6 @@ marked_more marks next words word are met again stay_met stay_shared = record {
   twice = tested_more (is_shared marks) (is_shared next) words word stay_shared are.twice (λ there. again (are.met word there));
 }
 
-pub marked_none : (marks : Marks) → AreMarked marks []
-marked_none marks = record { met = λ word there. absurd (contains_nothing word there); twice = tt }
-
 -- ---- the words that pass the test
 
 differs : (word : ℕ) (words : List ℕ) → (Contains words word → ⊥) → AllByRecursion (λ other. (word == other) ≡ false) words
