@@ -1,4 +1,14 @@
 pub mod Wrongs
+pub mod FittingLists
+pub mod FittingSets
+pub mod FittingLevels
+pub mod FittingRules
+pub mod FittingConstraints
+pub mod FittingDatums
+pub mod FittingTransitions
+pub mod FittingContexts
+pub mod FittingSymbols
+pub mod FittingTree
 pub mod Rows
 pub mod ShapedTree
 pub mod SpelledTree

@@ -1,5 +1,5 @@
 -- The tree of a policy has no wrong optional part where the policy has none.
-use Rattle.std.proofs.Common.{◌≡◌, ℕ, ◌==◌, Bool, true, false, not, Option, Some, None, List, [], ◌∷◌, length, refl}
+use Rattle.std.proofs.Common.{◌≡◌, ℕ, ◌==◌, Bool, true, false, not, Option, None, List, [], ◌∷◌, length, refl}
 use Rattle.std.proofs.lemmas.List.{length-map}
 use Rattle.pol_fields.specs.declared.Field.{Field}
 use Rattle.pol_fields.specs.declared.field.Field.{Field}
@@ -17,19 +17,14 @@ use Rattle.pol_laws.specs.PolicyShape.{shape_of_rule_lists, shape_of_label_lists
 use Rattle.pol_laws.proofs.ShapedParts.{none-first, none-last}
 use Rattle.pol_tree.specs.PolicyTree.{entries_of, groups_of, tree_of}
 use Rattle.pol_tree.specs.TreeShape.{shape_of_symbols, shape_of_rules, shape_of_contexts, shape_of_labels, shape}
+use Rattle.pol_tree.proofs.Wrongs.{none_each}
 
 -- ---- parts one behind the other
-
--- where no part is wrong, the first is not and none of the others is
-pub none-each : (part : Option Field) (others : List (Option Field)) → first_of (part ∷ others) ≡ None → (part ≡ None) × (first_of others ≡ None)
-unfolding first_of
-none-each None others e = (refl, e)
-none-each (Some field) others e = absurd cc
 
 -- a part of the policy that says no less than one of the tree
 then-first : (part other : Option Field) (parts others : List (Option Field)) → (part ≡ None → other ≡ None) → (first_of parts ≡ None → first_of others ≡ None) → first_of (part ∷ parts) ≡ None → first_of (other ∷ others) ≡ None
 then-first part other parts others here behind e =
-    let each = none-each part parts e in
+    let each = none_each part parts e in
     none-first other others (here each.0) (behind each.1)
 
 then-last : first_of [] ≡ None → first_of [] ≡ None
@@ -78,9 +73,9 @@ unfolding tree_of shape_of_rule_lists shape_of_rules
 rules-shaped policy e =
     let grouped = has_groups policy.front.header.version in
     let trans = policy.rules.name_trans in
-    let one = none-each _ _ e in
-    let two = none-each _ _ one.1 in
-    let names = (none-each _ _ two.1).0 in
+    let one = none_each _ _ e in
+    let two = none_each _ _ one.1 in
+    let names = (none_each _ _ two.1).0 in
     none-first _ _ (unplaced-shape shape_of_av policy.rules.table one.0)
     (none-first _ _ (unplaced-shape shape_of_condnode policy.rules.conditionals two.0)
     (none-first _ _ (entries-shaped grouped trans names)

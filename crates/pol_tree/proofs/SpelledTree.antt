@@ -13,7 +13,7 @@ use Rattle.pol_laws.specs.TableShapes.{shape_of_name_transitions}
 use Rattle.pol_laws.specs.PolicyShape.{shape_of_rule_lists, shape as policy_shape}
 use Rattle.pol_tree.specs.PolicyTree.{entries_of, groups_of, tree_of}
 use Rattle.pol_tree.specs.TreeSpelling.{spell_front, spell_symbols, spell_rules, spell_contexts, spell_labels, spell}
-use Rattle.pol_tree.proofs.ShapedTree.{none-each}
+use Rattle.pol_tree.proofs.Wrongs.{none_each}
 
 front-spelled : (policy : Parts) → spell_front (tree_of policy) ≡ spell_front_parts policy.front
 unfolding tree_of spell_front spell_front_parts
@@ -52,6 +52,6 @@ labels-spelled policy = rw (← contexts-spelled policy) refl
 pub tree-spelled : (policy : Parts) → policy_shape policy ≡ None → spell (tree_of policy) ≡ spell_policy policy
 unfolding policy_shape shape_of_rule_lists spell spell_policy
 tree-spelled policy shapely =
-    let rules = (none-each _ _ (none-each _ _ shapely).1).0 in
-    let names = (none-each _ _ (none-each _ _ (none-each _ _ rules).1).1).0 in
+    let rules = (none_each _ _ (none_each _ _ shapely).1).0 in
+    let names = (none_each _ _ (none_each _ _ (none_each _ _ rules).1).1).0 in
     rw (front-spelled policy, symbols-spelled policy, rules-spelled policy names, labels-spelled policy) refl

@@ -1,12 +1,18 @@
 //! Whole policies as trees of owned records: how a tree is copied from a policy, how it is spelled, and its first wrong optional
-//! part.
+//! part, without which its numbers fit.
 #![tactic(auto)]
 
 mod copied_lists;
 mod copies;
 mod counted;
-mod shaped;
-mod shaped_records;
+mod fitting;
+mod fitting_constraints;
+mod fitting_contexts;
+mod fitting_datums;
+mod fitting_levels;
+mod fitting_rules;
+mod fitting_symbols;
+mod fitting_transitions;
 mod tree;
 mod tree_shape;
 mod tree_spelling;

@@ -26,7 +26,7 @@ use Rattle.pol_tree.specs.PolicyTree.{nprims_of, tree_of}
 use Rattle.pol_tree.specs.TreeSpelling.{spell_symbols, spell_rules, spell_labels, spell}
 use Rattle.pol_tree.specs.TreeShape.{shape_of_rules, shape_of_contexts, shape_of_labels, shape}
 use Rattle.pol_tree.specs.TreeRanges.{TreeFits}
-use Rattle.pol_tree.proofs.ShapedTree.{none-each}
+use Rattle.pol_tree.proofs.Wrongs.{none_each}
 use Rattle.pol_write.specs.declared.errors.Unsound.{Unsound}
 use Rattle.pol_write.specs.declared.errors.Unsound.TheVariants.{TooLong}
 use Rattle.pol_write.specs.Soundness.{refusal_of, unsound_bytes, unless_shapeless, unsound, IsSound}
@@ -60,21 +60,21 @@ one-form false tree entries groups = list-empty false tree.namegroup NAMEGROUP_C
 has-shape : (tree : Tree) → shape tree ≡ None → HasShape tree
 unfolding shape shape_of_rules shape_of_labels shape_of_contexts
 has-shape tree e =
-    let behind_symbols = (none-each _ _ e).1 in
-    let rules = (none-each _ _ behind_symbols).0 in
-    let labels = (none-each _ _ (none-each _ _ behind_symbols).1).0 in
-    let trans = (none-each _ _ (none-each _ _ rules).1).1 in
-    let contexts = (none-each _ _ labels).0 in
-    let node6 = (none-each _ _ (none-each _ _ (none-each _ _ (none-each _ _ (none-each _ _ (none-each _ _ (none-each _ _ contexts).1).1).1).1).1).1).1 in
-    let ibendport = (none-each _ _ (none-each _ _ node6).1).1 in
-    let typemap = (none-each _ _ (none-each _ _ (none-each _ _ labels).1).1).1 in
+    let behind_symbols = (none_each _ _ e).1 in
+    let rules = (none_each _ _ behind_symbols).0 in
+    let labels = (none_each _ _ (none_each _ _ behind_symbols).1).0 in
+    let trans = (none_each _ _ (none_each _ _ rules).1).1 in
+    let contexts = (none_each _ _ labels).0 in
+    let node6 = (none_each _ _ (none_each _ _ (none_each _ _ (none_each _ _ (none_each _ _ (none_each _ _ (none_each _ _ contexts).1).1).1).1).1).1).1 in
+    let ibendport = (none_each _ _ (none_each _ _ node6).1).1 in
+    let typemap = (none_each _ _ (none_each _ _ (none_each _ _ labels).1).1).1 in
     record {
-      form = one-form (has_groups tree.version) tree (none-each _ _ trans).0 (none-each _ _ (none-each _ _ trans).1).0;
+      form = one-form (has_groups tree.version) tree (none_each _ _ trans).0 (none_each _ _ (none_each _ _ trans).1).0;
       infiniband = record {
-        ibpkey = list-empty (has_infiniband tree.version) tree.ibpkey IBPKEY_COUNT (none-each _ _ node6).0;
-        ibendport = list-empty (has_infiniband tree.version) tree.ibendport IBENDPORT_COUNT (none-each _ _ ibendport).0;
+        ibpkey = list-empty (has_infiniband tree.version) tree.ibpkey IBPKEY_COUNT (none_each _ _ node6).0;
+        ibendport = list-empty (has_infiniband tree.version) tree.ibendport IBENDPORT_COUNT (none_each _ _ ibendport).0;
       };
-      rows = same-count (length tree.typemap) (slice_index tree.nprims 3) BITMAP_UNIT (none-each _ _ typemap).0;
+      rows = same-count (length tree.typemap) (slice_index tree.nprims 3) BITMAP_UNIT (none_each _ _ typemap).0;
     }
 
 -- ---- the tree of what is read

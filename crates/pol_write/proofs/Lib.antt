@@ -5,6 +5,5 @@ pub mod FoundParts
 pub mod FoundTree
 pub mod FittingParts
 pub mod SoundTree
-pub mod LookedTree
 pub mod WrittenTree
 pub mod JudgedBytes

@@ -2,7 +2,6 @@
 #![tactic(auto)]
 
 mod errors;
-mod looking;
 mod tree_laws;
 mod writing;
 

@@ -3,7 +3,6 @@ ghost use Rattle.pol_tree.specs.TreeSpelling.{spell};
 ghost use Rattle.pol_write.specs.Soundness.{unsound, unsound_bytes, IsSound, Judges};
 
 use crate::errors::{Unsound, WriteError};
-use crate::looking::look_at;
 use pol_cursor::{ReadError, Written};
 use pol_file::read_file;
 use pol_tree::{Tree, wrong_part_of};
@@ -23,10 +22,7 @@ pub fn write(alloc: Global, tree: &Tree, out: &mut Vec<u8>) -> Result<(), WriteE
 {
     match wrong_part_of(tree) {
         Some(field) => Err(WriteError::NotSound(Unsound::Shape(field))),
-        None => {
-            look_at(tree);
-            append(alloc, tree, out)
-        }
+        None => append(alloc, tree, out),
     }
 }
 

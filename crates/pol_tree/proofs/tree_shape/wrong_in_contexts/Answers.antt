@@ -2,21 +2,21 @@ use Rattle.std.proofs.Common.{refl, ◌∙◌}
 use Rattle.pol_tree.specs.TreeShape.{shape_of_contexts}
 use Rattle.pol_tree.proofs.tree_shape.wrong_in_contexts.Goals as goal
 
-pub returns : goal.returns
+pub returns-clause-shape : goal.returns-clause-shape
 unfolding shape_of_contexts
-returns c =
+returns-clause-shape c =
     c.first_wrong.ensures
     ∙ rw (
-      c.wrong_part.ensures,
-      c.wrong_part-2.ensures,
-      c.wrong_part-3.ensures,
-      c.wrong_part-4.ensures,
-      c.wrong_part-5.ensures,
-      c.wrong_part-6.ensures,
-      c.wrong_part-7.ensures,
+      c.wrong_in.ensures.shape,
+      c.wrong_in-2.ensures.shape,
+      c.wrong_in-3.ensures.shape,
+      c.wrong_in-4.ensures.shape,
+      c.wrong_in-5.ensures.shape,
+      c.wrong_in-6.ensures.shape,
+      c.wrong_in-7.ensures.shape,
       c.wrong_list.ensures,
-      c.wrong_part-8.ensures,
+      c.wrong_in-8.ensures.shape,
       c.wrong_list-2.ensures,
-      c.wrong_part-9.ensures,
+      c.wrong_in-9.ensures.shape,
       c.has_infiniband-infiniband.ensures,
     ) refl

@@ -1,9 +1,0 @@
-pub mod RangedLists
-pub mod RangedSets
-pub mod RangedLevels
-pub mod RangedRules
-pub mod RangedConstraints
-pub mod RangedDatums
-pub mod RangedTransitions
-pub mod RangedContexts
-pub mod RangedSymbols
