@@ -1,23 +1,24 @@
 -- Rules by their source alone, and what their targets expand to.
-use Rattle.std.proofs.Common.{◌≡◌, ℕ, ◌+◌, ◌<◌, ◌≤◌, Bool, true, false, List, [], ◌∷◌, ◌++◌, Option, Some, None, length, get_or, slice_get, take, refl, sym, ap, subst, ◌∙◌, inl, inr, arith}
-use Rattle.std.specs.Prelude.{◌==◌, ◌&&◌, ◌||◌, option_map, slice_index}
+use Rattle.std.proofs.Common.{◌≡◌, ℕ, ◌+◌, ◌<◌, ◌≤◌, Bool, true, false, List, [], ◌∷◌, ◌++◌, Option, Some, None, length, map, get_or, slice_get, take, refl, sym, ap, subst, ◌∙◌, inl, inr, arith}
+use Rattle.std.specs.Prelude.{◌==◌, ◌&&◌, ◌||◌, ◌↔◌, option_map, slice_index}
 use Rattle.std.specs.List.{All, Contains, filter, flat_map, list_any, range_with_len}
-use Rattle.std.proofs.lemmas.Bool.{false≢true, cases_Bool, eq-eqb, eqb-true, and_parts, cond-true, cond-false}
+use Rattle.std.specs.List.Sorted.{IsPermutation}
+use Rattle.std.proofs.lemmas.Bool.{false≢true, cases_Bool, eqb-true, and_parts, cond-true, cond-false}
 use Rattle.std.proofs.lemmas.List.{get_or_default}
-use Rattle.std.proofs.lemmas.List.Concat.{flat_map-cons}
 use Rattle.std.proofs.lemmas.List.Folds.{list_any-append}
-use Rattle.std.proofs.lemmas.List.Elements.{All-contains, All-get_or, All-nil, All-push, Contains-get_or}
-use Rattle.pol_bitmap.proofs.Elements.{keeps, contains_range}
+use Rattle.std.proofs.lemmas.List.Elements.{All-get_or, All-nil, All-push, All-weaker}
+use Rattle.std.proofs.lemmas.List.Sorted.{Contains-permutation, IsPermutation-map, IsPermutation-sym}
+use Rattle.pol_bitmap.proofs.Elements.{kept, keeps, range_holds}
 use Rattle.pol_file.specs.declared.Parts.{Parts}
 use Rattle.pol_rules.specs.declared.RuleEnds.{RuleEnds}
 use Rattle.pol_rules.specs.StoredRules.{StoredRule, ends_of, stored_rules}
 use Rattle.value_groups.specs.Among.{is_among}
-use Rattle.value_groups.specs.Inner.Marking.{with_value}
-use Rattle.value_groups.specs.Inner.Grouping.{group_of, is_value_at, places_of}
+use Rattle.value_groups.specs.Inner.Marking.{AreApart, with_value}
+use Rattle.value_groups.specs.Inner.Grouping.{group_of, places_of}
 use Rattle.rule_ends.specs.ChosenRules.{AreRulesFrom, begins_at, ends_at, holds_type, is_rule_from_to, joins, passes, targets_of_rules}
-use Rattle.rule_ends.specs.Inner.EndTables.{AreEndsOf, AreTargetsOf, IsEnd, IsTableOf, has_ends, is_other_end, rules_at, rules_under}
-use Rattle.rule_ends.proofs.Anys.{any_agree, any_from, any_gives, any_more, among_contains, contains_among, filter_agree, or_false}
-use Rattle.rule_ends.proofs.Found.{AreHolders, any_map_is, by_sources, key_held, places_in}
+use Rattle.rule_ends.specs.Inner.EndTables.{AreEndsOf, AreTargetsOf, IsEnd, IsTableOf, has_ends, rules_at, rules_under}
+use Rattle.rule_ends.proofs.Anys.{any_from, any_more, among_contains, filter_agree, or_false}
+use Rattle.rule_ends.proofs.Found.{AreHolders, AreJoined, by_places, by_sources, filter_map_is, flat_map_agree, flat_map_of_maps, grouped, key_held}
 
 -- a rule joins two types where its source expands to the one and its target to the other
 pub joins_by_ends : (policy : Parts) (source target number : ℕ) → joins policy source target number ≡ (begins_at policy source number && ends_at policy target number)
@@ -30,15 +31,13 @@ joins_by_ends policy source target number = go (slice_get (stored_rules policy) 
 
 -- ---- the rules of some ends
 
-any_flat_map : (p : ℕ → Bool) (f : ℕ → List ℕ) (xs : List ℕ) → list_any p (flat_map f xs) ≡ list_any (λ x. list_any p (f x)) xs
-any_flat_map p f [] = refl
-any_flat_map p f (x ∷ xs) = ap (list_any p) (flat_map-cons f x xs) ∙ list_any-append p (f x) (flat_map f xs) ∙ ap (λ (b : Bool). list_any p (f x) || b) (any_flat_map p f xs)
+filter_ever : (xs : List ℕ) → filter (λ x. true) xs ≡ xs
+filter_ever [] = refl
+filter_ever (x ∷ xs) = ap (λ (ys : List ℕ). x ∷ ys) (filter_ever xs)
 
-under_is : (rules : List ℕ) (groups : ℕ → List ℕ) (from : List ℕ) (number : ℕ) → is_among (rules_under rules groups from) number ≡ is_other_end rules groups from number
-under_is rules groups from number =
-    any_flat_map (λ n. n == number) (λ end. rules_at rules (groups end)) from
-    ∙ any_agree (λ end. list_any (λ n. n == number) (rules_at rules (groups end))) (λ end. list_any (λ place. slice_index rules place == number) (groups end)) from
-    (λ k d lt. any_map_is (slice_index rules) (λ n. n == number) (groups (get_or from k d)))
+and_ever : (b : Bool) → (b && true) ≡ b
+and_ever true = refl
+and_ever false = refl
 
 -- the source of the rule of a place
 begins_at_place : (policy : Parts) (rules sources targets : List ℕ) (source place : ℕ) → AreEndsOf policy rules sources targets → place < length rules → begins_at policy source (slice_index rules place) ≡ holds_type policy (slice_index sources place) source
@@ -49,46 +48,51 @@ begins_at_place policy rules sources targets source place are lt = go (slice_get
     go None e = absurd (false≢true e)
     go (Some rule) e = ap (λ (x : ℕ). holds_type policy x source) (eqb-true rule.source (slice_index sources place) (and_parts (rule.source == slice_index sources place) (rule.target == slice_index targets place) e).0)
 
-pub rules_from_are : (policy : Parts) (rules sources targets : List ℕ) (by_source by_target : List (List ℕ)) (source : ℕ) (from found : List ℕ) → IsTableOf policy rules sources targets by_source by_target → AreHolders policy by_source (λ value. holds_type policy value source) from
-    → found ≡ rules_under rules (group_of by_source) from → AreRulesFrom policy rules source found
-unfolding places_of
-rules_from_are policy rules sources targets by_source by_target source from found table holders is = record { each = λ number. (there number, back number) }
+pub rules_from_are : (policy : Parts) (rules sources targets : List ℕ) (by_source by_target : List (List ℕ)) (source : ℕ) (from found : List ℕ) → IsTableOf policy rules sources targets by_source by_target → AreApart from
+    → AreHolders policy by_source (λ value. holds_type policy value source) from → found ≡ rules_under rules (group_of by_source) from → AreRulesFrom policy rules source found
+rules_from_are policy rules sources targets by_source by_target source from found table apart holders is =
+    subst (λ (xs : List ℕ). IsPermutation xs (filter (begins_at policy source) rules)) (sym (is ∙ one))
+    (subst (λ (xs : List ℕ). IsPermutation (map r (flat_map (λ end. filter ever (places_of sources end)) from)) xs) (ap (map r) agree ∙ all)
+    (IsPermutation-map r (flat_map (λ end. filter ever (places_of sources end)) from) (filter (λ place. is_among from (slice_index sources place) && ever place) range) (grouped sources ever from apart)))
   where
+    r : ℕ → ℕ
+    r = slice_index rules
+
+    ever : ℕ → Bool
+    ever place = true
+
+    range : List ℕ
+    range = range_with_len 0 (length sources)
+
     held : ℕ → Bool
     held value = holds_type policy value source
 
-    says : (number : ℕ) → is_among found number ≡ is_other_end rules (group_of by_source) from number
-    says number = ap (λ (xs : List ℕ). is_among xs number) is ∙ under_is rules (group_of by_source) from number
+    joined : AreJoined policy rules sources targets by_source by_target (joins policy source 0) held 0
+    joined = by_sources policy rules sources targets by_source by_target source 0 table
 
-    at : (place : ℕ) → place < length rules → is_among from (slice_index sources place) ≡ begins_at policy source (slice_index rules place)
-    at place lt =
-        key_held policy rules sources targets by_source by_target (joins policy source 0) held 0 (by_sources policy rules sources targets by_source by_target source 0 table) from holders place lt
-        ∙ sym (begins_at_place policy rules sources targets source place table.ends lt)
+    one : rules_under rules (group_of by_source) from ≡ map r (flat_map (λ end. filter ever (places_of sources end)) from)
+    one =
+        flat_map_agree (λ end. rules_at rules (group_of by_source end)) (λ end. map r (filter ever (places_of sources end))) from
+        (All-weaker (λ value. value ≤ policy.symbols.types.nprim) (λ end. rules_at rules (group_of by_source end) ≡ map r (filter ever (places_of sources end))) (λ end le. ap (map r) (table.sources_grouped.each end le ∙ sym (filter_ever (places_of sources end)))) from holders.within)
+        ∙ flat_map_of_maps r (λ end. filter ever (places_of sources end)) from
 
-    there : (number : ℕ) → Contains found number → Contains rules number × (begins_at policy source number ≡ true)
-    there number h =
-        let f = any_gives (λ end. list_any (λ place. slice_index rules place == number) (group_of by_source end)) from (sym (says number) ∙ contains_among found number h) in
-        let g = any_gives (λ place. slice_index rules place == number) (group_of by_source f.0) f.2 in
-        let p = places_in policy rules sources targets by_source by_target (joins policy source 0) held 0 (by_sources policy rules sources targets by_source by_target source 0 table) from holders f.0 g.0
-        (All-contains (λ value. value ≤ policy.symbols.types.nprim) from f.0 holders.within f.1) g.1 in
-        let same : slice_index rules g.0 ≡ number = eqb-true (slice_index rules g.0) number g.2 in
-        let among = contains_among from (slice_index sources g.0) (subst (λ (e : ℕ). Contains from e) (sym p.1) f.1) in
-        (subst (λ (n : ℕ). Contains rules n) same (Contains-get_or rules g.0 0 p.0), subst (λ (n : ℕ). begins_at policy source n ≡ true) same (sym (at g.0 p.0) ∙ among))
+    agree : filter (λ place. is_among from (slice_index sources place) && ever place) range ≡ filter (λ place. begins_at policy source (r place)) range
+    agree = filter_agree (λ place. is_among from (slice_index sources place) && ever place) (λ place. begins_at policy source (r place)) range
+        (All-weaker (λ b. (0 ≤ b) × (b < 0 + length sources)) (λ place. (is_among from (slice_index sources place) && ever place) ≡ begins_at policy source (r place))
+        (λ place w.
+        let lt : place < length rules = omega (arith, w.1, table.ends.sources_long) in
+        and_ever (is_among from (slice_index sources place)) ∙ key_held policy rules sources targets by_source by_target (joins policy source 0) held 0 joined from holders place lt ∙ sym (begins_at_place policy rules sources targets source place table.ends lt))
+        range (range_holds 0 (length sources)))
 
-    back : (number : ℕ) → Contains rules number × (begins_at policy source number ≡ true) → Contains found number
-    back number h =
-        let place = h.0.0 in
-        let lt = h.0.1 in
-        let same : slice_index rules place ≡ number = get_or_default rules place 0 number lt ∙ h.0.2 in
-        let key = slice_index sources place in
-        let key_lt : place < length sources = omega (arith, lt, table.ends.sources_long) in
-        let is_end = All-get_or (IsEnd policy) sources place 0 key_lt table.ends.sources_are in
-        let among = among_contains from key (at place lt ∙ ap (begins_at policy source) same ∙ h.1) in
-        let group = keeps (is_value_at sources key) (range_with_len 0 (length sources)) place (contains_range 0 (length sources) place (omega arith) (omega (arith, key_lt))) (eq-eqb key key refl) in
-        among_contains found number
-        (says number
-        ∙ any_from (λ end. list_any (λ place. slice_index rules place == number) (group_of by_source end)) from key among
-        (any_from (λ place. slice_index rules place == number) (group_of by_source key) place (subst (λ (ps : List ℕ). Contains ps place) (sym (table.sources_grouped.each key is_end.within.1)) group) (eq-eqb (slice_index rules place) number same)))
+    all : map r (filter (λ place. begins_at policy source (r place)) range) ≡ filter (begins_at policy source) rules
+    all = sym (filter_map_is r (begins_at policy source) range) ∙ ap (filter (begins_at policy source)) (ap (λ (n : ℕ). map r (range_with_len 0 n)) table.ends.sources_long ∙ sym (by_places rules))
+
+-- which rules they are
+pub from_each : (policy : Parts) (rules : List ℕ) (source : ℕ) (found : List ℕ) (number : ℕ) → AreRulesFrom policy rules source found → Contains found number ↔ (Contains rules number × (begins_at policy source number ≡ true))
+from_each policy rules source found number same = (
+  λ there. kept (begins_at policy source) rules number (Contains-permutation found (filter (begins_at policy source) rules) number same there),
+  λ h. Contains-permutation (filter (begins_at policy source) rules) found number (IsPermutation-sym found (filter (begins_at policy source) rules) same) (keeps (begins_at policy source) rules number h.0 h.1),
+)
 
 -- ---- the targets of some rules
 

@@ -44,20 +44,16 @@ joins_at policy rules sources targets source target place are lt = go (slice_get
         ap (λ (x : ℕ). holds_type policy x source && holds_type policy rule.target target) s ∙ ap (λ (x : ℕ). holds_type policy (slice_index sources place) source && holds_type policy x target) t
 
 -- the rules are those of all places
-by_places : (rules : List ℕ) → rules ≡ map (slice_index rules) (range_with_len 0 (length rules))
+pub by_places : (rules : List ℕ) → rules ≡ map (slice_index rules) (range_with_len 0 (length rules))
 by_places rules = fill_by_all (slice_index rules) rules (length rules) 0 refl (λ k lt. refl)
 
-filter_map_is : (f : ℕ → ℕ) (p : ℕ → Bool) (xs : List ℕ) → filter p (map f xs) ≡ map f (filter (λ x. p (f x)) xs)
+pub filter_map_is : (f : ℕ → ℕ) (p : ℕ → Bool) (xs : List ℕ) → filter p (map f xs) ≡ map f (filter (λ x. p (f x)) xs)
 filter_map_is f p [] = refl
 filter_map_is f p (x ∷ xs) = go (p (f x)) (filter_map_is f p xs)
   where
     go : (b : Bool) → filter p (map f xs) ≡ map f (filter (λ y. p (f y)) xs) → cond b (f x ∷ filter p (map f xs)) (filter p (map f xs)) ≡ map f (cond b (x ∷ filter (λ y. p (f y)) xs) (filter (λ y. p (f y)) xs))
     go true later = ap (λ (ys : List ℕ). f x ∷ ys) later
     go false later = later
-
-pub any_map_is : (f : ℕ → ℕ) (p : ℕ → Bool) (xs : List ℕ) → list_any p (map f xs) ≡ list_any (λ x. p (f x)) xs
-any_map_is f p [] = refl
-any_map_is f p (x ∷ xs) = ap (λ (b : Bool). p (f x) || b) (any_map_is f p xs)
 
 -- ---- groups of some values
 
@@ -98,7 +94,7 @@ filter_twice p q (x ∷ xs) = go (p x) (filter_twice p q xs)
     go true later = ap (λ (ys : List ℕ). cond (q x) (x ∷ ys) ys) later
     go false later = later
 
-filter_never : (xs : List ℕ) → filter (λ x. false) xs ≡ []
+pub filter_never : (xs : List ℕ) → filter (λ x. false) xs ≡ []
 filter_never [] = refl
 filter_never (x ∷ xs) = filter_never xs
 
@@ -119,7 +115,7 @@ clash_at keys q e es x new t u =
     false≢true (sym new ∙ ap (is_among es) (sym is) ∙ among)
 
 -- the places of the values among some, group by group and all at once
-grouped : (keys : List ℕ) (q : ℕ → Bool) (ends : List ℕ) → AreApart ends
+pub grouped : (keys : List ℕ) (q : ℕ → Bool) (ends : List ℕ) → AreApart ends
     → IsPermutation (flat_map (λ end. filter q (places_of keys end)) ends) (filter (λ place. is_among ends (slice_index keys place) && q place) (range_with_len 0 (length keys)))
 unfolding places_of
 grouped keys q [] apart = subst (λ (ys : List ℕ). IsPermutation [] ys) (sym (filter_never (range_with_len 0 (length keys)))) (IsPermutation-refl [])
@@ -192,6 +188,14 @@ touching_ends policy groups map types values ends is touching same = rw same (re
   each = λ value end places. touching_holds policy map types values value is touching end;
   within = All-weaker (λ value. value < policy.symbols.types.nprim + 1) (λ value. value ≤ policy.symbols.types.nprim) (λ value lt. omega (arith, lt)) values (touching_within policy map types values is touching);
 })
+
+pub flat_map_agree : (f g : ℕ → List ℕ) (xs : List ℕ) → All (λ e. f e ≡ g e) xs → flat_map f xs ≡ flat_map g xs
+flat_map_agree f g [] h = refl
+flat_map_agree f g (e ∷ es) h = rw (All-head (λ (e : ℕ). f e ≡ g e) e es h, flat_map_agree f g es (All-tail (λ (e : ℕ). f e ≡ g e) e es h)) refl
+
+pub flat_map_of_maps : (r : ℕ → ℕ) (f : ℕ → List ℕ) (xs : List ℕ) → flat_map (λ e. map r (f e)) xs ≡ map r (flat_map f xs)
+flat_map_of_maps r f [] = refl
+flat_map_of_maps r f (e ∷ es) = ap (λ (ys : List ℕ). map r (f e) ++ ys) (flat_map_of_maps r f es) ∙ sym (map-append r (f e) (flat_map f es))
 
 not_empty : (xs : List ℕ) (x : ℕ) → Contains xs x → not (length xs == 0) ≡ true
 not_empty [] x there = absurd (contains_nothing x there)
@@ -273,14 +277,6 @@ module _ (policy : Parts) (rules keys others : List ℕ) (groups other_groups : 
       any_from (λ end. holds_type policy end y) ends o
       (among_contains ends o (say o ∙ any_from (λ end. list_any (λ place. slice_index others place == o) (group_of groups end)) from (slice_index keys r.0) r.2
       (any_from (λ place. slice_index others place == o) (group_of groups (slice_index keys r.0)) r.0 r.3 (eq-eqb o o refl)))) r.4)
-
-  flat_map_agree : (f g : ℕ → List ℕ) (xs : List ℕ) → All (λ e. f e ≡ g e) xs → flat_map f xs ≡ flat_map g xs
-  flat_map_agree f g [] h = refl
-  flat_map_agree f g (e ∷ es) h = rw (All-head (λ (e : ℕ). f e ≡ g e) e es h, flat_map_agree f g es (All-tail (λ (e : ℕ). f e ≡ g e) e es h)) refl
-
-  flat_map_of_maps : (r : ℕ → ℕ) (f : ℕ → List ℕ) (xs : List ℕ) → flat_map (λ e. map r (f e)) xs ≡ map r (flat_map f xs)
-  flat_map_of_maps r f [] = refl
-  flat_map_of_maps r f (e ∷ es) = ap (λ (ys : List ℕ). map r (f e) ++ ys) (flat_map_of_maps r f es) ∙ sym (map-append r (f e) (flat_map f es))
 
   -- the rules that are found
   pub found_is : (to : List ℕ) → AreApart from → AreHolders policy other_groups (λ value. holds_type policy value y) to → IsPermutation (rules_found rules others (group_of groups) from to) (filter joined rules)

@@ -5,3 +5,4 @@ pub mod TypesOutside
 pub mod Holders
 pub mod Found
 pub mod ByOneEnd
+pub mod Shared

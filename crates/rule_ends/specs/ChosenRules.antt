@@ -1,6 +1,7 @@
 -- Rules of a policy that were chosen by their numbers, and the types that their ends expand to.
-use Rattle.std.specs.Prelude.{◌≡◌, ◌↔◌, ℕ, Bool, false, true, ◌&&◌, Option, Some, None, List, slice_get}
-use Rattle.std.specs.List.{Contains, filter, list_any, range_with_len}
+use Rattle.std.specs.Prelude.{ℕ, Bool, false, true, ◌&&◌, Option, Some, None, List, slice_get}
+use Rattle.std.specs.List.{filter, list_any, range_with_len}
+use Rattle.std.specs.List.Sorted.{IsPermutation}
 use Rattle.pol_file.specs.declared.Parts.{Parts}
 use Rattle.pol_rules.specs.declared.RuleKind.{RuleKind}
 use Rattle.pol_rules.specs.declared.RuleKind.TheVariants.{RoleAllow, RoleTransition}
@@ -69,6 +70,11 @@ sources_to policy rules target = filter (λ source. any_joins policy rules sourc
 unfoldable pub sources_to_any : Parts → List ℕ → List ℕ → List ℕ
 sources_to_any policy rules targets = filter (λ source. list_any (any_joins policy rules source) targets) (range_with_len 1 policy.symbols.types.nprim)
 
+-- the types that the rules and others join to one and the same of some targets, rising
+unfoldable pub common_sources : Parts → List ℕ → List ℕ → List ℕ → List ℕ
+common_sources policy rules others targets =
+    filter (λ source. list_any (λ target. any_joins policy rules source target && any_joins policy others source target) targets) (range_with_len 1 policy.symbols.types.nprim)
+
 -- ---- by one end alone
 
 -- the source of the rule of a number expands to a type
@@ -79,9 +85,9 @@ begins_at policy source number = rule_passes policy (λ rule. holds_type policy 
 unfoldable pub ends_at : Parts → ℕ → ℕ → Bool
 ends_at policy target number = rule_passes policy (λ rule. holds_type policy rule.target target) number
 
--- Of some rules, those whose source expands to a type.
-pub record AreRulesFrom (policy : Parts) (rules : List ℕ) (source : ℕ) (found : List ℕ) : Type 0 where
-  pub each : (number : ℕ) → Contains found number ↔ (Contains rules number × (begins_at policy source number ≡ true))
+-- Of some rules, those whose source expands to a type, each as often as it is among them, in any order.
+abbrev pub AreRulesFrom : Parts → List ℕ → ℕ → List ℕ → Type 0
+AreRulesFrom policy rules source found = IsPermutation found (filter (begins_at policy source) rules)
 
 -- the types that the targets of some rules expand to, rising
 unfoldable pub targets_of_rules : Parts → List ℕ → List ℕ

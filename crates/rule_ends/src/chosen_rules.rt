@@ -1,14 +1,16 @@
-ghost use Rattle.std.specs.Prelude.{◌≡◌, ◌<◌, ◌^◌, true, IfOk, length};
-ghost use Rattle.std.specs.List.{All, Contains};
+ghost use Rattle.std.specs.Prelude.{◌≡◌, ◌+◌, ◌<◌, ◌^◌, ◌||◌, ℕ, true, IfOk, OnOk, length};
+ghost use Rattle.std.specs.List.{All, Contains, filter, list_any, range_with_len};
 ghost use Rattle.pol_bitmap.specs.Nodes.{bits_of};
 ghost use Rattle.pol_expand.specs.PolicyMap.{IsPolicyMap};
 ghost use Rattle.rule_order.specs.ListedOrder.{AreRules};
-ghost use Rattle.rule_ends.specs.ChosenRules.{is_between_types, any_joins, rules_between, targets_from, sources_to, sources_to_any, AreRulesFrom, targets_of_rules};
-ghost use Rattle.rule_ends.specs.Inner.EndTables.{AreEndsOf, AreTargetsOf};
+ghost use Rattle.value_groups.specs.Among.{is_among};
+ghost use Rattle.rule_ends.specs.ChosenRules.{is_between_types, any_joins, rules_between, targets_from, sources_to, sources_to_any, common_sources, AreRulesFrom, targets_of_rules};
+ghost use Rattle.rule_ends.specs.Inner.EndTables.{AreEndsOf, AreTargetsOf, HaveEnds, IsEnd, any_at, joins_through, shares_at, shares_through};
 
 use crate::end_table::{EndTable, gathered_rules};
 use crate::gathered::RulesWithEnds;
 use crate::holding::{ends_holding, types_of, values_in};
+use crate::plain_types::is_type;
 use crate::walking::{found_rules, has_rule, other_ends, rules_with};
 use pol_bitmap::Set;
 use pol_expand::TypeMap;
@@ -16,7 +18,7 @@ use pol_read::Policy;
 use rule_order::{rules_have_one_order, sort_by_rule_order};
 use std::alloc::{AllocError, Global};
 use std::marker::Model;
-use value_groups::Marked;
+use value_groups::{DenseSet, Marked};
 
 /// Rules of a policy that were chosen, found by the types that their ends expand to. Contracts see the policy and the numbers of
 /// the rules.
@@ -188,5 +190,131 @@ impl<'p> ChosenRules<'p> {
             ends.add(self.policy.rule_ends(*number).target)?;
         }
         Ok(ends)
+    }
+}
+
+// What rules and others join to one and the same target.
+impl<'p> ChosenRules<'p> {
+    /// The types that these rules and others join to one and the same of some types. Each stored target is looked at once, with all
+    /// rules that have it.
+    pub fn common_sources(
+        &self,
+        alloc: Global,
+        others: &ChosenRules<'p>,
+        targets: &Set,
+    ) -> Result<Set, AllocError>
+        requires { others.now.policy ≡ self.now.policy }
+        ensures { IfOk result (λ set. bits_of set ≡ common_sources self.now.policy self.now.rules others.now.rules (bits_of targets.now)) }
+    {
+        self.have_ends();
+        others.have_ends();
+        let touching = self.types.touching(alloc, targets)?;
+        let ends = values_in(alloc, &touching)?;
+        self.sources_by_ends(alloc, others, &ends, targets)
+    }
+
+    // A law: the ends of the rules are types and attributes.
+    fn have_ends(&self)
+        ensures { HaveEnds self.now.policy self.now.rules }
+    {
+        let _ = &self.table;
+    }
+
+    // Those of them that have a rule with one of some stored targets.
+    fn sources_by_ends(
+        &self,
+        alloc: Global,
+        others: &ChosenRules<'p>,
+        ends: &[u32],
+        targets: &Set,
+    ) -> Result<Set, AllocError>
+        requires policy { others.now.policy ≡ self.now.policy }
+        requires ends { All (IsEnd self.now.policy) ends.now }
+        ensures { IfOk result (λ set. bits_of set ≡ filter (λ source. list_any (λ end. shares_at self.now.policy self.now.rules others.now.rules (bits_of targets.now) end source) ends.now) (range_with_len 1 self.now.policy.symbols.types.nprim)) }
+    {
+        self.have_ends();
+        others.have_ends();
+        let mut found = DenseSet::new(alloc, self.policy.type_count() as usize + 1)?;
+        for end in ends {
+            self.add_sources(alloc, others, *end, targets, &mut found)?;
+        }
+        found.to_set(alloc)
+    }
+
+    // Adds those that have a rule with a stored target. Where it is an attribute, the rules of the one list that have it meet all rules
+    // of the other; where it is a type, only those that have it too, since those of attributes meet all rules on their part.
+    fn add_sources(
+        &self,
+        alloc: Global,
+        others: &ChosenRules<'p>,
+        end: u32,
+        targets: &Set,
+        found: &mut DenseSet,
+    ) -> Result<(), AllocError>
+        requires policy { others.now.policy ≡ self.now.policy }
+        requires end { IsEnd self.now.policy end }
+        requires count { found.old.count ≡ self.now.policy.symbols.types.nprim + 1 }
+        ensures count { found.new.count ≡ found.old.count }
+        ensures each { OnOk result ((source : ℕ) → is_among found.new.values source ≡ (is_among found.old.values source || shares_at self.now.policy self.now.rules others.now.rules (bits_of targets.now) end source)) }
+    {
+        self.add_sources_through(alloc, others, end, targets, found)?;
+        if is_type(self.policy, end) {
+            return Ok(());
+        }
+        others.add_sources_through(alloc, self, end, targets, found)?;
+        Ok(())
+    }
+
+    // Adds those that these rules join to a stored target, and the others to what it expands to.
+    fn add_sources_through(
+        &self,
+        alloc: Global,
+        others: &ChosenRules<'p>,
+        end: u32,
+        targets: &Set,
+        found: &mut DenseSet,
+    ) -> Result<(), AllocError>
+        requires policy { others.now.policy ≡ self.now.policy }
+        requires end { IsEnd self.now.policy end }
+        requires count { found.old.count ≡ self.now.policy.symbols.types.nprim + 1 }
+        ensures count { found.new.count ≡ found.old.count }
+        ensures each { OnOk result ((source : ℕ) → is_among found.new.values source ≡ (is_among found.old.values source || shares_through self.now.policy self.now.rules others.now.rules (bits_of targets.now) end source)) }
+    {
+        self.have_ends();
+        let own = self.sources_at(alloc, end)?;
+        if own.nodes().is_empty() {
+            return Ok(());
+        }
+        let theirs = others.sources_through(alloc, end, targets)?;
+        let both = own.common(alloc, &theirs)?;
+        found.add_set(&both);
+        Ok(())
+    }
+
+    // The types that the rules join to those of some types that an end expands to, as far as a type is the stored target itself.
+    fn sources_through(&self, alloc: Global, end: u32, targets: &Set) -> Result<Set, AllocError>
+        requires { IsEnd self.now.policy end }
+        ensures { IfOk result (λ set. bits_of set ≡ filter (joins_through self.now.policy self.now.rules (bits_of targets.now) end) (range_with_len 1 self.now.policy.symbols.types.nprim)) }
+    {
+        if is_type(self.policy, end) {
+            return self.sources_at(alloc, end);
+        }
+        let members = types_of(alloc, self.policy, self.types, &[end])?;
+        let among = members.common(alloc, targets)?;
+        self.sources_of_any(alloc, &among)
+    }
+
+    // The types that the sources of the rules with a stored target expand to.
+    fn sources_at(&self, alloc: Global, end: u32) -> Result<Set, AllocError>
+        requires { IsEnd self.now.policy end }
+        ensures { IfOk result (λ set. bits_of set ≡ filter (any_at self.now.policy self.now.rules end) (range_with_len 1 self.now.policy.symbols.types.nprim)) }
+    {
+        let table = &self.table;
+        if table.by_target.places(end).is_empty() {
+            return Set::empty(alloc);
+        }
+        let count = self.policy.type_count() as usize + 1;
+        let ends = other_ends(alloc, &table.sources, &table.by_target, &[end], count)?;
+        types_of(alloc, self.policy, self.types, ends.values())
     }
 }

@@ -1,5 +1,5 @@
 -- The ends of chosen rules, by the places of the rules in their list. It serves the code alone.
-use Rattle.std.specs.Prelude.{◌≡◌, ℕ, ◌+◌, ◌<◌, ◌==◌, nat_lt, ◌&&◌, Bool, true, List, length, map, not, is_some, slice_index}
+use Rattle.std.specs.Prelude.{◌≡◌, ℕ, ◌+◌, ◌<◌, ◌==◌, nat_lt, ◌&&◌, ◌||◌, Bool, true, List, length, map, not, is_some, slice_index, if◌then◌else◌}
 use Rattle.std.specs.List.{All, filter, flat_map, list_any}
 use Rattle.pol_datums.specs.declared.Flavour.TheVariants.{Attribute}
 use Rattle.pol_symbols.specs.PolicySymbols.{flavour_in}
@@ -9,7 +9,8 @@ use Rattle.pol_rules.specs.StoredRules.{StoredRule}
 use Rattle.pol_expand.specs.PolicyMap.{has_flavour}
 use Rattle.value_groups.specs.Among.{is_among}
 use Rattle.value_groups.specs.Inner.Grouping.{AreGroupsOf, group_of}
-use Rattle.rule_ends.specs.ChosenRules.{ends_at, holds_type, rule_passes}
+use Rattle.rule_ends.specs.ChosenRules.{any_joins, ends_at, holds_type, rule_passes}
+use Rattle.rule_ends.specs.PlainTypes.{is_type_value}
 
 -- a value is that of a type or of an attribute
 pub record IsEnd (policy : Parts) (value : ℕ) : Type 0 where
@@ -27,6 +28,10 @@ pub record AreEndsOf (policy : Parts) (rules sources targets : List ℕ) : Type 
   pub each : (place : ℕ) → place < length rules → rule_passes policy (has_ends (slice_index sources place) (slice_index targets place)) (slice_index rules place) ≡ true
   pub sources_are : All (IsEnd policy) sources
   pub targets_are : All (IsEnd policy) targets
+
+-- there are such ends of the rules
+abbrev pub HaveEnds : Parts → List ℕ → Type 0
+HaveEnds policy rules = (sources : List ℕ) × (targets : List ℕ) × AreEndsOf policy rules sources targets
 
 -- those of some places whose other end is among some values
 abbrev pub places_to : List ℕ → List ℕ → List ℕ → List ℕ
@@ -72,6 +77,31 @@ holds_any policy types value = list_any (holds_type policy value) types
 pub record AreTargetsOf (policy : Parts) (numbers ends : List ℕ) : Type 0 where
   pub are : All (IsEnd policy) ends
   pub each : (type : ℕ) → list_any (λ end. holds_type policy end type) ends ≡ list_any (ends_at policy type) numbers
+
+-- ---- what rules and others join to one and the same target
+
+-- a rule has a value as its target, and its source expands to a type
+abbrev pub stands_at : Parts → ℕ → ℕ → ℕ → Bool
+stands_at policy end source number = rule_passes policy (λ rule. (rule.target == end) && holds_type policy rule.source source) number
+
+-- one of the rules does
+abbrev pub any_at : Parts → List ℕ → ℕ → ℕ → Bool
+any_at policy rules end source = list_any (stands_at policy end source) rules
+
+-- The rules join a type to one of those of some targets that a value expands to. Where the value is a type, those count that have it as
+-- their target themselves.
+abbrev pub joins_through : Parts → List ℕ → List ℕ → ℕ → ℕ → Bool
+joins_through policy rules targets end source =
+    if is_type_value policy end then any_at policy rules end source else list_any (λ target. holds_type policy end target && any_joins policy rules source target) targets
+
+-- one of the rules has the value as its target, and others join its source to one of those
+abbrev pub shares_through : Parts → List ℕ → List ℕ → List ℕ → ℕ → ℕ → Bool
+shares_through policy rules others targets end source = any_at policy rules end source && joins_through policy others targets end source
+
+-- likewise, whichever of them have the value
+abbrev pub shares_at : Parts → List ℕ → List ℕ → List ℕ → ℕ → ℕ → Bool
+shares_at policy rules others targets end source =
+    shares_through policy rules others targets end source || (not (is_type_value policy end) && shares_through policy others rules targets end source)
 
 -- ---- the whole table
 

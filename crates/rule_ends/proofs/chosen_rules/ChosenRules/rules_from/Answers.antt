@@ -20,6 +20,6 @@ returns c =
     let from = c.in_ok-from.from.values in
     subst (λ (r : ChosenRules). IfOk c.rules_with.result (λ found. AreRulesFrom r.policy r.rules c.args.source found.items)) c.self.view_is
     (IfOk-weaker c.rules_with.result (λ found. found.items ≡ rules_under c.deref.result.now (group_of table.by_source) c.values.result.now) (λ found. AreRulesFrom policy table.rules.items c.args.source found.items)
-    (λ found is. rules_from_are policy table.rules.items table.sources.items table.targets.items table.by_source table.by_target c.args.source from found.items c.self.invariant.1 (record { each = c.in_ok-from.ensures.each; within = c.in_ok-from.ensures.within })
+    (λ found is. rules_from_are policy table.rules.items table.sources.items table.targets.items table.by_source table.by_target c.args.source from found.items c.self.invariant.1 c.values.ensures.apart (record { each = c.in_ok-from.ensures.each; within = c.in_ok-from.ensures.within })
     (is ∙ ap (λ (rules : List ℕ). rules_under rules (group_of table.by_source) c.values.result.now) c.deref.ensures.value ∙ ap (λ (ends : List ℕ). rules_under table.rules.items (group_of table.by_source) ends) c.values.ensures.values))
     c.rules_with.ensures)
