@@ -8,7 +8,7 @@ use Rattle.std.proofs.lemmas.Bool.{and_parts, and_from, eqb-true}
 use Rattle.std.proofs.Math.Seq.{take-append_seam}
 use Rattle.std.proofs.lemmas.List.Elements.{All-contains, All-contains_itself, All-filter, All-weaker, Contains-append_left, Contains-append_right}
 use Rattle.std.proofs.lemmas.List.Folds.{list_any-append}
-use Rattle.std.proofs.lemmas.List.Sorted.{Contains-permutation, IsPermutation-sym, length_permutation}
+use Rattle.std.proofs.lemmas.List.Sorted.{IsPermutation-sym, IsPermutation-trans, length_permutation}
 use Rattle.pol_bitmap.specs.Sets.{IsCommon, ShareBit}
 use Rattle.pol_bitmap.proofs.Elements.{kept, keeps, contains_range, range_holds}
 use Rattle.pol_expand.proofs.Values.{same_tests}
@@ -17,14 +17,16 @@ use Rattle.pol_symbols.specs.PolicySymbols.{value_in}
 use Rattle.pol_file.specs.declared.Parts.{Parts}
 use Rattle.pol_rules.specs.StoredRules.{StoredRule, stored_rules}
 use Rattle.rule_order.specs.ListedOrder.{AreRules, is_listed_before, ordered_by, with_number}
-use Rattle.rule_ends.specs.ChosenRules.{AreRulesFrom, any_joins, begins_at, ends_at, joins, passes, rule_passes, targets_from, targets_of_rules}
+use Rattle.rule_ends.specs.ChosenRules.{AreRulesFrom, any_joins, begins_at, ends_at, is_between_types, joins, passes, rule_passes, targets_from, targets_of_rules}
 use Rattle.rule_ends.specs.PlainTypes.{is_type_value}
 use Rattle.rule_ends.proofs.Anys.{any_agree, any_gives, any_from, filter_agree, or_assoc, or_false}
-use Rattle.rule_ends.proofs.ByOneEnd.{joins_by_ends}
 use Rattle.rule_ends.proofs.Ends.{passes_within}
+use Rattle.rule_ends.proofs.ByOneEnd.{from_each, joins_by_ends}
 use Rattle.dom_trans.specs.Grants.{rules_that, sets_default, granting_rules, grants, default_rules, has_default, part_has_default, process, file, entrypoint}
 use Rattle.dom_trans.specs.Transitions.{is_default}
+use Rattle.dom_trans.specs.Inner.RuleLists.{HaveTypeEnds, rules_to}
 use Rattle.dom_trans.specs.Inner.Targets.{AreTypeValues, HaveDefaultOf, enters_by, starts_at_point, starts_to}
+use Rattle.dom_trans.proofs.Keeps.{filter_short}
 
 -- the default of a stored rule
 pub default_of : (policy : Parts) (value number : ℕ) (rule : StoredRule) → slice_get (stored_rules policy) number ≡ Some rule → part_has_default value rule.part ≡ has_default policy value number
@@ -51,11 +53,14 @@ default_rule_below policy number there =
     let w = All-contains (λ (b : ℕ). (0 ≤ b) × (b < 0 + count)) (range_with_len 0 count) number (range_holds 0 count) h.0 in
     omega (arith, w.1)
 
+pub defaults_are_rules : (policy : Parts) → AreRules policy (default_rules policy)
+defaults_are_rules policy = All-weaker (Contains (default_rules policy)) (λ (n : ℕ). n < length (stored_rules policy)) (λ n h. default_rule_below policy n h) (default_rules policy) (All-contains_itself (default_rules policy))
+
 pub from_are_rules : (policy : Parts) (a : ℕ) (numbers : List ℕ) → AreRulesFrom policy (default_rules policy) a numbers → AreRules policy numbers
-from_are_rules policy a numbers from = All-weaker (Contains numbers) (λ (n : ℕ). n < length (stored_rules policy)) (λ n h. default_rule_below policy n ((from.each n).0 h).0) numbers (All-contains_itself numbers)
+from_are_rules policy a numbers from = All-weaker (Contains numbers) (λ (n : ℕ). n < length (stored_rules policy)) (λ n h. default_rule_below policy n ((from_each policy (default_rules policy) a numbers n from).0 h).0) numbers (All-contains_itself numbers)
 
 pub from_are_defaults : (policy : Parts) (a : ℕ) (numbers : List ℕ) → AreRulesFrom policy (default_rules policy) a numbers → All (Contains (default_rules policy)) numbers
-from_are_defaults policy a numbers from = All-weaker (Contains numbers) (Contains (default_rules policy)) (λ n h. ((from.each n).0 h).0) numbers (All-contains_itself numbers)
+from_are_defaults policy a numbers from = All-weaker (Contains numbers) (Contains (default_rules policy)) (λ n h. ((from_each policy (default_rules policy) a numbers n from).0 h).0) numbers (All-contains_itself numbers)
 
 -- ---- whether some number passes a test, in any order
 
@@ -118,11 +123,11 @@ starts_are policy a b numbers found from is = filter_agree (λ type. list_any (e
         (λ t.
         let f = any_gives (ends_at policy entry) found t in
         let k = kept (has_default policy b) numbers f.0 (subst (λ (xs : List ℕ). Contains xs f.0) is f.1) in
-        let r = (from.each f.0).0 k.0 in
+        let r = (from_each policy (default_rules policy) a numbers f.0 from).0 k.0 in
         rule_default policy a b entry (record { number = f.0; is = r.0; begins = r.1; ends = f.2; default = k.1 }))
         (λ t.
         let s = default_rule policy a b entry t in
-        any_from (ends_at policy entry) found s.number (subst (λ (xs : List ℕ). Contains xs s.number) (sym is) (keeps (has_default policy b) numbers s.number ((from.each s.number).1 (s.is, s.begins)) s.default)) s.ends)
+        any_from (ends_at policy entry) found s.number (subst (λ (xs : List ℕ). Contains xs s.number) (sym is) (keeps (has_default policy b) numbers s.number ((from_each policy (default_rules policy) a numbers s.number from).1 (s.is, s.begins)) s.default)) s.ends)
 
 -- these are rules of the list
 pub with_default_are : (policy : Parts) (a b : ℕ) (numbers found : List ℕ) → AreRulesFrom policy (default_rules policy) a numbers → found ≡ filter (has_default policy b) numbers → All (Contains (default_rules policy)) found
@@ -130,9 +135,7 @@ with_default_are policy a b numbers found from is =
     subst (All (Contains (default_rules policy))) (sym is) (All-filter (has_default policy b) (Contains (default_rules policy)) numbers (from_are_defaults policy a numbers from))
 
 pub moved_from : (policy : Parts) (rules : List ℕ) (a : ℕ) (old new : List ℕ) → AreRulesFrom policy rules a old → IsPermutation old new → AreRulesFrom policy rules a new
-moved_from policy rules a old new from moved = record {
-  each = λ number. (λ there. (from.each number).0 (Contains-permutation new old number (IsPermutation-sym old new moved) there), λ h. Contains-permutation old new number moved ((from.each number).1 h));
-}
+moved_from policy rules a old new from moved = IsPermutation-trans new old (filter (begins_at policy a) rules) (IsPermutation-sym old new moved) from
 
 -- as a vector whose numbers are lent as a slice to be sorted
 pub sorted_from : (policy : Parts) (a : ℕ) (numbers lent sorted seen : List ℕ) (len : ℕ) → AreRulesFrom policy (default_rules policy) a numbers → lent ≡ numbers → len ≡ length numbers → IsPermutation lent sorted → seen ≡ take len (sorted ++ drop (length sorted) numbers)
@@ -158,6 +161,29 @@ part_added p front rest all old new whole added =
 pub nothing_left : (p : ℕ → Bool) (left : List ℕ) (now : Bool) → (length left == 0) ≡ true → now ≡ (now || list_any p left)
 nothing_left p [] now e = sym (or_false now)
 nothing_left p (x ∷ xs) now e = absurd (omega (arith, eqb-true (length (x ∷ xs)) 0 e))
+
+-- ---- the rules that set one default
+
+-- the rules that set a type as the default join one type to another where that is the default from there
+pub default_by_rules : (policy : Parts) (a b entry : ℕ) → any_joins policy (rules_to policy b) a entry ≡ true → is_default policy a b entry ≡ true
+default_by_rules policy a b entry e =
+    let f = any_gives (joins policy a entry) (rules_to policy b) e in
+    let k = kept (has_default policy b) (default_rules policy) f.0 f.1 in
+    let parts = and_parts (begins_at policy a f.0) (ends_at policy entry f.0) (sym (joins_by_ends policy a entry f.0) ∙ f.2) in
+    rule_default policy a b entry (record { number = f.0; is = k.0; begins = parts.0; ends = parts.1; default = k.1 })
+
+pub rules_by_default : (policy : Parts) (a b entry : ℕ) → is_default policy a b entry ≡ true → any_joins policy (rules_to policy b) a entry ≡ true
+rules_by_default policy a b entry e =
+    let s = default_rule policy a b entry e in
+    any_from (joins policy a entry) (rules_to policy b) s.number (keeps (has_default policy b) (default_rules policy) s.number s.is s.default)
+    (joins_by_ends policy a entry s.number ∙ and_from (begins_at policy a s.number) (ends_at policy entry s.number) s.begins s.ends)
+
+-- some of the rules of a list have types as ends, as all do
+pub some_have_ends : (policy : Parts) (p : ℕ → Bool) (rules found : List ℕ) → HaveTypeEnds policy rules → found ≡ filter p rules → HaveTypeEnds policy found
+some_have_ends policy p rules found have is = subst (HaveTypeEnds policy) (sym is) (record {
+  types = All-filter p (λ number. is_between_types policy number ≡ true) rules have.types;
+  few = omega (arith, have.few, filter_short p rules);
+})
 
 -- ---- rules of one default
 

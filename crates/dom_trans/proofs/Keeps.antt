@@ -67,7 +67,7 @@ kept_types policy n test numbers types is =
 
 -- ---- they are few
 
-filter_short : (p : ℕ → Bool) (xs : List ℕ) → length (filter p xs) ≤ length xs
+pub filter_short : (p : ℕ → Bool) (xs : List ℕ) → length (filter p xs) ≤ length xs
 filter_short p [] = omega arith
 filter_short p (x ∷ xs) = go (p x) (filter_short p xs)
   where

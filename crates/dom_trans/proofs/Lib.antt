@@ -6,4 +6,5 @@ pub mod Ways
 pub mod Listed
 pub mod Targets
 pub mod Defaults
+pub mod Grouped
 pub mod Sources

@@ -1,56 +1,22 @@
 -- The types that may change to a type, found by sets of rules.
-use Rattle.std.proofs.Common.{◌≡◌, ℕ, Bool, true, false, List, refl, sym, ap, subst, ◌∙◌, inl, inr, arith}
-use Rattle.std.specs.Prelude.{◌&&◌, ◌||◌, ◌↔◌}
-use Rattle.std.specs.Bool.{IsTrue}
+use Rattle.std.proofs.Common.{◌≡◌, ℕ, Bool, true, false, List, [], ◌∷◌, get_or, refl, sym, ap, subst, ◌∙◌, inl, inr, arith}
+use Rattle.std.specs.Prelude.{◌==◌, ◌&&◌, ◌||◌, ◌↔◌, ◌⊎◌, not}
 use Rattle.std.specs.List.{Contains, filter, list_any, range_with_len}
 use Rattle.std.proofs.lemmas.Bool.{and_parts, and_from, or_cases, or_left, or_right, false≢true}
-use Rattle.pol_bitmap.specs.Sets.{IsUnion, IsCommon, ShareBit}
+use Rattle.pol_bitmap.specs.Sets.{IsUnion, IsCommon}
 use Rattle.pol_bitmap.proofs.Elements.{kept, keeps, contains_range}
-use Rattle.pol_expand.proofs.Values.{same_tests}
 use Rattle.pol_file.specs.declared.Parts.{Parts}
-use Rattle.rule_ends.specs.ChosenRules.{any_joins, targets_from, sources_to, sources_to_any}
-use Rattle.rule_ends.proofs.Anys.{any_gives, any_from}
+use Rattle.rule_ends.specs.ChosenRules.{any_joins, common_sources, targets_from, sources_to, sources_to_any}
+use Rattle.rule_ends.proofs.Anys.{any_gives, any_from, filter_agree}
+use Rattle.rule_ends.proofs.Found.{filter_never}
 use Rattle.dom_trans.specs.Grants.{granting_rules, grants, process, file, transition, dyntransition, setexec, setcurrent, execute, entrypoint}
 use Rattle.dom_trans.specs.Transitions.{is_default, is_entry, is_standard, is_dynamic}
-use Rattle.rule_ends.specs.PlainTypes.{are_two_types}
+use Rattle.rule_ends.specs.PlainTypes.{are_two_types, is_type_value}
 use Rattle.rule_ends.proofs.TypesOutside.{two_within}
-use Rattle.dom_trans.specs.Inner.Targets.{AreEntering, AreSources, has_entry, may_enter, starts_to}
-use Rattle.dom_trans.proofs.Defaults.{in_targets_from, not_so}
-use Rattle.dom_trans.proofs.Entries.{entry_default, entry_from, entry_parts, in_starts}
-
--- ---- an entry from one type
-
--- where a type may not ask for another domain, it enters one that it starts by default
-pub enters_by_default : (policy : Parts) (a b : ℕ) (executable points starts entries : List ℕ) (met : Bool) → grants policy a a process setexec ≡ false → points ≡ targets_from policy (granting_rules policy file entrypoint) b
-    → executable ≡ targets_from policy (granting_rules policy file execute) a → starts ≡ starts_to policy a b → IsCommon starts points entries → (IsTrue met ↔ ShareBit entries executable) → met ≡ may_enter policy a b
-enters_by_default policy a b executable points starts entries met never are_points executes started common says =
-    same_tests met (has_entry policy a b)
-    (λ t.
-    let share = says.0 t in
-    let parts = (common.each share.bit).0 share.left in
-    let start = (in_starts policy a b share.bit starts started).0 parts.0 in
-    let point = (in_targets_from policy (granting_rules policy file entrypoint) b share.bit points are_points).0 parts.1 in
-    let may = (in_targets_from policy (granting_rules policy file execute) a share.bit executable executes).0 share.right in
-    any_from (is_entry policy a b) (range_with_len 1 policy.symbols.types.nprim) share.bit point.0 (entry_from policy a b share.bit point.1 may.1 (or_right (grants policy a a process setexec) (is_default policy a b share.bit) start.1)))
-    (λ t.
-    let f = any_gives (is_entry policy a b) (range_with_len 1 policy.symbols.types.nprim) t in
-    let parts = entry_parts policy a b f.0 f.2 in
-    let start = (in_starts policy a b f.0 starts started).1 (f.1, entry_default policy a b f.0 never parts.2) in
-    let point = (in_targets_from policy (granting_rules policy file entrypoint) b f.0 points are_points).1 (f.1, parts.0) in
-    let may = (in_targets_from policy (granting_rules policy file execute) a f.0 executable executes).1 (f.1, parts.1) in
-    says.1 (record { bit = f.0; left = (common.each f.0).1 (start, point); right = may }))
-    ∙ ap (λ (asks : Bool). asks || has_entry policy a b) (sym never)
-
--- and none whose entry points it does not start from
-pub enters_nowhere : (policy : Parts) (a b : ℕ) (points starts : List ℕ) (met : Bool) → grants policy a a process setexec ≡ false → points ≡ targets_from policy (granting_rules policy file entrypoint) b → starts ≡ starts_to policy a b → (IsTrue met ↔ ShareBit starts points)
-    → met ≡ false → false ≡ may_enter policy a b
-enters_nowhere policy a b points starts met never are_points started says apart =
-    sym (ap (λ (asks : Bool). asks || has_entry policy a b) never ∙ not_so (has_entry policy a b) (λ t.
-    let f = any_gives (is_entry policy a b) (range_with_len 1 policy.symbols.types.nprim) t in
-    let parts = entry_parts policy a b f.0 f.2 in
-    let start = (in_starts policy a b f.0 starts started).1 (f.1, entry_default policy a b f.0 never parts.2) in
-    let point = (in_targets_from policy (granting_rules policy file entrypoint) b f.0 points are_points).1 (f.1, parts.0) in
-    false≢true (sym apart ∙ says.1 (record { bit = f.0; left = start; right = point }))))
+use Rattle.dom_trans.specs.Inner.Targets.{AreEntering, AreSources, has_entry}
+use Rattle.dom_trans.specs.Inner.RuleLists.{rules_to}
+use Rattle.dom_trans.proofs.Defaults.{default_by_rules, in_targets_from, rules_by_default}
+use Rattle.dom_trans.proofs.Entries.{entry_from, entry_parts}
 
 -- ---- by sets of sources
 
@@ -76,20 +42,45 @@ in_sources_of_any policy rules a b targets sources is two =
       λ e. subst (λ (xs : List ℕ). Contains xs a) (sym is) (keeps joined range a (contains_range 1 policy.symbols.types.nprim a nodes.0 (omega (arith, nodes.1))) e),
     )
 
--- a type that may execute an entry point, and asks for the domain or starts it by default, has an entry
+-- a type that may execute an entry point, and asks for the domain, has an entry
 entry_by_request : (policy : Parts) (a b : ℕ) (points : List ℕ) → points ≡ targets_from policy (granting_rules policy file entrypoint) b → list_any (any_joins policy (granting_rules policy file execute) a) points ≡ true
-    → may_enter policy a b ≡ true → has_entry policy a b ≡ true
-unfolding targets_from is_entry
-entry_by_request policy a b points are executes enters = elim (or_cases (grants policy a a process setexec) (has_entry policy a b) enters) [
-  | inl asks ↦
-      let f = any_gives (any_joins policy (granting_rules policy file execute) a) points executes in
-      let entry = f.0 in
-      let point = kept (any_joins policy (granting_rules policy file entrypoint) b) (range_with_len 1 policy.symbols.types.nprim) entry (subst (λ (xs : List ℕ). Contains xs entry) are f.1) in
-      any_from (is_entry policy a b) (range_with_len 1 policy.symbols.types.nprim) entry point.0
-      (and_from (grants policy b entry file entrypoint && grants policy a entry file execute) (grants policy a a process setexec || is_default policy a b entry) (and_from (grants policy b entry file entrypoint) (grants policy a entry file execute) point.1 f.2)
-      (or_left (grants policy a a process setexec) (is_default policy a b entry) asks))
-  | inr there ↦ there
-]
+    → grants policy a a process setexec ≡ true → has_entry policy a b ≡ true
+entry_by_request policy a b points are executes asks =
+    let f = any_gives (any_joins policy (granting_rules policy file execute) a) points executes in
+    let point = (in_targets_from policy (granting_rules policy file entrypoint) b f.0 points are).0 f.1 in
+    any_from (is_entry policy a b) (range_with_len 1 policy.symbols.types.nprim) f.0 point.0 (entry_from policy a b f.0 point.1 f.2 (or_left (grants policy a a process setexec) (is_default policy a b f.0) asks))
+
+-- and so has one that may execute an entry point from which it starts the domain by default
+abbrev pub starts_from : Parts → ℕ → ℕ → ℕ → Bool
+starts_from policy b a entry = any_joins policy (rules_to policy b) a entry && any_joins policy (granting_rules policy file execute) a entry
+
+entry_by_default : (policy : Parts) (a b : ℕ) (points starting : List ℕ) → points ≡ targets_from policy (granting_rules policy file entrypoint) b → starting ≡ common_sources policy (rules_to policy b) (granting_rules policy file execute) points
+    → Contains starting a → has_entry policy a b ≡ true
+unfolding common_sources
+entry_by_default policy a b points starting are is there =
+    let range = range_with_len 1 policy.symbols.types.nprim in
+    let k = kept (λ source. list_any (starts_from policy b source) points) range a (subst (λ (xs : List ℕ). Contains xs a) is there) in
+    let f = any_gives (starts_from policy b a) points k.1 in
+    let both = and_parts (any_joins policy (rules_to policy b) a f.0) (any_joins policy (granting_rules policy file execute) a f.0) f.2 in
+    let point = (in_targets_from policy (granting_rules policy file entrypoint) b f.0 points are).0 f.1 in
+    any_from (is_entry policy a b) range f.0 point.0 (entry_from policy a b f.0 point.1 both.1 (or_right (grants policy a a process setexec) (is_default policy a b f.0) (default_by_rules policy a b f.0 both.0)))
+
+-- there is no other entry
+asks_or_starts : (policy : Parts) (a b : ℕ) (points starting : List ℕ) → are_two_types policy a b ≡ true → points ≡ targets_from policy (granting_rules policy file entrypoint) b
+    → starting ≡ common_sources policy (rules_to policy b) (granting_rules policy file execute) points → has_entry policy a b ≡ true → (grants policy a a process setexec ≡ true) ⊎ Contains starting a
+unfolding common_sources
+asks_or_starts policy a b points starting two are is e =
+    let range = range_with_len 1 policy.symbols.types.nprim in
+    let nodes = two_within policy a b two in
+    let f = any_gives (is_entry policy a b) range e in
+    let parts = entry_parts policy a b f.0 f.2 in
+    elim (or_cases (grants policy a a process setexec) (is_default policy a b f.0) parts.2) [
+      | inl asks ↦ inl asks
+      | inr default ↦
+          let point = (in_targets_from policy (granting_rules policy file entrypoint) b f.0 points are).1 (f.1, parts.0) in
+          let both = and_from (any_joins policy (rules_to policy b) a f.0) (any_joins policy (granting_rules policy file execute) a f.0) (rules_by_default policy a b f.0 default) parts.1 in
+          inr (subst (λ (xs : List ℕ). Contains xs a) (sym is) (keeps (λ source. list_any (starts_from policy b source) points) range a (contains_range 1 policy.symbols.types.nprim a nodes.0 (omega (arith, nodes.1))) (any_from (starts_from policy b a) points f.0 point both)))
+    ]
 
 -- an entry is an entry point that the type may execute
 entry_executes : (policy : Parts) (a b : ℕ) (points : List ℕ) → points ≡ targets_from policy (granting_rules policy file entrypoint) b → has_entry policy a b ≡ true → list_any (any_joins policy (granting_rules policy file execute) a) points ≡ true
@@ -103,24 +94,54 @@ entry_executes policy a b points are e =
     any_from (any_joins policy (granting_rules policy file execute) a) points entry (subst (λ (xs : List ℕ). Contains xs entry) (sym are) (keeps (any_joins policy (granting_rules policy file entrypoint) b) range entry f.1 inner.0)) inner.1
 
 -- by executing a file
-pub entering_are : (policy : Parts) (b : ℕ) (points executing allowed among found : List ℕ) → points ≡ targets_from policy (granting_rules policy file entrypoint) b → executing ≡ sources_to_any policy (granting_rules policy file execute) points
-    → allowed ≡ sources_to policy (granting_rules policy process transition) b → IsCommon allowed executing among → found ≡ filter (λ a. may_enter policy a b) among → AreEntering policy b found
+pub entering_are : (policy : Parts) (b : ℕ) (points executing allowed among asking starting default found : List ℕ) → points ≡ targets_from policy (granting_rules policy file entrypoint) b
+    → executing ≡ sources_to_any policy (granting_rules policy file execute) points → allowed ≡ sources_to policy (granting_rules policy process transition) b → IsCommon allowed executing among
+    → asking ≡ filter (λ a. grants policy a a process setexec) among → starting ≡ common_sources policy (rules_to policy b) (granting_rules policy file execute) points → IsCommon among starting default → IsUnion asking default found → AreEntering policy b found
 unfolding is_standard
-entering_are policy b points executing allowed among found are execute_is allowed_is common is = record {
+entering_are policy b points executing allowed among asking starting default found are execute_is allowed_is common asking_is starting_is by_default union = record {
   each = λ a two.
       let granted = in_sources policy (granting_rules policy process transition) a b allowed allowed_is two in
-      let executes = in_sources_of_any policy (granting_rules policy file execute) a b points executing execute_is two in (
-        λ there.
-            let h = kept (λ source. may_enter policy source b) among a (subst (λ (xs : List ℕ). Contains xs a) is there) in
-            let parts = (common.each a).0 h.0 in
-            and_from (are_two_types policy a b && grants policy a b process transition) (has_entry policy a b) (and_from (are_two_types policy a b) (grants policy a b process transition) two (granted.0 parts.0))
-            (entry_by_request policy a b points are (executes.0 parts.1) h.1),
+      let executes = in_sources_of_any policy (granting_rules policy file execute) a b points executing execute_is two in
+      let asks = λ (source : ℕ). grants policy source source process setexec in
+      let standard = λ (there : Contains among a) (entry : has_entry policy a b ≡ true). and_from (are_two_types policy a b && grants policy a b process transition) (has_entry policy a b)
+      (and_from (are_two_types policy a b) (grants policy a b process transition) two (granted.0 ((common.each a).0 there).0)) entry in (
+        λ there. elim ((union.each a).0 there) [
+          | inl asking_a ↦
+              let h = kept asks among a (subst (λ (xs : List ℕ). Contains xs a) asking_is asking_a) in
+              standard h.0 (entry_by_request policy a b points are (executes.0 ((common.each a).0 h.0).1) h.1)
+          | inr default_a ↦
+              let h = (by_default.each a).0 default_a in
+              standard h.0 (entry_by_default policy a b points starting are starting_is h.1)
+        ],
         λ e.
             let outer = and_parts (are_two_types policy a b && grants policy a b process transition) (has_entry policy a b) e in
             let inner = and_parts (are_two_types policy a b) (grants policy a b process transition) outer.0 in
             let there = (common.each a).1 (granted.1 inner.1, executes.1 (entry_executes policy a b points are outer.1)) in
-            subst (λ (xs : List ℕ). Contains xs a) (sym is) (keeps (λ source. may_enter policy source b) among a there (or_right (grants policy a a process setexec) (has_entry policy a b) outer.1)),
+            (union.each a).1 (elim (asks_or_starts policy a b points starting two are starting_is outer.1) [
+              | inl asking_a ↦ inl (subst (λ (xs : List ℕ). Contains xs a) (sym asking_is) (keeps asks among a there asking_a))
+              | inr starting_a ↦ inr ((by_default.each a).1 (there, starting_a))
+            ]),
       );
+}
+
+-- none starts it where no rule sets it as the default
+pub none_starting : (policy : Parts) (rules others points : List ℕ) → rules ≡ [] → [] ≡ common_sources policy rules others points
+unfolding common_sources
+none_starting policy rules others points none =
+    let range = range_with_len 1 policy.symbols.types.nprim in
+    sym
+    (filter_agree (λ source. list_any (λ target. any_joins policy rules source target && any_joins policy others source target) points) (λ source. false) range
+    (λ k d lt. ap (λ (rs : List ℕ). list_any (λ target. any_joins policy rs (get_or range k d) target && any_joins policy others (get_or range k d) target) points) none ∙ any_never points)
+    ∙ filter_never range)
+  where
+    any_never : (xs : List ℕ) → list_any (λ x. false) xs ≡ false
+    any_never [] = refl
+    any_never (x ∷ xs) = any_never xs
+
+-- no type is entered by a value that is none
+pub none_entering : (policy : Parts) (b : ℕ) (found : List ℕ) → is_type_value policy b ≡ false → AreEntering policy b found
+none_entering policy b found none = record {
+  each = λ a two. absurd (false≢true (sym none ∙ (and_parts (is_type_value policy a) (is_type_value policy b) (and_parts (is_type_value policy a && is_type_value policy b) (not (a == b)) two).0).1));
 }
 
 -- and without one

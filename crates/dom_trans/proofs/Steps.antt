@@ -1,14 +1,12 @@
 -- The steps of the graph.
 use Rattle.std.proofs.Common.{◌≡◌, ℕ, Bool, true, false, List, [], ◌∷◌, Result, Ok, Err, IfOk, ◌↔◌, refl, sym, ap, subst, ◌∙◌}
 use Rattle.std.specs.Prelude.{◌==◌, ◌&&◌, ◌||◌, not, if◌then◌else◌}
-use Rattle.std.specs.List.{Contains, filter, range_with_len}
+use Rattle.std.specs.List.{Contains}
 use Rattle.std.specs.List.Sorted.{IsStrictlyIncreasing}
 use Rattle.std.proofs.lemmas.Bool.{and_parts, and_from, false≢true, eqb-true, eq-eqb}
-use Rattle.std.proofs.lemmas.List.Kept.{IsStrictlyIncreasing-filter}
 use Rattle.pol_bitmap.specs.declared.Node.{Node}
 use Rattle.pol_bitmap.specs.Nodes.{bits_of, has_bit}
-use Rattle.pol_bitmap.specs.Sets.{IsSet, IsCommon, IsDifference}
-use Rattle.pol_bitmap.proofs.BitLists.{bits_increasing}
+use Rattle.pol_bitmap.specs.Sets.{IsCommon, IsDifference}
 use Rattle.pol_bitmap.proofs.Elements.{contains_nothing, contains_first, contains_one}
 use Rattle.pol_expand.proofs.Values.{filter_rises}
 use Rattle.pol_file.specs.declared.Parts.{Parts}
@@ -126,14 +124,9 @@ ends_to domains b sources found are opened = record {
 
 -- ---- edges
 
-pub filter_of_set_rises : (p : ℕ → Bool) (set : List Node) (found : List ℕ) → IsSet set → found ≡ filter p (bits_of set) → IsStrictlyIncreasing found
-filter_of_set_rises p set found form is = subst IsStrictlyIncreasing (sym is) (IsStrictlyIncreasing-filter p (bits_of set) (bits_increasing 0 set form.0))
-
-pub filter_of_sources_rises : (policy : Parts) (rules : List ℕ) (b : ℕ) (p : ℕ → Bool) (sources found : List ℕ) → sources ≡ sources_to policy rules b → found ≡ filter p sources → IsStrictlyIncreasing found
+pub sources_rise : (policy : Parts) (rules : List ℕ) (b : ℕ) → IsStrictlyIncreasing (sources_to policy rules b)
 unfolding sources_to
-filter_of_sources_rises policy rules b p sources found are is =
-    let joined = λ (source : ℕ). any_joins policy rules source b in
-    subst IsStrictlyIncreasing (sym (is ∙ ap (filter p) are)) (IsStrictlyIncreasing-filter p (filter joined (range_with_len 1 policy.symbols.types.nprim)) (filter_rises joined 1 policy.symbols.types.nprim))
+sources_rise policy rules b = filter_rises (λ source. any_joins policy rules source b) 1 policy.symbols.types.nprim
 
 -- edges forward, and edges turned round
 pub ends_forward : {E : Type 0} (domains : Domains) (node : ℕ) (r : Result (List Node) E) → domains.reverse ≡ false → IfOk r (λ set. AreEnds (is_step domains) node (bits_of set)) → IfOk r (λ set. AreEnds (domain_edge domains) node (bits_of set))

@@ -13,6 +13,7 @@ use Rattle.value_groups.specs.Among.{is_among}
 use Rattle.rule_ends.specs.ChosenRules.{AreRulesFrom, any_joins, ends_at, targets_from, sources_to_any}
 use Rattle.rule_ends.specs.PlainTypes.{are_two_types, is_type_value}
 use Rattle.rule_ends.proofs.Anys.{any_gives, any_from, among_contains, contains_among}
+use Rattle.rule_ends.proofs.ByOneEnd.{from_each}
 use Rattle.dom_trans.specs.Grants.{granting_rules, grants, default_rules, has_default, process, file, transition, dyntransition, setexec, setcurrent, execute, entrypoint}
 use Rattle.dom_trans.specs.Transitions.{is_default, is_entry, is_standard, is_dynamic}
 use Rattle.rule_ends.proofs.TypesOutside.{two_within}
@@ -126,7 +127,7 @@ entered_by_defaults policy a executable sets changes numbers types source never 
             let default = (and_parts (is_type_value policy b) (has_default policy b f.0) outer.0).1 in
             let e = any_gives (at_point f.0) (bits_of executable) outer.1 in
             let ends = and_parts (ends_at policy e.0 f.0) (grants policy b e.0 file entrypoint) e.2 in
-            let rule = (from.each f.0).0 f.1 in
+            let rule = (from_each policy (default_rules policy) a numbers f.0 from).0 f.1 in
             let may = (in_targets_from policy (granting_rules policy file execute) a e.0 (bits_of executable) source.executes).0 e.1 in
             any_from (is_entry policy a b) range e.0 may.0
             (entry_from policy a b e.0 ends.1 may.1
@@ -139,7 +140,7 @@ entered_by_defaults policy a executable sets changes numbers types source never 
             let may = (in_targets_from policy (granting_rules policy file execute) a entry (bits_of executable) source.executes).1 (f.1, parts.1) in
             among_contains types b
             (are b
-            ∙ any_from (enters_by policy (bits_of executable) b) numbers s.number ((from.each s.number).1 (s.is, s.begins))
+            ∙ any_from (enters_by policy (bits_of executable) b) numbers s.number ((from_each policy (default_rules policy) a numbers s.number from).1 (s.is, s.begins))
             (and_from (is_type_value policy b && has_default policy b s.number) (starts_at_point policy (bits_of executable) b s.number) (and_from (is_type_value policy b) (has_default policy b s.number) is_type s.default)
             (any_from (at_point s.number) (bits_of executable) entry may (and_from (ends_at policy entry s.number) (grants policy b entry file entrypoint) s.ends parts.0)))),
       );

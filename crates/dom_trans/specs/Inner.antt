@@ -1,3 +1,4 @@
+pub mod ByDefault
 pub mod DomainEdges
 pub mod EdgesBetween
 pub mod Keeping

@@ -1,17 +1,19 @@
-ghost use Rattle.std.specs.Prelude.{◌≡◌, ℕ, ◌+◌, ◌<◌, ◌≤◌, ◌||◌, ◌==◌, not, false, [], ◌∷◌, ◌++◌, IfOk, OnOk, length, map, slice_index, take, if◌then◌else◌};
+ghost use Rattle.std.specs.Prelude.{◌≡◌, ℕ, ◌+◌, ◌++◌, ◌==◌, ◌≤◌, ◌||◌, [], ◌∷◌, IfOk, OnOk, false, if◌then◌else◌, length, map, not, slice_index, take, true};
 ghost use Rattle.std.specs.List.{All, Contains, filter, list_any};
-ghost use Rattle.std.specs.List.Sorted.{IsPermutation};
+ghost use Rattle.std.specs.List.Sorted.{IsPermutation, IsStrictlyIncreasing};
 ghost use Rattle.pol_bitmap.specs.Nodes.{bits_of};
 ghost use Rattle.pol_expand.specs.PolicyMap.{IsPolicyMap};
 ghost use Rattle.rule_order.specs.ListedOrder.{AreRules};
-ghost use Rattle.rule_ends.specs.ChosenRules.{rules_between, targets_from, sources_to};
+ghost use Rattle.rule_ends.specs.ChosenRules.{any_joins, common_sources, rules_between, sources_to, targets_from};
+ghost use Rattle.rule_ends.specs.PlainTypes.{is_type_value};
 ghost use Rattle.value_groups.specs.Among.{is_among};
-ghost use Rattle.dom_trans.specs.Inner.Targets.{AreEntered, AreTargets, AreEntering, AreSources, AreTypeValues, HaveDefaultOf, enters_by, is_found, may_enter, starts_at_point, starts_to};
-ghost use Rattle.dom_trans.specs.Grants.{granting_rules, grants, default_rules, has_default, process, dyntransition, setcurrent, file, entrypoint};
+ghost use Rattle.dom_trans.specs.Inner.Targets.{AreEntered, AreEntering, AreSources, AreTargets, AreTypeValues, HaveDefaultOf, enters_by, is_found, starts_at_point, starts_to};
+ghost use Rattle.dom_trans.specs.Grants.{granting_rules, grants, default_rules, has_default, process, dyntransition, setcurrent, file, execute, entrypoint};
 ghost use Rattle.dom_trans.specs.Transitions.{entries, is_standard, is_dynamic, defaults_between};
 ghost use Rattle.dom_trans.specs.ReasonLists.{entry_reason, reasons_between};
-ghost use Rattle.dom_trans.specs.Inner.RuleLists.{HaveTypeEnds, IsSourceOf, chosen, is_allowed, rules_of};
+ghost use Rattle.dom_trans.specs.Inner.RuleLists.{HaveTypeEnds, IsSourceOf, chosen, is_allowed, rules_of, rules_to};
 
+use crate::by_default::RulesByDefault;
 use crate::grant::Grant;
 use crate::keeping::kept_rules;
 use crate::permission::has_default;
@@ -30,20 +32,25 @@ use value_groups::DenseSet;
 #[derive(Drop)]
 pub struct DomRules<'p> {
     policy: &'p Policy<'p>,
+    types: &'p TypeMap,
     // One for each grant, in their order.
     lists: Vec<ChosenRules<'p>>,
+    // The rules of the last list.
+    defaults: RulesByDefault<'p>,
 }
 
 impl<'p> Model for DomRules<'p> {
     ghost use Rattle.pol_file.specs.declared.Parts.{Parts};
     ghost use Rattle.std.specs.Prelude.{◌≡◌};
-    ghost use Rattle.dom_trans.specs.Inner.RuleLists.{rule_lists};
+    ghost use Rattle.pol_expand.specs.PolicyMap.{IsPolicyMap};
+    ghost use Rattle.dom_trans.specs.Grants.{default_rules};
+    ghost use Rattle.dom_trans.specs.Inner.RuleLists.{HaveTypeEnds, chosen, rule_lists};
 
     ghost Value = { Parts };
 
     ghost view = { λ r. r.policy.now };
 
-    ghost invariant = { λ r. r.lists.items ≡ rule_lists r.policy.now };
+    ghost invariant = { λ r. (r.lists.items ≡ rule_lists r.policy.now) × IsPolicyMap r.policy.now r.types.now × (r.defaults ≡ chosen r.policy.now (default_rules r.policy.now)) × HaveTypeEnds r.policy.now (default_rules r.policy.now) };
 }
 
 /// What a type may do, whatever the other domain is.
@@ -75,8 +82,14 @@ impl<'p> DomRules<'p> {
         push_ends(&mut lists, policy, types, kept.setcurrent)?;
         push_ends(&mut lists, policy, types, kept.execute)?;
         push_ends(&mut lists, policy, types, kept.entrypoint)?;
+        let defaults = copied(alloc, &kept.defaults)?;
         push_ends(&mut lists, policy, types, kept.defaults)?;
-        Ok(DomRules { policy, lists })
+        Ok(DomRules {
+            policy,
+            types,
+            lists,
+            defaults: RulesByDefault::of_rules(alloc, policy, defaults)?,
+        })
     }
 
     /// The policy.
@@ -355,53 +368,35 @@ impl<'p> DomRules<'p> {
         entering.union(alloc, &turning)
     }
 
-    // The types that may change to a type by executing a file.
+    // The types that may change to a type by executing a file: they may execute one of its entry points, and ask for it, or start it
+    // by default.
     fn entering(&self, alloc: Global, b: u32) -> Result<Set, AllocError>
         ensures { IfOk result (λ set. AreEntering self.now b (bits_of set)) }
     {
+        if !is_type(self.policy(), b) {
+            return Set::empty(alloc);
+        }
         let points = self.points(alloc, b)?;
-        let executing = self.list(Grant::Execute).sources_of_any(alloc, &points)?;
         let allowed = self.list(Grant::Transition).sources_of(alloc, b)?;
+        let executing = self.list(Grant::Execute).sources_of_any(alloc, &points)?;
         let among = allowed.common(alloc, &executing)?;
-        let found = self.entering_among(alloc, b, &points, &among)?;
-        Set::from_rising(alloc, &found)
+        let asking = self.having(alloc, Grant::Setexec, &among)?;
+        let starting = self.starting(alloc, b, &points)?;
+        let default = among.common(alloc, &starting)?;
+        asking.union(alloc, &default)
     }
 
-    // Those of some types that enter a domain, of which these are the entry points, where they may execute one.
-    fn entering_among(
-        &self,
-        alloc: Global,
-        b: u32,
-        points: &Set,
-        types: &Set,
-    ) -> Result<Vec<u32>, AllocError>
-        requires { bits_of points.now ≡ targets_from self.now (granting_rules self.now file entrypoint) b }
-        ensures { IfOk result (λ found. found.items ≡ filter (λ a. may_enter self.now a b) (bits_of types.now)) }
+    // The types that start a process from one of some types, which they may execute, and have a type as its default domain.
+    fn starting(&self, alloc: Global, b: u32, points: &Set) -> Result<Set, AllocError>
+        requires { is_type_value self.now b ≡ true }
+        ensures { IfOk result (λ set. bits_of set ≡ common_sources self.now (rules_to self.now b) (granting_rules self.now file execute) (bits_of points.now)) }
     {
-        let mut found = Vec::new(alloc);
-        for a in types.bits() {
-            if self.may_enter(alloc, a, b, points)? {
-                found.push(a)?;
-            }
+        let numbers = self.defaults.rules_to(alloc, b)?;
+        if numbers.is_empty() {
+            return Set::empty(alloc);
         }
-        Ok(found)
-    }
-
-    // Whether a type may ask for a domain, or starts it by default from one of its entry points.
-    fn may_enter(&self, alloc: Global, a: u32, b: u32, points: &Set) -> Result<bool, AllocError>
-        requires { bits_of points.now ≡ targets_from self.now (granting_rules self.now file entrypoint) b }
-        ensures { IfOk result (λ holds. holds ≡ may_enter self.now a b) }
-    {
-        if self.list(Grant::Setexec).has_between(alloc, a, a)? {
-            return Ok(true);
-        }
-        let starts = self.starts_to(alloc, a, b)?;
-        if !starts.meets(points) {
-            return Ok(false);
-        }
-        let executable = self.list(Grant::Execute).targets_of(alloc, a)?;
-        let entries = starts.common(alloc, points)?;
-        Ok(entries.meets(&executable))
+        let rules = ChosenRules::build(alloc, self.policy, self.types, numbers)?;
+        rules.common_sources(alloc, self.list(Grant::Execute), points)
     }
 
     // The types that may change to a type without executing a file.
@@ -409,9 +404,17 @@ impl<'p> DomRules<'p> {
         ensures { IfOk result (λ set. bits_of set ≡ filter (λ a. grants self.now a a process setcurrent) (sources_to self.now (granting_rules self.now process dyntransition) b)) }
     {
         let allowed = self.list(Grant::Dyntransition).sources_of(alloc, b)?;
+        self.having(alloc, Grant::Setcurrent, &allowed)
+    }
+
+    // Those of some types that a grant is given to, on themselves.
+    fn having(&self, alloc: Global, grant: Grant, types: &Set) -> Result<Set, AllocError>
+        requires { IsStrictlyIncreasing (bits_of types.now) }
+        ensures { IfOk result (λ set. bits_of set ≡ filter (λ a. any_joins self.now (rules_of self.now grant) a a) (bits_of types.now)) }
+    {
         let mut found = Vec::new(alloc);
-        for a in allowed.bits() {
-            if self.list(Grant::Setcurrent).has_between(alloc, a, a)? {
+        for a in types.bits() {
+            if self.list(grant).has_between(alloc, a, a)? {
                 found.push(a)?;
             }
         }
@@ -478,6 +481,15 @@ fn values_in(alloc: Global, set: &Set) -> Result<Vec<u32>, AllocError>
     ensures { IfOk result (λ values. values.items ≡ bits_of set.now) }
 {
     set.bits().collect(alloc)
+}
+
+// The same numbers once more.
+fn copied(alloc: Global, numbers: &[u32]) -> Result<Vec<u32>, AllocError>
+    ensures { IfOk result (λ copy. copy.items ≡ numbers.now) }
+{
+    let mut copy = Vec::with_capacity(alloc, numbers.len())?;
+    copy.extend_from_slice(numbers)?;
+    Ok(copy)
 }
 
 // Adds rules with their ends to lists.

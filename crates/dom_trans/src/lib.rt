@@ -1,6 +1,7 @@
 //! Transitions from domain to domain, and the rules behind each of them.
 #![tactic(auto)]
 
+mod by_default;
 mod dom_graph;
 mod dom_rules;
 mod grant;

@@ -1,6 +1,6 @@
 -- The rules that transitions rest on, each list as chosen rules. It serves the code alone.
 use Rattle.std.specs.Prelude.{◌≡◌, ℕ, ◌<◌, ◌^◌, Bool, true, ◌&&◌, List, [], ◌∷◌, length, map}
-use Rattle.std.specs.List.{All}
+use Rattle.std.specs.List.{All, filter}
 use Rattle.pol_bitmap.specs.declared.Node.{Node}
 use Rattle.pol_bitmap.specs.Nodes.{bits_of}
 use Rattle.pol_file.specs.declared.Parts.{Parts}
@@ -8,7 +8,7 @@ use Rattle.rule_ends.specs.ChosenRules.{ChosenRules, is_between_types, targets_f
 use Rattle.rule_ends.specs.PlainTypes.{are_two_types}
 use Rattle.dom_trans.specs.declared.grant.Grant.{Grant}
 use Rattle.dom_trans.specs.declared.grant.Grant.TheVariants.{Transition, Dyntransition, Setexec, Setcurrent, Execute, Entrypoint, Default}
-use Rattle.dom_trans.specs.Grants.{granting_rules, grants, default_rules, process, file, transition, dyntransition, setexec, setcurrent, execute, entrypoint}
+use Rattle.dom_trans.specs.Grants.{granting_rules, grants, default_rules, has_default, process, file, transition, dyntransition, setexec, setcurrent, execute, entrypoint}
 
 -- chosen rules of a policy
 abbrev pub chosen : Parts → List ℕ → ChosenRules
@@ -28,6 +28,10 @@ rules_of policy Setcurrent = granting_rules policy process setcurrent
 rules_of policy Execute = granting_rules policy file execute
 rules_of policy Entrypoint = granting_rules policy file entrypoint
 rules_of policy Default = default_rules policy
+
+-- the rules that set a type as the default domain
+abbrev pub rules_to : Parts → ℕ → List ℕ
+rules_to policy b = filter (has_default policy b) (default_rules policy)
 
 -- the place of a list among all
 abbrev pub place_of : Grant → ℕ

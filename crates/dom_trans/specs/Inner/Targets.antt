@@ -5,7 +5,7 @@ use Rattle.pol_bitmap.specs.Nodes.{has_bit}
 use Rattle.pol_file.specs.declared.Parts.{Parts}
 use Rattle.rule_ends.specs.ChosenRules.{ends_at}
 use Rattle.rule_ends.specs.PlainTypes.{are_two_types, is_type_value}
-use Rattle.dom_trans.specs.Grants.{grants, has_default, process, setexec, file, entrypoint}
+use Rattle.dom_trans.specs.Grants.{grants, has_default, file, entrypoint}
 use Rattle.dom_trans.specs.Transitions.{is_default, is_entry, is_standard, is_transition}
 use Rattle.dom_trans.specs.Inner.DomainEdges.{Domains}
 
@@ -49,10 +49,6 @@ is_found (Some found) value = found == value
 -- the types from which a process that the one type starts has the other as its default domain, rising
 unfoldable pub starts_to : Parts → ℕ → ℕ → List ℕ
 starts_to policy a b = filter (is_default policy a b) (range_with_len 1 policy.symbols.types.nprim)
-
--- a type may ask for another domain, or there is an entry from it to the domain
-abbrev pub may_enter : Parts → ℕ → ℕ → Bool
-may_enter policy a b = grants policy a a process setexec || has_entry policy a b
 
 -- Of the types other than one, those among some types are the ones that have a transition to it by executing a file.
 pub record AreEntering (policy : Parts) (b : ℕ) (types : List ℕ) : Type 0 where

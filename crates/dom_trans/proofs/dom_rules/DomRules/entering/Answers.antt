@@ -1,25 +1,37 @@
-use Rattle.std.proofs.Common.{◌≡◌, List, ap, sym, subst, ◌∙◌}
-use Rattle.std.specs.List.Sorted.{IsStrictlyIncreasing}
+use Rattle.std.proofs.Common.{◌≡◌, false, true, [], List, ap, sym, ◌∙◌, arith}
 use Rattle.std.proofs.lemmas.Result.{IfOk-weaker}
 use Rattle.pol_bitmap.specs.declared.Node.{Node}
 use Rattle.pol_bitmap.specs.Nodes.{bits_of}
+use Rattle.pol_bitmap.specs.Sets.{IsUnion}
+use Rattle.pol_bitmap.proofs.BitLists.{bits_increasing}
+use Rattle.pol_file.specs.declared.Parts.{Parts}
 use Rattle.rule_ends.specs.ChosenRules.{ChosenRules, sources_to, sources_to_any}
-use Rattle.dom_trans.specs.Inner.Targets.{AreEntering, may_enter}
-use Rattle.dom_trans.proofs.Steps.{filter_of_set_rises}
-use Rattle.dom_trans.proofs.Sources.{entering_are}
+use Rattle.rule_ends.specs.PlainTypes.{is_type_value}
+use Rattle.dom_trans.specs.Inner.Targets.{AreEntering}
+use Rattle.dom_trans.proofs.Sources.{entering_are, none_entering}
 use Rattle.dom_trans.proofs.dom_rules.DomRules.entering.Goals as goal
 
-pub from_rising-requires : goal.from_rising-requires
-from_rising-requires c =
-    subst IsStrictlyIncreasing (sym c.deref.ensures.value) (filter_of_set_rises (λ a. may_enter c.args.self.now a c.args.b) c.in_ok-among.among c.in_ok-found.found.items c.in_ok-among.ensures.form c.in_ok-found.ensures)
+pub returns-then-not-is_type : goal.returns-then-not-is_type
+returns-then-not-is_type c =
+    let answer : c.is_type.result ≡ false = grind (arith, c.if-not-is_type.true) in
+    let none = ap (λ (p : Parts). is_type_value p c.args.b) (sym c.policy.ensures) ∙ sym c.is_type.ensures ∙ answer in
+    IfOk-weaker c.empty.result (λ (set : List Node). bits_of set ≡ []) (λ (set : List Node). AreEntering c.args.self.now c.args.b (bits_of set)) (λ set e. none_entering c.args.self.now c.args.b (bits_of set) none) c.empty.ensures.bits
+
+pub having-requires : goal.having-requires
+having-requires c = bits_increasing 0 c.in_ok-among.among c.in_ok-among.ensures.form.0
+
+pub starting-requires : goal.starting-requires
+starting-requires c =
+    let answer : c.is_type.result ≡ true = grind (arith, c.if-not-is_type.false) in
+    ap (λ (p : Parts). is_type_value p c.args.b) (sym c.policy.ensures) ∙ sym c.is_type.ensures ∙ answer
 
 pub returns : goal.returns
 returns c =
     let policy = c.args.self.now in
     let points = bits_of c.in_ok-points.points in
-    let executing = c.in_ok-executing.ensures ∙ ap (λ (ends : ChosenRules). sources_to_any ends.policy ends.rules points) c.list.ensures in
-    let allowed = c.in_ok-allowed.ensures ∙ ap (λ (ends : ChosenRules). sources_to ends.policy ends.rules c.args.b) c.list-2.ensures in
-    IfOk-weaker c.from_rising.result (λ (set : List Node). bits_of set ≡ c.deref.result.now) (λ (set : List Node). AreEntering policy c.args.b (bits_of set))
-    (λ set bits. entering_are policy c.args.b points (bits_of c.in_ok-executing.executing) (bits_of c.in_ok-allowed.allowed) (bits_of c.in_ok-among.among) (bits_of set) c.in_ok-points.ensures executing allowed c.in_ok-among.ensures.bits
-    (bits ∙ c.deref.ensures.value ∙ c.in_ok-found.ensures))
-    c.from_rising.ensures.bits
+    let allowed = c.in_ok-allowed.ensures ∙ ap (λ (ends : ChosenRules). sources_to ends.policy ends.rules c.args.b) c.list.ensures in
+    let executing = c.in_ok-executing.ensures ∙ ap (λ (ends : ChosenRules). sources_to_any ends.policy ends.rules points) c.list-2.ensures in
+    IfOk-weaker c.union.result (λ (set : List Node). IsUnion (bits_of c.in_ok-asking.asking) (bits_of c.in_ok-default.default) (bits_of set)) (λ (set : List Node). AreEntering policy c.args.b (bits_of set))
+    (λ set union. entering_are policy c.args.b points (bits_of c.in_ok-executing.executing) (bits_of c.in_ok-allowed.allowed) (bits_of c.in_ok-among.among) (bits_of c.in_ok-asking.asking) (bits_of c.in_ok-starting.starting) (bits_of c.in_ok-default.default) (bits_of set)
+    c.in_ok-points.ensures executing allowed c.in_ok-among.ensures.bits c.in_ok-asking.ensures c.in_ok-starting.ensures c.in_ok-default.ensures.bits union)
+    c.union.ensures.bits

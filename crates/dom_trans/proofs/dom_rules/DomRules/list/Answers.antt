@@ -6,9 +6,9 @@ use Rattle.dom_trans.proofs.Chosen.{list_at}
 use Rattle.dom_trans.proofs.dom_rules.DomRules.list.Goals as goal
 
 pub index-requires : goal.index-requires
-index-requires c = omega (arith, c.place.ensures.small, ap (length {A = ChosenRules}) c.self.invariant)
+index-requires c = omega (arith, c.place.ensures.small, ap (length {A = ChosenRules}) c.self.invariant.0)
 
 pub returns : goal.returns
 returns c =
     subst (λ (policy : Parts). c.index.result.now ≡ chosen policy (rules_of policy c.args.grant)) c.self.view_is
-    (list_at c.self.inside.policy.now c.args.grant c.self.inside.lists.items c.place.result c.index.result.now c.self.invariant c.place.ensures.exact c.index.ensures)
+    (list_at c.self.inside.policy.now c.args.grant c.self.inside.lists.items c.place.result c.index.result.now c.self.invariant.0 c.place.ensures.exact c.index.ensures)

@@ -1,6 +1,10 @@
+use Rattle.std.proofs.Common.{◌≡◌, ap, sym, subst, ◌∙◌}
+use Rattle.rule_order.specs.ListedOrder.{AreRules}
 use Rattle.dom_trans.specs.Grants.{gives, sets_default}
 use Rattle.dom_trans.specs.Inner.Keeping.{wanted_in}
+use Rattle.dom_trans.specs.Inner.RuleLists.{HaveTypeEnds, chosen}
 use Rattle.dom_trans.proofs.Chosen.{one_more}
+use Rattle.dom_trans.proofs.Defaults.{defaults_are_rules}
 use Rattle.dom_trans.proofs.Keeps.{kept_ends, kept_all, gives_types, defaults_types}
 use Rattle.dom_trans.proofs.dom_rules.DomRules.new.Goals as goal
 
@@ -52,4 +56,20 @@ invariant_of-result c =
     let with_execute = one_more policy _ _ _ _ _ c.in_ok-push_ends-5.ensures with_setcurrent (kept_all policy (gives wanted.execute) kept.execute.items are.execute) in
     let with_entrypoint = one_more policy _ _ _ _ _ c.in_ok-push_ends-6.ensures with_execute (kept_all policy (gives wanted.entrypoint) kept.entrypoint.items are.entrypoint) in
     let with_defaults = one_more policy _ _ _ _ _ c.in_ok-push_ends-7.ensures with_entrypoint (kept_all policy (sets_default wanted.process) kept.defaults.items are.defaults) in
-    with_defaults
+    let is = kept_all policy (sets_default wanted.process) kept.defaults.items are.defaults in
+    let ends = kept_ends policy (sets_default wanted.process) kept.defaults.items (defaults_types wanted.process) c.in_ok-kept.ensures.few are.defaults in
+    let copy = c.in_ok-defaults.ensures ∙ c.deref.ensures.value ∙ is in
+    (with_defaults, c.requires, c.in_ok-of_rules.ensures ∙ ap (chosen policy) copy, subst (HaveTypeEnds policy) is ends)
+
+pub of_rules-requires-clause-rules : goal.of_rules-requires-clause-rules
+of_rules-requires-clause-rules c =
+    let policy = c.args.policy.now in
+    let is = kept_all policy (sets_default (wanted_in policy.symbols).process) c.in_ok-kept.kept.defaults.items c.in_ok-kept.ensures.kept.defaults in
+    subst (AreRules policy) (sym (c.in_ok-defaults.ensures ∙ c.deref.ensures.value ∙ is)) (defaults_are_rules policy)
+
+pub of_rules-requires-clause-few : goal.of_rules-requires-clause-few
+of_rules-requires-clause-few c =
+    let policy = c.args.policy.now in
+    let test = (wanted_in policy.symbols).process in
+    let ends = kept_ends policy (sets_default test) c.in_ok-kept.kept.defaults.items (defaults_types test) c.in_ok-kept.ensures.few c.in_ok-kept.ensures.kept.defaults in
+    (subst (HaveTypeEnds policy) (sym (c.in_ok-defaults.ensures ∙ c.deref.ensures.value)) ends).few
