@@ -1,16 +1,18 @@
 -- The rules of a flow, found one way and the other.
-use Rattle.std.proofs.Common.{◌≡◌, ◌⊎◌, inl, inr, ℕ, ◌<◌, ◌≤◌, List, [], ◌∷◌, ◌++◌, length, Bool, true, false, ◌&&◌, cond, refl, sym, ap, ◌∙◌, subst, slice_index_or, arith}
+use Rattle.std.proofs.Common.{◌≡◌, ◌⊎◌, inl, inr, ℕ, ◌<◌, ◌≤◌, List, [], ◌∷◌, ◌++◌, length, Bool, true, false, ◌&&◌, cond, sym, ◌∙◌, subst, slice_index_or, arith}
 use Rattle.std.specs.List.{Contains, filter, fold}
 use Rattle.std.proofs.lemmas.Bool.{and_from, and_parts, or_cases, or_left, or_right}
 use Rattle.std.proofs.lemmas.List.Elements.{All-filter, Contains-append_cases, Contains-append_left, Contains-append_right}
+use Rattle.std.proofs.lemmas.List.Sorted.{Contains-permutation, IsPermutation-sym}
 use Rattle.std.proofs.lemmas.List.FromFn.{get_or-range_with_len, length-range_with_len}
 use Rattle.pol_file.specs.declared.Parts.{Parts}
 use Rattle.pol_expand.proofs.Values.{filter_rises}
 use Rattle.pol_rules.specs.StoredRules.{stored_rules}
-use Rattle.walk_enum.proofs.Ascending.{ascends_filter, ascends_from_increasing, same_numbers}
+use Rattle.walk_enum.proofs.Ascending.{ascends_from_increasing, same_numbers}
 use Rattle.walk_enum.proofs.Elements.{from_filter, in_cases, in_filter, in_first, in_rest, not_in_nothing, passes_filter}
 use Rattle.rule_order.specs.ListedOrder.{AreRules, in_rule_order, is_listed_before, ordered_by, with_number}
-use Rattle.rule_ends.specs.ChosenRules.{ChosenRules, joins, rules_between}
+use Rattle.rule_ends.specs.ChosenRules.{joins}
+use Rattle.rule_ends.specs.RulesByEnd.{AreRulesBetween, HoldRules, RulesByEnd}
 use Rattle.perm_map.specs.declared.Direction.{Direction}
 use Rattle.perm_map.specs.PermissionMap.{Weights}
 use Rattle.flow_search.specs.FlowWeights.{inwards, outwards}
@@ -82,10 +84,9 @@ to_order policy xs n h = to_sorted (is_listed_before policy) [] xs n h
 -- ---- rules between two types that reach a weight
 
 module _ (weights : Weights) (policy : Parts) (least : ℕ) (way : Direction → ℕ → ℕ) (source target : ℕ) where
-  from_between : (n : ℕ) → Contains (rules_between policy (rules_reaching way weights policy least) source target) n → Contains (rule_numbers policy) n × ((joins policy source target n && reaches way weights policy least n) ≡ true)
+  from_between : (n : ℕ) → Contains (filter (joins policy source target) (rules_reaching way weights policy least)) n → Contains (rule_numbers policy) n × ((joins policy source target n && reaches way weights policy least n) ≡ true)
   unfolding rules_reaching
-  from_between n h =
-      let found = from_order policy (filter (joins policy source target) (filter (reaches way weights policy least) (rule_numbers policy))) n h in
+  from_between n found =
       let reaching = from_filter (joins policy source target) (filter (reaches way weights policy least) (rule_numbers policy)) n found in (
         from_filter (reaches way weights policy least) (rule_numbers policy) n reaching,
         and_from (joins policy source target n) (reaches way weights policy least n)
@@ -93,109 +94,64 @@ module _ (weights : Weights) (policy : Parts) (least : ℕ) (way : Direction →
             (passes_filter (reaches way weights policy least) (rule_numbers policy) n reaching),
       )
 
-  to_between : (n : ℕ) → Contains (rule_numbers policy) n → (joins policy source target n && reaches way weights policy least n) ≡ true → Contains (rules_between policy (rules_reaching way weights policy least) source target) n
+  to_between : (n : ℕ) → Contains (rule_numbers policy) n → (joins policy source target n && reaches way weights policy least n) ≡ true → Contains (filter (joins policy source target) (rules_reaching way weights policy least)) n
   unfolding rules_reaching
   to_between n there passes =
       let parts = and_parts (joins policy source target n) (reaches way weights policy least n) passes in
-      to_order policy (filter (joins policy source target) (filter (reaches way weights policy least) (rule_numbers policy))) n
-      (in_filter (joins policy source target) (filter (reaches way weights policy least) (rule_numbers policy)) n parts.0
-      (in_filter (reaches way weights policy least) (rule_numbers policy) n parts.1 there))
-
--- a rule found one way or the other gives the flow
-found_gives : (weights : Weights) (policy : Parts) (least from to : ℕ) (n : ℕ) → 1 ≤ least → Contains (rules_between policy (rules_reaching outwards weights policy least) from to) n ⊎ Contains (rules_between policy (rules_reaching inwards weights policy least) to from) n → Contains (filter (gives_least weights policy least from to) (rule_numbers policy)) n
-found_gives weights policy least from to n some (inl h) =
-    let parts = from_between weights policy least outwards from to n h in
-    in_filter (gives_least weights policy least from to) (rule_numbers policy) n
-    (given_reaches weights policy least from to n some ∙ or_left (joins policy from to n && reaches outwards weights policy least n) (joins policy to from n && reaches inwards weights policy least n) parts.1) parts.0
-found_gives weights policy least from to n some (inr h) =
-    let parts = from_between weights policy least inwards to from n h in
-    in_filter (gives_least weights policy least from to) (rule_numbers policy) n
-    (given_reaches weights policy least from to n some ∙ or_right (joins policy from to n && reaches outwards weights policy least n) (joins policy to from n && reaches inwards weights policy least n) parts.1) parts.0
-
-gives_found : (weights : Weights) (policy : Parts) (least from to : ℕ) (n : ℕ) → 1 ≤ least → Contains (filter (gives_least weights policy least from to) (rule_numbers policy)) n → Contains (rules_between policy (rules_reaching outwards weights policy least) from to) n ⊎ Contains (rules_between policy (rules_reaching inwards weights policy least) to from) n
-gives_found weights policy least from to n some h =
-    let passes = passes_filter (gives_least weights policy least from to) (rule_numbers policy) n h in
-    let there = from_filter (gives_least weights policy least from to) (rule_numbers policy) n h in
-    let out = joins policy from to n && reaches outwards weights policy least n in
-    let into = joins policy to from n && reaches inwards weights policy least n in
-    elim (or_cases out into (sym (given_reaches weights policy least from to n some) ∙ passes)) [
-      | inl ahead ↦ inl (to_between weights policy least outwards from to n there ahead)
-      | inr behind ↦ inr (to_between weights policy least inwards to from n there behind)
-    ]
+      in_filter (joins policy source target) (filter (reaches way weights policy least) (rule_numbers policy)) n parts.0
+      (in_filter (reaches way weights policy least) (rule_numbers policy) n parts.1 there)
 
 joined_cases : (xs ys : List ℕ) (n : ℕ) → Contains xs n ⊎ Contains ys n → Contains (xs ++ ys) n
 joined_cases xs ys n (inl h) = Contains-append_left xs ys n h
 joined_cases xs ys n (inr h) = Contains-append_right xs ys n h
 
-giving_at : (weights : Weights) (policy : Parts) (least from to : ℕ) (found : List ℕ) → 1 ≤ least → AreDistinct (rules_between policy (rules_reaching outwards weights policy least) from to ++ rules_between policy (rules_reaching inwards weights policy least) to from) found → found ≡ filter (gives_least weights policy least from to) (rule_numbers policy)
-giving_at weights policy least from to found some distinct =
-    let gives = gives_least weights policy least from to in
-    let out = rules_between policy (rules_reaching outwards weights policy least) from to in
-    let into = rules_between policy (rules_reaching inwards weights policy least) to from in
-    same_numbers found (filter gives (rule_numbers policy)) (ascends_from_increasing found distinct.rise) (ascends_from_increasing (filter gives (rule_numbers policy)) (filter_rises gives 0 (length (stored_rules policy))))
-    (λ n h. found_gives weights policy least from to n some (Contains-append_cases out into n ((distinct.each n).0 h)))
-    (λ n h. (distinct.each n).1 (joined_cases out into n (gives_found weights policy least from to n some h)))
-
 -- The rules found one way and the other, each once, are those that give the flow.
-pub giving_is : (weights : Weights) (policy : Parts) (least from to : ℕ) (out into found : List ℕ) → 1 ≤ least → out ≡ rules_between policy (rules_reaching outwards weights policy least) from to → into ≡ rules_between policy (rules_reaching inwards weights policy least) to from → AreDistinct (out ++ into) found → found ≡ filter (gives_least weights policy least from to) (rule_numbers policy)
-giving_is weights policy least from to out into found some out_is into_is distinct =
-    giving_at weights policy least from to found some
-    (subst (λ (xs : List ℕ). AreDistinct (xs ++ rules_between policy (rules_reaching inwards weights policy least) to from) found) out_is
-    (subst (λ (ys : List ℕ). AreDistinct (out ++ ys) found) into_is distinct))
+module _ (weights : Weights) (policy : Parts) (least from to : ℕ) (some : 1 ≤ least) (ahead back found : List ℕ) (ahead_are : AreRulesBetween policy (rules_reaching outwards weights policy least) from to ahead) (back_are : AreRulesBetween policy (rules_reaching inwards weights policy least) to from back) (distinct : AreDistinct (ahead ++ back) found) where
+  abbrev gives : ℕ → Bool
+  gives = gives_least weights policy least from to
 
--- ---- rules of one way alone
+  abbrev out_at : ℕ → Bool
+  out_at n = joins policy from to n && reaches outwards weights policy least n
 
--- rules that rise, and have a number where others have it, are those
-same_rules : (policy : Parts) (p q r : ℕ → Bool) → ((n : ℕ) → Contains (filter p (filter q (rule_numbers policy))) n → Contains (filter r (rule_numbers policy)) n) → ((n : ℕ) → Contains (filter r (rule_numbers policy)) n → Contains (filter p (filter q (rule_numbers policy))) n) → in_rule_order policy (filter p (filter q (rule_numbers policy))) ≡ in_rule_order policy (filter r (rule_numbers policy))
-same_rules policy p q r to back =
-    let some = filter p (filter q (rule_numbers policy)) in
-    let all = filter r (rule_numbers policy) in
-    let rising = filter_rises r 0 (length (stored_rules policy)) in
-    let rising_some = ascends_filter p (filter q (rule_numbers policy)) (ascends_from_increasing (filter q (rule_numbers policy)) (filter_rises q 0 (length (stored_rules policy)))) in
-    ap (in_rule_order policy) (same_numbers some all rising_some (ascends_from_increasing all rising) to back)
+  abbrev into_at : ℕ → Bool
+  into_at n = joins policy to from n && reaches inwards weights policy least n
 
-module _ (weights : Weights) (policy : Parts) (least from to : ℕ) (some : 1 ≤ least) where
-  -- those ahead, where there are none back
-  ahead_alone : rules_between policy (rules_reaching inwards weights policy least) to from ≡ [] → rules_between policy (rules_reaching outwards weights policy least) from to ≡ in_rule_order policy (filter (gives_least weights policy least from to) (rule_numbers policy))
-  unfolding rules_reaching
-  ahead_alone none = same_rules policy (joins policy from to) (reaches outwards weights policy least) (gives_least weights policy least from to)
-      (λ n h. found_gives weights policy least from to n some (inl (to_order policy (filter (joins policy from to) (filter (reaches outwards weights policy least) (rule_numbers policy))) n h)))
-      (λ n h. elim (gives_found weights policy least from to n some h) [
-        | inl ahead ↦ from_order policy (filter (joins policy from to) (filter (reaches outwards weights policy least) (rule_numbers policy))) n ahead
-        | inr back ↦ not_in_nothing n (subst (λ (xs : List ℕ). Contains xs n) none back)
-      ])
+  abbrev outs : List ℕ
+  outs = filter (joins policy from to) (rules_reaching outwards weights policy least)
 
-  -- those back, where there are none ahead
-  back_alone : rules_between policy (rules_reaching outwards weights policy least) from to ≡ [] → rules_between policy (rules_reaching inwards weights policy least) to from ≡ in_rule_order policy (filter (gives_least weights policy least from to) (rule_numbers policy))
-  unfolding rules_reaching
-  back_alone none = same_rules policy (joins policy to from) (reaches inwards weights policy least) (gives_least weights policy least from to)
-      (λ n h. found_gives weights policy least from to n some (inr (to_order policy (filter (joins policy to from) (filter (reaches inwards weights policy least) (rule_numbers policy))) n h)))
-      (λ n h. elim (gives_found weights policy least from to n some h) [
-        | inl ahead ↦ not_in_nothing n (subst (λ (xs : List ℕ). Contains xs n) none ahead)
-        | inr back ↦ from_order policy (filter (joins policy to from) (filter (reaches inwards weights policy least) (rule_numbers policy))) n back
-      ])
+  abbrev intos : List ℕ
+  intos = filter (joins policy to from) (rules_reaching inwards weights policy least)
 
--- ---- by what a graph keeps
+  found_gives : (n : ℕ) → Contains ahead n ⊎ Contains back n → Contains (filter gives (rule_numbers policy)) n
+  found_gives n (inl h) =
+      let parts = from_between weights policy least outwards from to n (Contains-permutation ahead outs n ahead_are h) in
+      in_filter gives (rule_numbers policy) n (given_reaches weights policy least from to n some ∙ or_left (out_at n) (into_at n) parts.1) parts.0
+  found_gives n (inr h) =
+      let parts = from_between weights policy least inwards to from n (Contains-permutation back intos n back_are h) in
+      in_filter gives (rule_numbers policy) n (given_reaches weights policy least from to n some ∙ or_right (out_at n) (into_at n) parts.1) parts.0
 
-pub nothing : (xs : List ℕ) → length xs ≡ 0 → xs ≡ []
-nothing [] e = refl
-nothing (x ∷ xs) e = absurd (omega (arith, e))
+  gives_found : (n : ℕ) → Contains (filter gives (rule_numbers policy)) n → Contains ahead n ⊎ Contains back n
+  gives_found n h =
+      let passes = passes_filter gives (rule_numbers policy) n h in
+      let there = from_filter gives (rule_numbers policy) n h in
+      elim (or_cases (out_at n) (into_at n) (sym (given_reaches weights policy least from to n some) ∙ passes)) [
+        | inl out ↦ inl (Contains-permutation outs ahead n (IsPermutation-sym ahead outs ahead_are) (to_between weights policy least outwards from to n there out))
+        | inr into ↦ inr (Contains-permutation intos back n (IsPermutation-sym back intos back_are) (to_between weights policy least inwards to from n there into))
+      ]
 
-pub ahead_gives : (weights : Weights) (policy : Parts) (least from to : ℕ) (out into : ChosenRules) → 1 ≤ least → AreFlowRules weights policy least out into → (ahead back : List ℕ) → ahead ≡ rules_between out.policy out.rules from to → back ≡ rules_between into.policy into.rules to from → back ≡ [] → ahead ≡ in_rule_order policy (filter (gives_least weights policy least from to) (rule_numbers policy))
-ahead_gives weights policy least from to out into some are ahead back ahead_is back_is none =
-    ahead_is ∙ ap (λ (p : Parts). rules_between p out.rules from to) are.out_policy ∙ ap (λ (rules : List ℕ). rules_between policy rules from to) are.out_rules
-    ∙ ahead_alone weights policy least from to some (sym (back_is ∙ ap (λ (p : Parts). rules_between p into.rules to from) are.into_policy ∙ ap (λ (rules : List ℕ). rules_between policy rules to from) are.into_rules) ∙ none)
+  pub giving_is : found ≡ filter gives (rule_numbers policy)
+  giving_is =
+      same_numbers found (filter gives (rule_numbers policy)) (ascends_from_increasing found distinct.rise) (ascends_from_increasing (filter gives (rule_numbers policy)) (filter_rises gives 0 (length (stored_rules policy))))
+      (λ n h. found_gives n (Contains-append_cases ahead back n ((distinct.each n).0 h)))
+      (λ n h. (distinct.each n).1 (joined_cases ahead back n (gives_found n h)))
 
-pub back_gives : (weights : Weights) (policy : Parts) (least from to : ℕ) (out into : ChosenRules) → 1 ≤ least → AreFlowRules weights policy least out into → (ahead back : List ℕ) → ahead ≡ rules_between out.policy out.rules from to → back ≡ rules_between into.policy into.rules to from → ahead ≡ [] → back ≡ in_rule_order policy (filter (gives_least weights policy least from to) (rule_numbers policy))
-back_gives weights policy least from to out into some are ahead back ahead_is back_is none =
-    back_is ∙ ap (λ (p : Parts). rules_between p into.rules to from) are.into_policy ∙ ap (λ (rules : List ℕ). rules_between policy rules to from) are.into_rules
-    ∙ back_alone weights policy least from to some (sym (ahead_is ∙ ap (λ (p : Parts). rules_between p out.rules from to) are.out_policy ∙ ap (λ (rules : List ℕ). rules_between policy rules from to) are.out_rules) ∙ none)
-
-pub rules_give : (weights : Weights) (policy : Parts) (least from to : ℕ) (out into : ChosenRules) → 1 ≤ least → AreFlowRules weights policy least out into → (ahead back found : List ℕ) → ahead ≡ rules_between out.policy out.rules from to → back ≡ rules_between into.policy into.rules to from → AreDistinct (ahead ++ back) found → found ≡ filter (gives_least weights policy least from to) (rule_numbers policy)
-rules_give weights policy least from to out into some are ahead back found ahead_is back_is distinct =
-    giving_is weights policy least from to ahead back found some
-    (ahead_is ∙ ap (λ (p : Parts). rules_between p out.rules from to) are.out_policy ∙ ap (λ (rules : List ℕ). rules_between policy rules from to) are.out_rules)
-    (back_is ∙ ap (λ (p : Parts). rules_between p into.rules to from) are.into_policy ∙ ap (λ (rules : List ℕ). rules_between policy rules to from) are.into_rules)
+-- by what a graph keeps
+pub rules_give : (weights : Weights) (policy : Parts) (least from to : ℕ) (reverse : Bool) (out into : RulesByEnd) → 1 ≤ least → AreFlowRules weights policy least reverse out into → (ahead back found : List ℕ) → ((rules : List ℕ) → HoldRules out rules → AreRulesBetween out.policy rules from to ahead)
+    → ((rules : List ℕ) → HoldRules into rules → AreRulesBetween into.policy rules to from back) → AreDistinct (ahead ++ back) found → found ≡ filter (gives_least weights policy least from to) (rule_numbers policy)
+rules_give weights policy least from to reverse out into some are ahead back found ahead_are back_are distinct =
+    giving_is weights policy least from to some ahead back found
+    (subst (λ (p : Parts). AreRulesBetween p (rules_reaching outwards weights policy least) from to ahead) are.out_policy (ahead_are (rules_reaching outwards weights policy least) are.out_rules))
+    (subst (λ (p : Parts). AreRulesBetween p (rules_reaching inwards weights policy least) to from back) are.into_policy (back_are (rules_reaching inwards weights policy least) are.into_rules))
     distinct
 
 pub numbers_are_rules : (policy : Parts) (p : ℕ → Bool) (found : List ℕ) → found ≡ filter p (rule_numbers policy) → AreRules policy found

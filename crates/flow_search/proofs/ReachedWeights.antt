@@ -1,23 +1,25 @@
 -- Weights that reach a least one.
-use Rattle.std.proofs.Common.{◌≡◌, ℕ, suc, ◌≤◌, max, List, [], ◌∷◌, map, Bool, true, false, ◌&&◌, ◌||◌, cond, leb, refl, sym, ap, ◌∙◌, arith}
+use Rattle.std.proofs.Common.{◌≡◌, ℕ, suc, ◌≤◌, max, List, [], ◌∷◌, map, Option, Some, None, get_or, slice_get, Bool, true, false, ◌&&◌, ◌||◌, cond, leb, refl, sym, ap, subst, ◌∙◌, arith}
 use Rattle.std.proofs.Math.Path.{fun_ext}
 use Rattle.std.proofs.lemmas.Bool.{false≢true}
 use Rattle.std.proofs.lemmas.Bool.Decides.{nat_tests}
 use Rattle.std.proofs.lemmas.List.FromFn.{length-range_with_len}
 use Rattle.std.specs.Prelude.{length}
-use Rattle.std.specs.List.{filter, fold, list_any}
+use Rattle.std.specs.List.{All, Contains, filter, fold, list_any}
+use Rattle.std.proofs.lemmas.List.Elements.{All-from_get_or, Contains-get_or}
+use Rattle.walk_enum.proofs.Elements.{passes_filter}
 use Rattle.pol_file.specs.declared.Parts.{Parts}
 use Rattle.pol_symbols.specs.declared.Symbols.{Symbols}
 use Rattle.pol_rules.specs.declared.RuleKind.{RuleKind}
 use Rattle.pol_rules.specs.declared.RuleKind.TheVariants.{Allow, Auditallow, Dontaudit, AllowXperm, AuditallowXperm, DontauditXperm, TypeTransition, TypeChange, TypeMember, RoleAllow, RoleTransition, RangeTransition}
 use Rattle.pol_rules.specs.declared.RulePart.{RulePart}
 use Rattle.pol_rules.specs.StoredRules.{StoredRule, stored_rules}
-use Rattle.rule_ends.specs.ChosenRules.{has_type_ends, joins}
+use Rattle.rule_ends.specs.ChosenRules.{has_type_ends, is_between_types, joins, passes}
 use Rattle.rule_ends.specs.PlainTypes.{are_two_types}
 use Rattle.perm_map.specs.declared.Direction.{Direction}
 use Rattle.perm_map.specs.PermissionMap.{Weights}
 use Rattle.flow_search.specs.FlowWeights.{greatest, inwards, outwards, part_weight, rule_weight}
-use Rattle.flow_search.specs.Flows.{flow_weight, given_by, gives_least, rule_numbers, weight_of_rule}
+use Rattle.flow_search.specs.Flows.{flow_weight, given_by, gives_least, rule_numbers, weight_found, weight_of_rule}
 use Rattle.flow_search.specs.Inner.FlowParts.{any_flow, reaches, rules_reaching}
 use Rattle.flow_search.proofs.TestOrders.{split_tests}
 
@@ -132,3 +134,15 @@ reaching_few way weights policy least numbers is =
     let kept = kept_short (reaches way weights policy least) (rule_numbers policy) in
     let all = length-range_with_len 0 (length (stored_rules policy)) in
     omega (arith, ap (length {A = ℕ}) is, kept, all)
+
+-- the ends of each are types and attributes
+pub reaching_between : (way : Direction → ℕ → ℕ) (weights : Weights) (policy : Parts) (least : ℕ) (numbers : List ℕ) → 1 ≤ least → numbers ≡ rules_reaching way weights policy least → All (λ number. is_between_types policy number ≡ true) numbers
+unfolding rules_reaching weight_of_rule
+reaching_between way weights policy least numbers some is = All-from_get_or (λ number. is_between_types policy number ≡ true) numbers 0 λ k lt.
+    let number = get_or numbers k 0 in
+    let there = subst (λ (xs : List ℕ). Contains xs number) is (Contains-get_or numbers k 0 lt) in
+    by (slice_get (stored_rules policy) number) (passes_filter (reaches way weights policy least) (rule_numbers policy) number there)
+  where
+    by : (o : Option StoredRule) → leb least (weight_found way weights policy o) ≡ true → passes (λ rule. has_type_ends rule.kind) o ≡ true
+    by None h = absurd (false≢true (sym (not_le_zero least some) ∙ h))
+    by (Some rule) h = reached_types way weights policy.symbols least rule some h

@@ -10,13 +10,15 @@ use Rattle.pol_file.specs.declared.Parts.{Parts}
 use Rattle.pol_expand.proofs.Values.{same_tests}
 use Rattle.walk_enum.specs.Walks.{AreEnds}
 use Rattle.walk_enum.proofs.Elements.{from_filter, in_cases, in_filter, in_first, in_range, not_in_nothing, passes_filter, range_high}
-use Rattle.rule_ends.specs.ChosenRules.{ChosenRules, any_joins, sources_to, targets_from}
+use Rattle.rule_ends.specs.declared.RuleEnd.{RuleEnd}
+use Rattle.rule_ends.specs.ChosenRules.{any_joins, sources_to, targets_from}
+use Rattle.rule_ends.specs.RulesByEnd.{HoldRules, RulesByEnd, other_end, others_of}
 use Rattle.rule_ends.specs.PlainTypes.{are_two_types, is_type_value, types_outside}
 use Rattle.rule_ends.proofs.TypesOutside.{in_outside, type_within}
 use Rattle.perm_map.specs.PermissionMap.{Weights, weights_of}
 use Rattle.flow_search.specs.FlowWeights.{inwards, outwards}
 use Rattle.flow_search.specs.Inner.FlowEdges.{FlowSearch, flow_edge, is_flow}
-use Rattle.flow_search.specs.Inner.FlowParts.{AreFlowRules, AreJoined, IsOpenPart, any_edge, any_flow, is_open, is_successor, rules_reaching}
+use Rattle.flow_search.specs.Inner.FlowParts.{AreFlowRules, AreJoined, IsOpenPart, any_edge, any_flow, first_end, is_open, is_successor, rules_reaching}
 use Rattle.flow_search.proofs.ReachedWeights.{flow_reaches}
 use Rattle.flow_search.proofs.TestOrders.{ahead_tests, back_tests}
 
@@ -46,7 +48,7 @@ either_test n p q found value is = (
     back low high (inl h) = inl ((in_types n p value).1 (low, high, h))
     back low high (inr h) = inr ((in_types n q value).1 (low, high, h))
 
-pub joins_from : (weights : Weights) (policy : Parts) (least node : ℕ) (out into found : List ℕ) → out ≡ targets_from policy (rules_reaching outwards weights policy least) node → into ≡ sources_to policy (rules_reaching inwards weights policy least) node → IsUnion out into found → AreJoined policy (λ other. any_flow weights policy least node other) found
+joins_from : (weights : Weights) (policy : Parts) (least node : ℕ) (out into found : List ℕ) → out ≡ targets_from policy (rules_reaching outwards weights policy least) node → into ≡ sources_to policy (rules_reaching inwards weights policy least) node → IsUnion out into found → AreJoined policy (λ other. any_flow weights policy least node other) found
 unfolding any_flow targets_from sources_to
 joins_from weights policy least node out into found out_is into_is union = record {
   each = λ value. either_test policy.symbols.types.nprim (any_joins policy (rules_reaching outwards weights policy least) node) (λ source. any_joins policy (rules_reaching inwards weights policy least) source node) found value
@@ -54,7 +56,7 @@ joins_from weights policy least node out into found out_is into_is union = recor
       (subst (λ (ys : List ℕ). Contains found value ↔ (Contains out value ⊎ Contains ys value)) into_is (union.each value)));
 }
 
-pub joins_to : (weights : Weights) (policy : Parts) (least node : ℕ) (out into found : List ℕ) → out ≡ sources_to policy (rules_reaching outwards weights policy least) node → into ≡ targets_from policy (rules_reaching inwards weights policy least) node → IsUnion out into found → AreJoined policy (λ other. any_flow weights policy least other node) found
+joins_to : (weights : Weights) (policy : Parts) (least node : ℕ) (out into found : List ℕ) → out ≡ sources_to policy (rules_reaching outwards weights policy least) node → into ≡ targets_from policy (rules_reaching inwards weights policy least) node → IsUnion out into found → AreJoined policy (λ other. any_flow weights policy least other node) found
 unfolding any_flow targets_from sources_to
 joins_to weights policy least node out into found out_is into_is union = record {
   each = λ value. either_test policy.symbols.types.nprim (λ source. any_joins policy (rules_reaching outwards weights policy least) source node) (any_joins policy (rules_reaching inwards weights policy least) node) found value
@@ -172,26 +174,32 @@ no_ends search node found some shut is = subst (AreEnds (flow_edge search) node)
 
 -- ---- by what a graph keeps
 
-pub rules_join_from : (weights : Weights) (policy : Parts) (least node : ℕ) (out into : ChosenRules) → AreFlowRules weights policy least out into → (targets sources found : List ℕ) → targets ≡ targets_from out.policy out.rules node → sources ≡ sources_to into.policy into.rules node → IsUnion targets sources found → AreJoined policy (λ other. any_flow weights policy least node other) found
-rules_join_from weights policy least node out into are targets sources found targets_are sources_are union =
-    joins_from weights policy least node targets sources found
-    (targets_are ∙ ap (λ (p : Parts). targets_from p out.rules node) are.out_policy ∙ ap (λ (rules : List ℕ). targets_from policy rules node) are.out_rules)
-    (sources_are ∙ ap (λ (p : Parts). sources_to p into.rules node) are.into_policy ∙ ap (λ (rules : List ℕ). sources_to policy rules node) are.into_rules)
-    union
-
-pub rules_join_to : (weights : Weights) (policy : Parts) (least node : ℕ) (out into : ChosenRules) → AreFlowRules weights policy least out into → (sources targets found : List ℕ) → sources ≡ sources_to out.policy out.rules node → targets ≡ targets_from into.policy into.rules node → IsUnion sources targets found → AreJoined policy (λ other. any_flow weights policy least other node) found
-rules_join_to weights policy least node out into are sources targets found sources_are targets_are union =
-    joins_to weights policy least node sources targets found
-    (sources_are ∙ ap (λ (p : Parts). sources_to p out.rules node) are.out_policy ∙ ap (λ (rules : List ℕ). sources_to policy rules node) are.out_rules)
-    (targets_are ∙ ap (λ (p : Parts). targets_from p into.rules node) are.into_policy ∙ ap (λ (rules : List ℕ). targets_from policy rules node) are.into_rules)
-    union
-
-pub edge_back : (search : FlowSearch) (node : ℕ) → search.reverse ≡ true → any_edge search node ≡ (λ other. any_flow (weights_of search.entries) search.policy search.least other node)
+edge_back : (search : FlowSearch) (node : ℕ) → search.reverse ≡ true → any_edge search node ≡ (λ other. any_flow (weights_of search.entries) search.policy search.least other node)
 unfolding any_edge
 edge_back search node e =
     ap {B = ℕ → Bool} (λ (turned : Bool) (other : ℕ). cond turned (any_flow (weights_of search.entries) search.policy search.least other node) (any_flow (weights_of search.entries) search.policy search.least node other)) e
 
-pub edge_ahead : (search : FlowSearch) (node : ℕ) → search.reverse ≡ false → any_edge search node ≡ (λ other. any_flow (weights_of search.entries) search.policy search.least node other)
+edge_ahead : (search : FlowSearch) (node : ℕ) → search.reverse ≡ false → any_edge search node ≡ (λ other. any_flow (weights_of search.entries) search.policy search.least node other)
 unfolding any_edge
 edge_ahead search node e =
     ap {B = ℕ → Bool} (λ (turned : Bool) (other : ℕ). cond turned (any_flow (weights_of search.entries) search.policy search.least other node) (any_flow (weights_of search.entries) search.policy search.least node other)) e
+
+pub rules_join : (search : FlowSearch) (node : ℕ) (out into : RulesByEnd) → AreFlowRules (weights_of search.entries) search.policy search.least search.reverse out into → (some others found : List ℕ)
+    → ((rules : List ℕ) → HoldRules out rules → some ≡ others_of out.near out.policy rules node) → ((rules : List ℕ) → HoldRules into rules → others ≡ others_of into.near into.policy rules node) → IsUnion some others found → AreJoined search.policy (any_edge search node) found
+rules_join search node out into are some others found some_are others_are union =
+    by search.reverse refl
+    (some_are outs are.out_rules ∙ ap (λ (end : RuleEnd). others_of end out.policy outs node) are.out_near ∙ ap (λ (p : Parts). others_of (first_end search.reverse) p outs node) are.out_policy)
+    (others_are intos are.into_rules ∙ ap (λ (end : RuleEnd). others_of end into.policy intos node) are.into_near ∙ ap (λ (p : Parts). others_of (other_end (first_end search.reverse)) p intos node) are.into_policy)
+  where
+    weights : Weights
+    weights = weights_of search.entries
+
+    outs : List ℕ
+    outs = rules_reaching outwards weights search.policy search.least
+
+    intos : List ℕ
+    intos = rules_reaching inwards weights search.policy search.least
+
+    by : (reverse : Bool) → search.reverse ≡ reverse → some ≡ others_of (first_end reverse) search.policy outs node → others ≡ others_of (other_end (first_end reverse)) search.policy intos node → AreJoined search.policy (any_edge search node) found
+    by true e s o = subst (λ (test : ℕ → Bool). AreJoined search.policy test found) (sym (edge_back search node e)) (joins_to weights search.policy search.least node some others found s o union)
+    by false e s o = subst (λ (test : ℕ → Bool). AreJoined search.policy test found) (sym (edge_ahead search node e)) (joins_from weights search.policy search.least node some others found s o union)

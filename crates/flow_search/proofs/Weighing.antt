@@ -1,5 +1,6 @@
 -- The weights of rules, by the weights of the permissions of classes.
 use Rattle.std.proofs.Common.{◌≡◌, inl, inr, ℕ, ◌+◌, ◌^◌, ◌<◌, ◌≤◌, max, List, [], ◌∷◌, ◌++◌, length, map, get_or, take, Bool, true, false, ◌&&◌, ◌||◌, cond, eqb, leb, Option, Some, None, slice_get, slice_index_or, refl, sym, ap, ◌∙◌, subst, arith, append-nil}
+use Rattle.std.proofs.Math.Nat.{max-eq_left, max-le}
 use Rattle.std.specs.List.{filter, range_with_len}
 use Rattle.std.specs.Int.{bit_at}
 use Rattle.std.proofs.lemmas.List.{map_push}
@@ -21,7 +22,8 @@ use Rattle.perm_map.specs.declared.Direction.{Direction}
 use Rattle.perm_map.specs.PermissionMap.{Entry, Weights, weights_of}
 use Rattle.flow_search.specs.declared.class_weights.PermissionWeight.{PermissionWeight}
 use Rattle.flow_search.specs.FlowWeights.{class_of, greatest, inwards, mask_weight, outwards, permission_weight, rule_weight}
-use Rattle.flow_search.specs.Flows.{weight_found, weight_of_rule}
+use Rattle.rule_ends.specs.ChosenRules.{joins}
+use Rattle.flow_search.specs.Flows.{given_by, weight_found, weight_of_rule}
 use Rattle.flow_search.specs.Inner.FlowParts.{reaches}
 use Rattle.flow_search.specs.declared.reach_bits.ReachBits.{ReachBits}
 use Rattle.flow_search.specs.Inner.WeightTables.{AreBitsOf, AreReachBits, AreWeights, HaveReachBits, Reached, class_weights, greatest_into, greatest_out, is_in, shares_bit, weighed}
@@ -208,3 +210,18 @@ module _ (weights : Weights) (symbols : Symbols) (least : ℕ) (classes : List R
     | inl there ↦ into_reached i there.0 bits mask small is there.2 got
     | inr past ↦ absurd (omega (arith, primary_is_within (λ (class : ClassRec). true) (λ class. class.value) symbols.classes.records class i is, past.0))
   ]
+
+-- ---- a weight that a rule does not raise
+
+below_where : (test : Bool) (x w : ℕ) → x ≤ w → cond test x 0 ≤ w
+below_where true x w h = h
+below_where false x w h = omega arith
+
+-- a rule that weighs no more gives no more
+pub nothing_raised : (weights : Weights) (policy : Parts) (from to number w : ℕ) (rule : StoredRule) → slice_get (stored_rules policy) number ≡ Some rule → rule_weight outwards weights policy.symbols rule ≤ w → rule_weight inwards weights policy.symbols rule ≤ w
+    → w ≡ max w (given_by weights policy from to number)
+unfolding given_by weight_of_rule
+nothing_raised weights policy from to number w rule at out into =
+    let ahead = subst (λ (found : Option StoredRule). weight_found outwards weights policy found ≤ w) (sym at) out in
+    let back = subst (λ (found : Option StoredRule). weight_found inwards weights policy found ≤ w) (sym at) into in
+    sym (max-eq_left (max-le (below_where (joins policy from to number) (weight_found outwards weights policy (slice_get (stored_rules policy) number)) w ahead) (below_where (joins policy to from number) (weight_found inwards weights policy (slice_get (stored_rules policy) number)) w back)))

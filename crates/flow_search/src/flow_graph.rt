@@ -7,16 +7,16 @@ ghost use Rattle.rule_order.specs.ListedOrder.{AreRules, in_rule_order};
 ghost use Rattle.walk_enum.specs.Walks.{AreEnds};
 ghost use Rattle.flow_search.specs.Flows.{flow_rules, flow_weight, gives_least, rule_numbers};
 ghost use Rattle.flow_search.specs.Inner.FlowEdges.{flow_edge};
-ghost use Rattle.flow_search.specs.Inner.FlowParts.{any_edge, any_flow, is_open, AreDistinct, AreJoined, IsOpenPart};
+ghost use Rattle.flow_search.specs.Inner.FlowParts.{any_edge, first_end, is_open, AreDistinct, AreJoined, IsOpenPart};
 
 use crate::node_sets::{either, without};
-use crate::reaching::rules_reaching;
+use crate::reaching::{Reaching, rules_reaching};
 use crate::weigher::Weigher;
 use perm_map::PermMap;
 use pol_bitmap::Set;
 use pol_expand::TypeMap;
 use pol_read::Policy;
-use rule_ends::{ChosenRules, are_two_types, types_outside};
+use rule_ends::{RuleEnd, RulesByEnd, are_two_types, types_outside};
 use rule_order::sort_by_rule_order;
 use std::alloc::{AllocError, Global};
 use std::marker::Model;
@@ -26,15 +26,15 @@ use walk_enum::{Graph, Steps};
 /// The graph of the flows of a policy of at least a weight, or of their reverse. Its nodes are the type values, and no edge joins an excluded
 /// type. Contracts see the policy, the entries of the permission map, the least weight, the excluded types and the direction.
 ///
-/// It keeps the rules that flow at least the weight by their stored ends, and asks them for the successors of a node. All edges are never
-/// made.
+/// It keeps the rules that flow at least the weight, each under the end at which an edge begins, and asks them for the successors of a
+/// node. All edges are never made.
 pub struct FlowGraph<'p> {
     weigher: Weigher<'p>,
     least: u8,
     // The rules that flow from the source to the target at least the weight.
-    out: ChosenRules<'p>,
+    out: RulesByEnd<'p>,
     // Those that flow from the target to the source.
-    into: ChosenRules<'p>,
+    into: RulesByEnd<'p>,
     excluded: Set,
     // The types that may be an end of an edge.
     open_types: Set,
@@ -68,7 +68,7 @@ impl<'p> Model for FlowGraph<'p> {
 
     ghost view = { λ g. record { policy = g.weigher.policy; entries = g.weigher.entries; least = g.least; excluded = g.excluded; reverse = g.reverse } };
 
-    ghost invariant = { λ g. (1 ≤ g.least) × AreFlowRules (weights_of g.weigher.entries) g.weigher.policy g.least g.out g.into × (bits_of g.open_types ≡ types_outside g.weigher.policy g.excluded) };
+    ghost invariant = { λ g. (1 ≤ g.least) × AreFlowRules (weights_of g.weigher.entries) g.weigher.policy g.least g.reverse g.out g.into × (bits_of g.open_types ≡ types_outside g.weigher.policy g.excluded) };
 }
 
 impl<'p> FlowGraph<'p> {
@@ -87,10 +87,11 @@ impl<'p> FlowGraph<'p> {
         ensures { IfOk result (λ graph. graph ≡ record { policy = policy.now; entries = map.now; least = least; excluded = excluded.now; reverse = reverse }) }
     {
         let weigher = Weigher::new(alloc, policy, map)?;
-        let found = rules_reaching(alloc, &weigher, least)?;
+        let Reaching { out, into } = rules_reaching(alloc, &weigher, least)?;
+        let near = first_end(reverse);
         Ok(FlowGraph {
-            out: ChosenRules::of_gathered(alloc, policy, types, found.out)?,
-            into: ChosenRules::of_gathered(alloc, policy, types, found.into)?,
+            out: RulesByEnd::build(alloc, policy, types, near, out)?,
+            into: RulesByEnd::build(alloc, policy, types, near.other(), into)?,
             open_types: types_outside(alloc, policy, excluded)?,
             excluded: excluded.share()?,
             weigher,
@@ -121,13 +122,6 @@ impl<'p> FlowGraph<'p> {
     {
         let ahead = self.out.between(alloc, from, to)?;
         let back = self.into.between(alloc, to, from)?;
-        // those of one way stand in their order
-        if back.is_empty() {
-            return Ok(ahead);
-        }
-        if ahead.is_empty() {
-            return Ok(back);
-        }
         let numbers = distinct_of(ahead, &back)?;
         sort_by_rule_order(alloc, self.policy(), &numbers)
     }
@@ -156,38 +150,18 @@ impl<'p> FlowGraph<'p> {
         }
         let mut weight = 0;
         for number in rules {
-            weight = weight.max(self.weigher.given(from, to, *number));
+            weight = self.weigher.raised(weight, from, to, *number);
         }
         weight
     }
 
-    // The types that the rules join a value to.
-    fn joined_from(&self, alloc: Global, node: u32) -> Result<Set, AllocError>
-        ensures { IfOk result (λ set. AreJoined self.now.policy (λ other. any_flow (weights_of self.now.entries) self.now.policy self.now.least node other) (bits_of set)) }
-    {
-        let out = self.out.targets_of(alloc, node)?;
-        let into = self.into.sources_of(alloc, node)?;
-        either(alloc, out, into)
-    }
-
-    // The types that the rules join to a value.
-    fn joined_to(&self, alloc: Global, node: u32) -> Result<Set, AllocError>
-        ensures { IfOk result (λ set. AreJoined self.now.policy (λ other. any_flow (weights_of self.now.entries) self.now.policy self.now.least other node) (bits_of set)) }
-    {
-        let out = self.out.sources_of(alloc, node)?;
-        let into = self.into.targets_of(alloc, node)?;
-        either(alloc, out, into)
-    }
-
-    // The one or the other, as the graph is turned.
+    // The types that the rules join a node to, as the graph is turned.
     fn joined(&self, alloc: Global, node: u32) -> Result<Set, AllocError>
         ensures { IfOk result (λ set. AreJoined self.now.policy (any_edge self.now node) (bits_of set)) }
     {
-        if self.reverse {
-            self.joined_to(alloc, node)
-        } else {
-            self.joined_from(alloc, node)
-        }
+        let out = self.out.others(alloc, node)?;
+        let into = self.into.others(alloc, node)?;
+        either(alloc, out, into)
     }
 
     // Whether a type may be an end of an edge.
@@ -225,6 +199,17 @@ impl<'p> FlowGraph<'p> {
         } else {
             Set::empty(alloc)
         }
+    }
+}
+
+// The end of a rule that flows from its source to its target at which an edge begins.
+fn first_end(reverse: bool) -> RuleEnd
+    ensures { result ≡ first_end reverse }
+{
+    if reverse {
+        RuleEnd::Target
+    } else {
+        RuleEnd::Source
     }
 }
 

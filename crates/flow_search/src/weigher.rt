@@ -1,4 +1,4 @@
-ghost use Rattle.std.specs.Prelude.{◌≡◌, ◌≤◌, ◌<◌, [], IfOk, length, slice_index_or, if◌then◌else◌};
+ghost use Rattle.std.specs.Prelude.{◌≡◌, ◌≤◌, ◌<◌, [], IfOk, length, max, slice_index_or, if◌then◌else◌};
 ghost use Rattle.pol_rules.specs.declared.RuleKind.TheVariants.{Allow};
 ghost use Rattle.pol_rules.specs.StoredRules.{stored, stored_rules};
 ghost use Rattle.perm_map.specs.PermissionMap.{weights_of};
@@ -106,9 +106,9 @@ impl<'p> Weigher<'p> {
         }
     }
 
-    /// What the rule of that number gives to the flow from a type to another.
+    // What the rule of that number gives to the flow from a type to another.
     #[tactic(auto, unfolding(crate::specs::Flows::given_by, crate::specs::Flows::weight_of_rule, rule_ends::specs::ChosenRules::joins))]
-    pub fn given(&self, from: u32, to: u32, number: u32) -> u8
+    fn given(&self, from: u32, to: u32, number: u32) -> u8
         requires { number < length (stored_rules self.now.policy) }
         ensures { result ≡ given_by (weights_of self.now.entries) self.now.policy from to number }
     {
@@ -117,6 +117,20 @@ impl<'p> Weigher<'p> {
         let ahead = is_rule_from_to(self.policy, &rule, from, to);
         let back = is_rule_from_to(self.policy, &rule, to, from);
         weight_where(ahead, weights.out).max(weight_where(back, weights.into))
+    }
+
+    /// The greater of a weight and what the rule of that number gives to the flow from a type to another. The ends of a rule are looked
+    /// at only where it weighs more.
+    pub fn raised(&self, weight: u8, from: u32, to: u32, number: u32) -> u8
+        requires { number < length (stored_rules self.now.policy) }
+        ensures { result ≡ max weight (given_by (weights_of self.now.entries) self.now.policy from to number) }
+    {
+        let rule = self.policy.rule(number);
+        let weights = self.weigh_rule(&rule);
+        if weights.out <= weight && weights.into <= weight {
+            return weight;
+        }
+        weight.max(self.given(from, to, number))
     }
 
     /// The weight of the flow from a type to another, or 0. Goes through all rules.
@@ -129,7 +143,7 @@ impl<'p> Weigher<'p> {
         }
         let mut weight = 0;
         for number in 0..self.policy.rule_count() {
-            weight = weight.max(self.given(from, to, number));
+            weight = self.raised(weight, from, to, number);
         }
         weight
     }

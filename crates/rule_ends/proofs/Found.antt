@@ -108,32 +108,34 @@ and_over true false false = refl
 and_over false true q = refl
 and_over false false q = refl
 
-clash_at : (keys : List ℕ) (q : ℕ → Bool) (e : ℕ) (es : List ℕ) (x : ℕ) → is_among es e ≡ false → (is_value_at keys e x && q x) ≡ true → (is_among es (slice_index keys x) && q x) ≡ true → ⊥
-clash_at keys q e es x new t u =
-    let is = eqb-true (slice_index keys x) e (and_parts (is_value_at keys e x) (q x) t).0 in
-    let among = (and_parts (is_among es (slice_index keys x)) (q x) u).0 in
+clash_at : (key : ℕ → ℕ) (q : ℕ → Bool) (e : ℕ) (es : List ℕ) (x : ℕ) → is_among es e ≡ false → ((key x == e) && q x) ≡ true → (is_among es (key x) && q x) ≡ true → ⊥
+clash_at key q e es x new t u =
+    let is = eqb-true (key x) e (and_parts (key x == e) (q x) t).0 in
+    let among = (and_parts (is_among es (key x)) (q x) u).0 in
     false≢true (sym new ∙ ap (is_among es) (sym is) ∙ among)
+
+-- what has a key among some, key by key and all at once
+pub grouped_by : (key : ℕ → ℕ) (q : ℕ → Bool) (xs ends : List ℕ) → AreApart ends → IsPermutation (flat_map (λ end. filter q (filter (λ x. key x == end) xs)) ends) (filter (λ x. is_among ends (key x) && q x) xs)
+grouped_by key q xs [] apart = subst (λ (ys : List ℕ). IsPermutation [] ys) (sym (filter_never xs)) (IsPermutation-refl [])
+grouped_by key q xs (e ∷ es) apart =
+    let own = λ (x : ℕ). (key x == e) && q x in
+    let rest = λ (x : ℕ). is_among es (key x) && q x in
+    let first : filter q (filter (λ x. key x == e) xs) ≡ filter own xs = filter_twice (λ x. key x == e) q xs in
+    let both = IsPermutation-append (filter q (filter (λ x. key x == e) xs)) (filter own xs) (flat_map (λ end. filter q (filter (λ x. key x == end) xs)) es) (filter rest xs)
+    (subst (λ (ys : List ℕ). IsPermutation (filter q (filter (λ x. key x == e) xs)) ys) first (IsPermutation-refl (filter q (filter (λ x. key x == e) xs)))) (grouped_by key q xs es apart.1) in
+    let either = filter_either own rest xs (λ x t u. clash_at key q e es x apart.0 t u) in
+    let same : filter (λ x. own x || rest x) xs ≡ filter (λ x. is_among (e ∷ es) (key x) && q x) xs =
+    filter_agree (λ x. own x || rest x) (λ x. is_among (e ∷ es) (key x) && q x) xs
+    (λ k d lt. let x = get_or xs k d in and_over (key x == e) (is_among es (key x)) (q x) ∙ ap (λ (b : Bool). (b || is_among es (key x)) && q x) (eqb_sym (key x) e)) in
+    subst (λ (ys : List ℕ). IsPermutation (flat_map (λ end. filter q (filter (λ x. key x == end) xs)) (e ∷ es)) ys) same
+    (IsPermutation-trans (flat_map (λ end. filter q (filter (λ x. key x == end) xs)) (e ∷ es)) (filter own xs ++ filter rest xs) (filter (λ x. own x || rest x) xs) both
+    (IsPermutation-sym (filter (λ x. own x || rest x) xs) (filter own xs ++ filter rest xs) either))
 
 -- the places of the values among some, group by group and all at once
 pub grouped : (keys : List ℕ) (q : ℕ → Bool) (ends : List ℕ) → AreApart ends
     → IsPermutation (flat_map (λ end. filter q (places_of keys end)) ends) (filter (λ place. is_among ends (slice_index keys place) && q place) (range_with_len 0 (length keys)))
 unfolding places_of
-grouped keys q [] apart = subst (λ (ys : List ℕ). IsPermutation [] ys) (sym (filter_never (range_with_len 0 (length keys)))) (IsPermutation-refl [])
-grouped keys q (e ∷ es) apart =
-    let range = range_with_len 0 (length keys) in
-    let clash = λ (x : ℕ) (t : (is_value_at keys e x && q x) ≡ true) (u : (is_among es (slice_index keys x) && q x) ≡ true). clash_at keys q e es x apart.0 t u in
-    let own = λ (place : ℕ). is_value_at keys e place && q place in
-    let rest = λ (place : ℕ). is_among es (slice_index keys place) && q place in
-    let first : filter q (filter (is_value_at keys e) range) ≡ filter own range = filter_twice (is_value_at keys e) q range in
-    let both = IsPermutation-append (filter q (filter (is_value_at keys e) range)) (filter own range) (flat_map (λ end. filter q (places_of keys end)) es) (filter rest range)
-    (subst (λ (ys : List ℕ). IsPermutation (filter q (filter (is_value_at keys e) range)) ys) first (IsPermutation-refl (filter q (filter (is_value_at keys e) range)))) (grouped keys q es apart.1) in
-    let either = filter_either own rest range (λ x t u. clash x t u) in
-    let same : filter (λ x. own x || rest x) range ≡ filter (λ place. is_among (e ∷ es) (slice_index keys place) && q place) range =
-    filter_agree (λ x. own x || rest x) (λ place. is_among (e ∷ es) (slice_index keys place) && q place) range
-    (λ k d lt. let x = get_or range k d in and_over (is_value_at keys e x) (is_among es (slice_index keys x)) (q x) ∙ ap (λ (b : Bool). (b || is_among es (slice_index keys x)) && q x) (eqb_sym (slice_index keys x) e)) in
-    subst (λ (ys : List ℕ). IsPermutation (flat_map (λ end. filter q (places_of keys end)) (e ∷ es)) ys) same
-    (IsPermutation-trans (flat_map (λ end. filter q (places_of keys end)) (e ∷ es)) (filter own range ++ filter rest range) (filter (λ x. own x || rest x) range) both
-    (IsPermutation-sym (filter (λ x. own x || rest x) range) (filter own range ++ filter rest range) either))
+grouped keys q ends apart = grouped_by (slice_index keys) q (range_with_len 0 (length keys)) ends apart
 
 -- ---- by one end of the rules
 
@@ -159,7 +161,7 @@ by_sources policy rules sources targets by_source by_target source target table 
   law = λ place lt. joins_at policy rules sources targets source target place table.ends lt;
 }
 
-and_comm : (a b : Bool) → (a && b) ≡ (b && a)
+pub and_comm : (a b : Bool) → (a && b) ≡ (b && a)
 and_comm true true = refl
 and_comm true false = refl
 and_comm false true = refl
@@ -197,7 +199,7 @@ pub flat_map_of_maps : (r : ℕ → ℕ) (f : ℕ → List ℕ) (xs : List ℕ) 
 flat_map_of_maps r f [] = refl
 flat_map_of_maps r f (e ∷ es) = ap (λ (ys : List ℕ). map r (f e) ++ ys) (flat_map_of_maps r f es) ∙ sym (map-append r (f e) (flat_map f es))
 
-not_empty : (xs : List ℕ) (x : ℕ) → Contains xs x → not (length xs == 0) ≡ true
+pub not_empty : {X : Type 0} (xs : List X) (x : X) → Contains xs x → not (length xs == 0) ≡ true
 not_empty [] x there = absurd (contains_nothing x there)
 not_empty (y ∷ ys) x there = ap not (ne_eqb (length (y ∷ ys)) 0 (λ e. omega (arith, e)))
 

@@ -24,7 +24,7 @@ use Rattle.value_groups.specs.Among.{is_among}
 use Rattle.value_groups.specs.Inner.Marking.{with_value}
 use Rattle.value_groups.proofs.Words.{among_bits, nodes_pass}
 use Rattle.rule_ends.specs.ChosenRules.{holds_type}
-use Rattle.rule_ends.specs.Inner.EndTables.{IsEnd, has_places, holds_any, is_attribute_bit}
+use Rattle.rule_ends.specs.Inner.EndTables.{IsEnd, holds_any, is_attribute_bit}
 use Rattle.rule_ends.specs.PlainTypes.{is_type_value}
 use Rattle.rule_ends.proofs.Anys.{any_gives, any_from, among_contains, contains_among, or_false}
 use Rattle.rule_ends.proofs.TypesOutside.{type_parts}
@@ -41,8 +41,8 @@ plain_is_no_attribute (Some Plain) p a = false≢true a
 plain_is_no_attribute (Some Attribute) p a = false≢true p
 
 -- the end that a type is, or that its row has
-abbrev pub is_holder : Parts → List (List ℕ) → ℕ → ℕ → Bool
-is_holder policy groups node value = is_type_value policy node && ((node == value) || list_any (is_attribute_bit policy groups value) (bits_of (row_in policy node)))
+abbrev pub is_holder : Parts → (ℕ → Bool) → ℕ → ℕ → Bool
+is_holder policy had node value = is_type_value policy node && ((node == value) || list_any (is_attribute_bit policy had value) (bits_of (row_in policy node)))
 
 within_range : (n x : ℕ) → Contains (range_with_len 1 n) x → (1 ≤ x) × (x ≤ n)
 within_range n x h = let w = All-contains (λ b. (1 ≤ b) × (b < 1 + n)) (range_with_len 1 n) x (range_holds 1 n) h in (w.0, omega (arith, w.1))
@@ -60,79 +60,79 @@ is_type_of policy node least most plain =
     and_from (nat_le 1 node && nat_le node policy.symbols.types.nprim) (has_flavour policy.symbols Plain node) (and_from (nat_le 1 node) (nat_le node policy.symbols.types.nprim) (le-leb 1 node least) (le-leb node policy.symbols.types.nprim most)) plain
 
 -- a bit of an attribute's value
-bit_parts : (policy : Parts) (groups : List (List ℕ)) (value bit : ℕ) → is_attribute_bit policy groups value bit ≡ true → (has_flavour policy.symbols Attribute value ≡ true) × (bit ≡ value - 1)
-bit_parts policy groups value bit e =
-    let outer = and_parts (nat_lt bit policy.symbols.types.nprim && has_places groups (bit + 1) && has_flavour policy.symbols Attribute (bit + 1)) (bit + 1 == value) e in
-    let inner = and_parts (nat_lt bit policy.symbols.types.nprim && has_places groups (bit + 1)) (has_flavour policy.symbols Attribute (bit + 1)) outer.0 in
+bit_parts : (policy : Parts) (had : ℕ → Bool) (value bit : ℕ) → is_attribute_bit policy had value bit ≡ true → (has_flavour policy.symbols Attribute value ≡ true) × (bit ≡ value - 1)
+bit_parts policy had value bit e =
+    let outer = and_parts (nat_lt bit policy.symbols.types.nprim && had (bit + 1) && has_flavour policy.symbols Attribute (bit + 1)) (bit + 1 == value) e in
+    let inner = and_parts (nat_lt bit policy.symbols.types.nprim && had (bit + 1)) (has_flavour policy.symbols Attribute (bit + 1)) outer.0 in
     let same : bit + 1 ≡ value = eqb-true (bit + 1) value outer.1 in
     (subst (λ (v : ℕ). has_flavour policy.symbols Attribute v ≡ true) same inner.1, omega (arith, same))
 
-bit_is : (policy : Parts) (groups : List (List ℕ)) (value : ℕ) → 1 ≤ value → value ≤ policy.symbols.types.nprim → has_places groups value ≡ true → has_flavour policy.symbols Attribute value ≡ true → is_attribute_bit policy groups value (value - 1) ≡ true
-bit_is policy groups value least most places e =
+bit_is : (policy : Parts) (had : ℕ → Bool) (value : ℕ) → 1 ≤ value → value ≤ policy.symbols.types.nprim → had value ≡ true → has_flavour policy.symbols Attribute value ≡ true → is_attribute_bit policy had value (value - 1) ≡ true
+bit_is policy had value least most places e =
     let same : value - 1 + 1 ≡ value = omega (arith, least) in
-    and_from (nat_lt (value - 1) policy.symbols.types.nprim && has_places groups (value - 1 + 1) && has_flavour policy.symbols Attribute (value - 1 + 1)) (value - 1 + 1 == value)
-    (and_from (nat_lt (value - 1) policy.symbols.types.nprim && has_places groups (value - 1 + 1)) (has_flavour policy.symbols Attribute (value - 1 + 1))
-    (and_from (nat_lt (value - 1) policy.symbols.types.nprim) (has_places groups (value - 1 + 1)) (lt-ltb (value - 1) policy.symbols.types.nprim (omega (arith, least, most)))
-    (subst (λ (v : ℕ). has_places groups v ≡ true) (sym same) places))
+    and_from (nat_lt (value - 1) policy.symbols.types.nprim && had (value - 1 + 1) && has_flavour policy.symbols Attribute (value - 1 + 1)) (value - 1 + 1 == value)
+    (and_from (nat_lt (value - 1) policy.symbols.types.nprim && had (value - 1 + 1)) (has_flavour policy.symbols Attribute (value - 1 + 1))
+    (and_from (nat_lt (value - 1) policy.symbols.types.nprim) (had (value - 1 + 1)) (lt-ltb (value - 1) policy.symbols.types.nprim (omega (arith, least, most)))
+    (subst (λ (v : ℕ). had v ≡ true) (sym same) places))
     (subst (λ (v : ℕ). has_flavour policy.symbols Attribute v ≡ true) (sym same) e))
     (eq-eqb (value - 1 + 1) value same)
 
 -- a type or an attribute expands to a type exactly where it is such an end
-pub holder_is : (policy : Parts) (groups : List (List ℕ)) (node value : ℕ) → IsEnd policy value → has_places groups value ≡ true → is_holder policy groups node value ≡ holds_type policy value node
+pub holder_is : (policy : Parts) (had : ℕ → Bool) (node value : ℕ) → IsEnd policy value → had value ≡ true → is_holder policy had node value ≡ holds_type policy value node
 unfolding holds_type
-holder_is policy groups node value is places = same_tests (is_holder policy groups node value) (is_among (expand policy value) node) there back
+holder_is policy had node value is places = same_tests (is_holder policy had node value) (is_among (expand policy value) node) there back
   where
-    there : is_holder policy groups node value ≡ true → is_among (expand policy value) node ≡ true
+    there : is_holder policy had node value ≡ true → is_among (expand policy value) node ≡ true
     there e =
-        let outer = and_parts (is_type_value policy node) ((node == value) || list_any (is_attribute_bit policy groups value) (bits_of (row_in policy node))) e in
+        let outer = and_parts (is_type_value policy node) ((node == value) || list_any (is_attribute_bit policy had value) (bits_of (row_in policy node))) e in
         let type = type_parts policy node outer.0 in
-        elim (or_cases (node == value) (list_any (is_attribute_bit policy groups value) (bits_of (row_in policy node))) outer.1) [
+        elim (or_cases (node == value) (list_any (is_attribute_bit policy had value) (bits_of (row_in policy node))) outer.1) [
           | inl same ↦
               let s : node ≡ value = eqb-true node value same in
               let plain : has_flavour policy.symbols Plain value ≡ true = subst (λ (v : ℕ). has_flavour policy.symbols Plain v ≡ true) s type.2 in
               let none : has_flavour policy.symbols Attribute value ≡ false = not_true (has_flavour policy.symbols Attribute value) (plain_is_no_attribute (flavour_in policy.symbols value) plain) in
               ap (λ (xs : List ℕ). is_among xs node) (of_type policy value none) ∙ contains_among (value ∷ []) node (subst (λ (v : ℕ). Contains (v ∷ []) node) s (contains_first node []))
           | inr bit ↦
-              let f = any_gives (is_attribute_bit policy groups value) (bits_of (row_in policy node)) bit in
-              let parts = bit_parts policy groups value f.0 f.2 in
-              let has : has_bit (row_in policy node) (value - 1) ≡ true = ap (has_bit (row_in policy node)) (sym parts.1) ∙ has_bit-from_bits (row_in policy node) f.0 f.1 in
+              let f = any_gives (is_attribute_bit policy had value) (bits_of (row_in policy node)) bit in
+              let parts = bit_parts policy had value f.0 f.2 in
+              let there_bit : has_bit (row_in policy node) (value - 1) ≡ true = ap (has_bit (row_in policy node)) (sym parts.1) ∙ has_bit-from_bits (row_in policy node) f.0 f.1 in
               ap (λ (xs : List ℕ). is_among xs node) (of_attribute policy value parts.0)
               ∙ contains_among _ node (keeps (λ type. has_flavour policy.symbols Plain type && has_bit (row_in policy type) (value - 1)) (range_with_len 1 policy.symbols.types.nprim) node
-              (contains_range 1 policy.symbols.types.nprim node type.0 (omega (arith, type.1))) (and_from (has_flavour policy.symbols Plain node) (has_bit (row_in policy node) (value - 1)) type.2 has))
+              (contains_range 1 policy.symbols.types.nprim node type.0 (omega (arith, type.1))) (and_from (has_flavour policy.symbols Plain node) (has_bit (row_in policy node) (value - 1)) type.2 there_bit))
         ]
 
-    back : is_among (expand policy value) node ≡ true → is_holder policy groups node value ≡ true
+    back : is_among (expand policy value) node ≡ true → is_holder policy had node value ≡ true
     back e = elim (cases_Bool (has_flavour policy.symbols Attribute value)) [
       | inl a ↦
           let h = kept (λ type. has_flavour policy.symbols Plain type && has_bit (row_in policy type) (value - 1)) (range_with_len 1 policy.symbols.types.nprim) node
           (among_contains _ node (ap (λ (xs : List ℕ). is_among xs node) (sym (of_attribute policy value a)) ∙ e)) in
           let range = within_range policy.symbols.types.nprim node h.0 in
           let parts = and_parts (has_flavour policy.symbols Plain node) (has_bit (row_in policy node) (value - 1)) h.1 in
-          let bit = any_from (is_attribute_bit policy groups value) (bits_of (row_in policy node)) (value - 1) (bits-from_has_bit (row_in policy node) (value - 1) parts.1) (bit_is policy groups value is.within.0 is.within.1 places a) in
-          and_from (is_type_value policy node) ((node == value) || list_any (is_attribute_bit policy groups value) (bits_of (row_in policy node))) (is_type_of policy node range.0 range.1 parts.0)
-          (or_right (node == value) (list_any (is_attribute_bit policy groups value) (bits_of (row_in policy node))) bit)
+          let bit = any_from (is_attribute_bit policy had value) (bits_of (row_in policy node)) (value - 1) (bits-from_has_bit (row_in policy node) (value - 1) parts.1) (bit_is policy had value is.within.0 is.within.1 places a) in
+          and_from (is_type_value policy node) ((node == value) || list_any (is_attribute_bit policy had value) (bits_of (row_in policy node))) (is_type_of policy node range.0 range.1 parts.0)
+          (or_right (node == value) (list_any (is_attribute_bit policy had value) (bits_of (row_in policy node))) bit)
       | inr none ↦
           let one = among_contains (value ∷ []) node (ap (λ (xs : List ℕ). is_among xs node) (sym (of_type policy value none)) ∙ e) in
           let s : value ≡ node = contains_one node value one in
           let plain : has_flavour policy.symbols Plain node ≡ true = subst (λ (v : ℕ). has_flavour policy.symbols Plain v ≡ true) s (plain_end (flavour_in policy.symbols value) is.declared none) in
-          and_from (is_type_value policy node) ((node == value) || list_any (is_attribute_bit policy groups value) (bits_of (row_in policy node)))
+          and_from (is_type_value policy node) ((node == value) || list_any (is_attribute_bit policy had value) (bits_of (row_in policy node)))
           (is_type_of policy node (omega (arith, s, is.within.0)) (omega (arith, s, is.within.1)) plain)
-          (or_left (node == value) (list_any (is_attribute_bit policy groups value) (bits_of (row_in policy node))) (eq-eqb node value (sym s)))
+          (or_left (node == value) (list_any (is_attribute_bit policy had value) (bits_of (row_in policy node))) (eq-eqb node value (sym s)))
     ]
 
 -- no type is held where a value is none
-pub held_by_none : (policy : Parts) (groups : List (List ℕ)) (node value : ℕ) → IsEnd policy value → has_places groups value ≡ true → is_type_value policy node ≡ false → false ≡ holds_type policy value node
-held_by_none policy groups node value is places none = sym (ap (λ (b : Bool). b && ((node == value) || list_any (is_attribute_bit policy groups value) (bits_of (row_in policy node)))) none) ∙ holder_is policy groups node value is places
+pub held_by_none : (policy : Parts) (had : ℕ → Bool) (node value : ℕ) → IsEnd policy value → had value ≡ true → is_type_value policy node ≡ false → false ≡ holds_type policy value node
+held_by_none policy had node value is places none = sym (ap (λ (b : Bool). b && ((node == value) || list_any (is_attribute_bit policy had value) (bits_of (row_in policy node)))) none) ∙ holder_is policy had node value is places
 
 -- the ends of a type: itself, and what its row adds
-pub held_by_ends : (policy : Parts) (groups : List (List ℕ)) (node value : ℕ) (first values : List ℕ) → IsEnd policy value → has_places groups value ≡ true → is_type_value policy node ≡ true → first ≡ with_value [] node
-    → is_among values value ≡ (is_among first value || list_any (is_attribute_bit policy groups value) (bits_of (row_in policy node))) → is_among values value ≡ holds_type policy value node
-held_by_ends policy groups node value first values is places type one grown =
+pub held_by_ends : (policy : Parts) (had : ℕ → Bool) (node value : ℕ) (first values : List ℕ) → IsEnd policy value → had value ≡ true → is_type_value policy node ≡ true → first ≡ with_value [] node
+    → is_among values value ≡ (is_among first value || list_any (is_attribute_bit policy had value) (bits_of (row_in policy node))) → is_among values value ≡ holds_type policy value node
+held_by_ends policy had node value first values is places type one grown =
     grown
-    ∙ ap (λ (xs : List ℕ). is_among xs value || list_any (is_attribute_bit policy groups value) (bits_of (row_in policy node))) one
-    ∙ ap (λ (b : Bool). b || list_any (is_attribute_bit policy groups value) (bits_of (row_in policy node))) (or_false (node == value))
-    ∙ sym (ap (λ (b : Bool). b && ((node == value) || list_any (is_attribute_bit policy groups value) (bits_of (row_in policy node)))) type)
-    ∙ holder_is policy groups node value is places
+    ∙ ap (λ (xs : List ℕ). is_among xs value || list_any (is_attribute_bit policy had value) (bits_of (row_in policy node))) one
+    ∙ ap (λ (b : Bool). b || list_any (is_attribute_bit policy had value) (bits_of (row_in policy node))) (or_false (node == value))
+    ∙ sym (ap (λ (b : Bool). b && ((node == value) || list_any (is_attribute_bit policy had value) (bits_of (row_in policy node)))) type)
+    ∙ holder_is policy had node value is places
 
 -- ---- what an end expands to
 

@@ -6,3 +6,5 @@ pub mod Holders
 pub mod Found
 pub mod ByOneEnd
 pub mod Shared
+pub mod Rows
+pub mod RowPlaces

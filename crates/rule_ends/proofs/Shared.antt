@@ -1,12 +1,11 @@
 -- What rules and others join to one and the same target, by their stored targets.
-use Rattle.std.proofs.Common.{◌≡◌, ℕ, ◌+◌, ◌<◌, ◌≤◌, Bool, true, false, cond, List, [], ◌∷◌, Option, Some, None, length, get_or, slice_get, refl, sym, ap, subst, ◌∙◌, inl, inr, arith}
-use Rattle.std.specs.Prelude.{◌==◌, ◌&&◌, ◌||◌, ◌↔◌, is_some, not, slice_index, if◌then◌else◌}
+use Rattle.std.proofs.Common.{◌≡◌, ℕ, ◌+◌, ◌<◌, ◌≤◌, Bool, true, false, List, [], ◌∷◌, Option, Some, None, length, get_or, slice_get, refl, sym, ap, subst, ◌∙◌, inl, inr, arith}
+use Rattle.std.specs.Prelude.{◌==◌, ◌&&◌, ◌||◌, ◌↔◌, is_some, not, slice_index}
 use Rattle.std.specs.List.{All, Contains, filter, list_any, range_with_len}
 use Rattle.std.proofs.lemmas.Bool.{false≢true, cases_Bool, or_cases, or_left, or_right, eq-eqb, eqb-true, and_parts, and_from, cond-true, cond-false}
 use Rattle.std.proofs.lemmas.List.{get_or_default}
 use Rattle.std.proofs.lemmas.List.Elements.{All-cons, All-contains, All-contains_itself, All-get_or, All-nil, All-weaker}
 use Rattle.pol_bitmap.specs.declared.Node.{Node}
-use Rattle.pol_bitmap.specs.Nodes.{bits_of}
 use Rattle.pol_bitmap.specs.Sets.{IsCommon}
 use Rattle.pol_bitmap.proofs.Elements.{kept, keeps, contains_nothing, contains_range, range_holds}
 use Rattle.pol_datums.specs.declared.Flavour.{Flavour}
@@ -23,7 +22,7 @@ use Rattle.value_groups.specs.Inner.Grouping.{group_of}
 use Rattle.rule_ends.specs.ChosenRules.{any_joins, common_sources, holds_type, is_rule_from_to, joins, passes, sources_to_any}
 use Rattle.rule_ends.specs.PlainTypes.{is_type_value}
 use Rattle.rule_ends.specs.Inner.EndTables.{AreEndsOf, IsEnd, IsTableOf, any_at, has_ends, holds_any, is_other_end, joins_through, shares_at, shares_through, stands_at}
-use Rattle.rule_ends.proofs.Anys.{any_agree, any_from, any_gives, among_contains, contains_among, filter_agree, or_false}
+use Rattle.rule_ends.proofs.Anys.{any_from, any_gives, among_contains, contains_among, filter_agree, or_false}
 use Rattle.rule_ends.proofs.Found.{AreHolders, AreJoined, filter_never, others_hold}
 use Rattle.rule_ends.proofs.Holders.{expands_within, held_alone, held_within}
 

@@ -1,1 +1,2 @@
 pub mod EndTables
+pub mod EndRows

@@ -1,3 +1,4 @@
 pub mod PlainTypes
 pub mod ChosenRules
+pub mod RulesByEnd
 pub mod Inner

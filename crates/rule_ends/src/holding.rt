@@ -5,26 +5,27 @@ ghost use Rattle.pol_bitmap.specs.Nodes.{bits_of};
 ghost use Rattle.pol_expand.specs.PolicyMap.{row_in, IsPolicyMap};
 ghost use Rattle.value_groups.specs.Among.{is_among};
 ghost use Rattle.rule_ends.specs.ChosenRules.{holds_type};
-ghost use Rattle.rule_ends.specs.Inner.EndTables.{IsEnd, has_places, is_attribute_bit};
+ghost use Rattle.rule_ends.specs.Inner.EndTables.{IsEnd, is_attribute_bit};
 
+use crate::ends_had::EndsHad;
 use crate::plain_types::is_type;
 use pol_bitmap::Set;
 use pol_datums::Flavour;
 use pol_expand::{TypeMap, is_flavour};
 use pol_read::Policy;
 use std::alloc::{AllocError, Global};
-use value_groups::{DenseSet, Groups, Marked};
+use value_groups::{DenseSet, Marked};
 
 /// The types and attributes that rules have as their ends and that expand to a type among others: the type itself, and attributes of
 /// its row.
-pub fn ends_holding(
+pub fn ends_holding<E: EndsHad>(
     alloc: Global,
     policy: &Policy<'_>,
-    groups: &Groups,
+    had: &E,
     node: u32,
 ) -> Result<Marked, AllocError>
     ensures count { IfOk result (λ ends. ends.count ≡ policy.now.symbols.types.nprim + 1) }
-    ensures each { IfOk result (λ ends. (value : ℕ) → IsEnd policy.now value → has_places groups.now value ≡ true → is_among ends.values value ≡ holds_type policy.now value node) }
+    ensures each { IfOk result (λ ends. (value : ℕ) → IsEnd policy.now value → E.has had.now value ≡ true → is_among ends.values value ≡ holds_type policy.now value node) }
     ensures within { IfOk result (λ ends. All (λ value. value ≤ policy.now.symbols.types.nprim) ends.values) }
 {
     let mut ends = Marked::new(alloc, policy.type_count() as usize + 1)?;
@@ -32,16 +33,16 @@ pub fn ends_holding(
         return Ok(ends);
     }
     ends.add(node)?;
-    add_attributes(policy, groups, node, &mut ends)?;
+    add_attributes(policy, had, node, &mut ends)?;
     // the clause of the values says that they are below the count
     let _ = ends.values();
     Ok(ends)
 }
 
 // Adds the attributes of the row of a type that rules have.
-fn add_attributes(
+fn add_attributes<E: EndsHad>(
     policy: &Policy<'_>,
-    groups: &Groups,
+    had: &E,
     node: u32,
     ends: &mut Marked,
 ) -> Result<(), AllocError>
@@ -49,27 +50,27 @@ fn add_attributes(
     requires most { node ≤ policy.now.symbols.types.nprim }
     requires count { ends.old.count ≡ policy.now.symbols.types.nprim + 1 }
     ensures count { ends.new.count ≡ ends.old.count }
-    ensures each { OnOk result ((value : ℕ) → is_among ends.new.values value ≡ (is_among ends.old.values value || list_any (is_attribute_bit policy.now groups.now value) (bits_of (row_in policy.now node)))) }
+    ensures each { OnOk result ((value : ℕ) → is_among ends.new.values value ≡ (is_among ends.old.values value || list_any (is_attribute_bit policy.now (E.has had.now) value) (bits_of (row_in policy.now node)))) }
 {
     for bit in policy.row(node).bits() {
-        add_attribute(policy, groups, bit, ends)?;
+        add_attribute(policy, had, bit, ends)?;
     }
     Ok(())
 }
 
 // Adds the attribute that a bit stands for, if it stands for one that rules have.
-fn add_attribute(
+fn add_attribute<E: EndsHad>(
     policy: &Policy<'_>,
-    groups: &Groups,
+    had: &E,
     bit: u32,
     ends: &mut Marked,
 ) -> Result<(), AllocError>
     requires count { ends.old.count ≡ policy.now.symbols.types.nprim + 1 }
     ensures count { ends.new.count ≡ ends.old.count }
-    ensures each { OnOk result ((value : ℕ) → is_among ends.new.values value ≡ (is_among ends.old.values value || is_attribute_bit policy.now groups.now value bit)) }
+    ensures each { OnOk result ((value : ℕ) → is_among ends.new.values value ≡ (is_among ends.old.values value || is_attribute_bit policy.now (E.has had.now) value bit)) }
 {
     if bit < policy.type_count()
-        && !groups.places(bit + 1).is_empty()
+        && had.has(bit + 1)
         && is_flavour(Flavour::Attribute, policy.symbols().flavour(bit + 1))
     {
         ends.add(bit + 1)?;

@@ -3,7 +3,10 @@ use Rattle.std.specs.Prelude.{◌≡◌, ◌↔◌, ℕ, ◌≤◌, Bool, true, 
 use Rattle.std.specs.List.{filter}
 use Rattle.std.specs.List.Sorted.{IsStrictlyIncreasing}
 use Rattle.pol_file.specs.declared.Parts.{Parts}
-use Rattle.rule_ends.specs.ChosenRules.{ChosenRules, any_joins}
+use Rattle.rule_ends.specs.declared.RuleEnd.{RuleEnd}
+use Rattle.rule_ends.specs.declared.RuleEnd.TheVariants.{Source, Target}
+use Rattle.rule_ends.specs.ChosenRules.{any_joins}
+use Rattle.rule_ends.specs.RulesByEnd.{HoldRules, RulesByEnd, other_end}
 use Rattle.rule_ends.specs.PlainTypes.{is_type_outside}
 use Rattle.perm_map.specs.declared.Direction.{Direction}
 use Rattle.perm_map.specs.PermissionMap.{Weights, weights_of}
@@ -18,12 +21,18 @@ reaches way weights policy least number = nat_le least (weight_of_rule way weigh
 unfoldable pub rules_reaching : (Direction → ℕ → ℕ) → Weights → Parts → ℕ → List ℕ
 rules_reaching way weights policy least = filter (reaches way weights policy least) (rule_numbers policy)
 
--- those of each way
-pub record AreFlowRules (weights : Weights) (policy : Parts) (least : ℕ) (out into : ChosenRules) : Type 0 where
+-- the end at which an edge begins, of a rule that flows from its source to its target
+abbrev pub first_end : Bool → RuleEnd
+first_end reverse = if reverse then Target else Source
+
+-- The rules of each way stand under that end, and those of the other way under the other end.
+pub record AreFlowRules (weights : Weights) (policy : Parts) (least : ℕ) (reverse : Bool) (out into : RulesByEnd) : Type 0 where
   pub out_policy : out.policy ≡ policy
-  pub out_rules : out.rules ≡ rules_reaching outwards weights policy least
+  pub out_near : out.near ≡ first_end reverse
+  pub out_rules : HoldRules out (rules_reaching outwards weights policy least)
   pub into_policy : into.policy ≡ policy
-  pub into_rules : into.rules ≡ rules_reaching inwards weights policy least
+  pub into_near : into.near ≡ other_end (first_end reverse)
+  pub into_rules : HoldRules into (rules_reaching inwards weights policy least)
 
 -- ---- the successors of a node
 

@@ -64,8 +64,8 @@ abbrev pub has_places : List (List ℕ) → ℕ → Bool
 has_places groups value = not (length (group_of groups value) == 0)
 
 -- a bit of a row stands for a value, which is that of an attribute that rules have
-abbrev pub is_attribute_bit : Parts → List (List ℕ) → ℕ → ℕ → Bool
-is_attribute_bit policy groups value bit = nat_lt bit policy.symbols.types.nprim && has_places groups (bit + 1) && has_flavour policy.symbols Attribute (bit + 1) && (bit + 1 == value)
+abbrev pub is_attribute_bit : Parts → (ℕ → Bool) → ℕ → ℕ → Bool
+is_attribute_bit policy has value bit = nat_lt bit policy.symbols.types.nprim && has (bit + 1) && has_flavour policy.symbols Attribute (bit + 1) && (bit + 1 == value)
 
 -- a value expands to one of some types
 abbrev pub holds_any : Parts → List ℕ → ℕ → Bool

@@ -6,4 +6,4 @@ use Rattle.rule_ends.proofs.Steps.{Adding}
 use Rattle.rule_ends.proofs.holding.add_attributes.Given as goal
 
 abbrev pub invariant-loop-bit : goal.invariant-loop-bit
-invariant-loop-bit l = (l.ends.count ≡ l.policy.symbols.types.nprim + 1) × Adding (is_attribute_bit l.policy l.groups) (bits_of (row_in l.policy l.node)) l.bit-iterator l.initial.ends.values l.ends.values
+invariant-loop-bit g l = (l.ends.count ≡ l.policy.symbols.types.nprim + 1) × Adding (is_attribute_bit l.policy (g.E.EndsHad.has l.had)) (bits_of (row_in l.policy l.node)) l.bit-iterator l.initial.ends.values l.ends.values

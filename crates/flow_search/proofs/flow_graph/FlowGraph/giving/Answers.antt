@@ -1,45 +1,31 @@
-use Rattle.std.proofs.Common.{◌≡◌, sym, ap, subst, ◌∙◌, arith}
-use Rattle.std.proofs.lemmas.Bool.{eqb-true}
+use Rattle.std.proofs.Common.{◌≡◌, List, ℕ, sym, ap, subst, ◌++◌, ◌∙◌}
 use Rattle.std.specs.List.{filter}
 use Rattle.perm_map.specs.PermissionMap.{weights_of}
 use Rattle.pol_file.specs.declared.Parts.{Parts}
 use Rattle.rule_order.specs.ListedOrder.{AreRules, in_rule_order}
 use Rattle.flow_search.specs.Flows.{gives_least, rule_numbers}
 use Rattle.flow_search.specs.Inner.FlowEdges.{FlowSearch}
-use Rattle.flow_search.proofs.Giving.{ahead_gives, back_gives, nothing, numbers_are_rules, rules_give}
+use Rattle.flow_search.specs.Inner.FlowParts.{AreDistinct}
+use Rattle.flow_search.proofs.Giving.{numbers_are_rules, rules_give}
 use Rattle.flow_search.proofs.Results.{if_ok}
 use Rattle.flow_search.proofs.flow_graph.FlowGraph.giving.Goals as goal
-
-pub returns-then-is_empty-clause-found : goal.returns-then-is_empty-clause-found
-returns-then-is_empty-clause-found c = rw (← c.self.view_is) (
-    ahead_gives (weights_of c.self.inside.weigher.entries) c.self.inside.weigher.policy c.self.inside.least c.args.from c.args.to c.self.inside.out c.self.inside.into c.self.invariant.0 c.self.invariant.1
-    c.in_ok-ahead.ahead.items c.in_ok-back.back.items c.in_ok-ahead.ensures.found c.in_ok-back.ensures.found (nothing c.in_ok-back.back.items (omega (arith, c.in_ok-back.back.ok.0, eqb-true c.in_ok-back.back.len 0 (sym c.is_empty.ensures ∙ c.if-is_empty.true)))))
-
-pub returns-then-is_empty-clause-rules : goal.returns-then-is_empty-clause-rules
-returns-then-is_empty-clause-rules c = rw (← c.self.view_is) (subst (λ (policy : Parts). AreRules policy c.in_ok-ahead.ahead.items) c.self.invariant.1.out_policy c.in_ok-ahead.ensures.rules)
-
-pub returns-then-is_empty-2-clause-found : goal.returns-then-is_empty-2-clause-found
-returns-then-is_empty-2-clause-found c = rw (← c.self.view_is) (
-    back_gives (weights_of c.self.inside.weigher.entries) c.self.inside.weigher.policy c.self.inside.least c.args.from c.args.to c.self.inside.out c.self.inside.into c.self.invariant.0 c.self.invariant.1
-    c.in_ok-ahead.ahead.items c.in_ok-back.back.items c.in_ok-ahead.ensures.found c.in_ok-back.ensures.found (nothing c.in_ok-ahead.ahead.items (omega (arith, c.in_ok-ahead.ahead.ok.0, eqb-true c.in_ok-ahead.ahead.len 0 (sym c.is_empty-2.ensures ∙ c.if-is_empty-2.true)))))
-
-pub returns-then-is_empty-2-clause-rules : goal.returns-then-is_empty-2-clause-rules
-returns-then-is_empty-2-clause-rules c = rw (← c.self.view_is) (subst (λ (policy : Parts). AreRules policy c.in_ok-back.back.items) c.self.invariant.1.into_policy c.in_ok-back.ensures.rules)
 
 pub sort_by_rule_order-requires : goal.sort_by_rule_order-requires
 sort_by_rule_order-requires c =
     subst (λ (policy : Parts). AreRules policy c.deref-2.result.now) (sym c.policy.ensures) (subst (AreRules c.args.self.now.policy) (sym c.deref-2.ensures.value) (rw (← c.self.view_is) (
     numbers_are_rules c.self.inside.weigher.policy (gives_least (weights_of c.self.inside.weigher.entries) c.self.inside.weigher.policy c.self.inside.least c.args.from c.args.to) c.in_ok-numbers.numbers.items (
-    rules_give (weights_of c.self.inside.weigher.entries) c.self.inside.weigher.policy c.self.inside.least c.args.from c.args.to c.self.inside.out c.self.inside.into c.self.invariant.0 c.self.invariant.1
-    c.in_ok-ahead.ahead.items c.deref.result.now c.in_ok-numbers.numbers.items c.in_ok-ahead.ensures.found (c.deref.ensures.value ∙ c.in_ok-back.ensures.found) c.in_ok-numbers.ensures))))
+    rules_give (weights_of c.self.inside.weigher.entries) c.self.inside.weigher.policy c.self.inside.least c.args.from c.args.to c.self.inside.reverse c.self.inside.out c.self.inside.into c.self.invariant.0 c.self.invariant.1
+    c.in_ok-ahead.ahead.items c.in_ok-back.back.items c.in_ok-numbers.numbers.items c.in_ok-ahead.ensures c.in_ok-back.ensures
+    (subst (λ (back : List ℕ). AreDistinct (c.in_ok-ahead.ahead.items ++ back) c.in_ok-numbers.numbers.items) c.deref.ensures.value c.in_ok-numbers.ensures)))))
 
 pub returns-clause-found : goal.returns-clause-found
 returns-clause-found c = rw (← c.self.view_is) (
     if_ok (λ found. found.items ≡ in_rule_order c.policy.result.now c.deref-2.result.now) (λ found. found.items ≡ in_rule_order c.self.inside.weigher.policy (filter (gives_least (weights_of c.self.inside.weigher.entries) c.self.inside.weigher.policy c.self.inside.least c.args.from c.args.to) (rule_numbers c.self.inside.weigher.policy))) c.sort_by_rule_order.result
     (λ found sorted. sorted
     ∙ ap (λ (policy : Parts). in_rule_order policy c.deref-2.result.now) (c.policy.ensures ∙ ap (λ (s : FlowSearch). s.policy) (sym c.self.view_is))
-    ∙ ap (in_rule_order c.self.inside.weigher.policy) (c.deref-2.ensures.value ∙ rules_give (weights_of c.self.inside.weigher.entries) c.self.inside.weigher.policy c.self.inside.least c.args.from c.args.to c.self.inside.out c.self.inside.into c.self.invariant.0 c.self.invariant.1
-    c.in_ok-ahead.ahead.items c.deref.result.now c.in_ok-numbers.numbers.items c.in_ok-ahead.ensures.found (c.deref.ensures.value ∙ c.in_ok-back.ensures.found) c.in_ok-numbers.ensures))
+    ∙ ap (in_rule_order c.self.inside.weigher.policy) (c.deref-2.ensures.value ∙ rules_give (weights_of c.self.inside.weigher.entries) c.self.inside.weigher.policy c.self.inside.least c.args.from c.args.to c.self.inside.reverse c.self.inside.out c.self.inside.into c.self.invariant.0 c.self.invariant.1
+    c.in_ok-ahead.ahead.items c.in_ok-back.back.items c.in_ok-numbers.numbers.items c.in_ok-ahead.ensures c.in_ok-back.ensures
+    (subst (λ (back : List ℕ). AreDistinct (c.in_ok-ahead.ahead.items ++ back) c.in_ok-numbers.numbers.items) c.deref.ensures.value c.in_ok-numbers.ensures)))
     c.sort_by_rule_order.ensures.sorted)
 
 pub returns-clause-rules : goal.returns-clause-rules

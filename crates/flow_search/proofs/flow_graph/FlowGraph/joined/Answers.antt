@@ -1,17 +1,20 @@
-use Rattle.std.proofs.Common.{ℕ, Bool, sym, ap, subst, ◌∙◌}
-use Rattle.std.specs.Prelude.{IfOk}
+use Rattle.std.proofs.Common.{List, subst}
+use Rattle.pol_bitmap.specs.declared.Node.{Node}
 use Rattle.pol_bitmap.specs.Nodes.{bits_of}
+use Rattle.pol_bitmap.specs.Sets.{IsUnion}
+use Rattle.perm_map.specs.PermissionMap.{weights_of}
 use Rattle.flow_search.specs.Inner.FlowEdges.{FlowSearch}
-use Rattle.flow_search.specs.Inner.FlowParts.{AreJoined}
-use Rattle.flow_search.proofs.Successors.{edge_ahead, edge_back}
+use Rattle.flow_search.specs.Inner.FlowParts.{AreFlowRules, AreJoined, any_edge}
+use Rattle.flow_search.proofs.Results.{if_ok}
+use Rattle.flow_search.proofs.Successors.{rules_join}
 use Rattle.flow_search.proofs.flow_graph.FlowGraph.joined.Goals as goal
 
-pub returns-then-self : goal.returns-then-self
-returns-then-self c =
-    subst (λ (test : ℕ → Bool). IfOk c.joined_to.result (λ set. AreJoined c.args.self.now.policy test (bits_of set)))
-    (sym (edge_back c.args.self.now c.args.node (ap (λ (s : FlowSearch). s.reverse) (sym c.self.view_is) ∙ c.if-self.true))) c.joined_to.ensures
-
-pub returns-else-self : goal.returns-else-self
-returns-else-self c =
-    subst (λ (test : ℕ → Bool). IfOk c.joined_from.result (λ set. AreJoined c.args.self.now.policy test (bits_of set)))
-    (sym (edge_ahead c.args.self.now c.args.node (ap (λ (s : FlowSearch). s.reverse) (sym c.self.view_is) ∙ c.if-self.false))) c.joined_from.ensures
+pub returns : goal.returns
+returns c =
+    if_ok (λ (set : List Node). IsUnion (bits_of c.in_ok-out.out) (bits_of c.in_ok-into.into) (bits_of set))
+    (λ (set : List Node). AreJoined c.args.self.now.policy (any_edge c.args.self.now c.args.node) (bits_of set))
+    c.either.result
+    (λ set union. rules_join c.args.self.now c.args.node c.self.inside.out c.self.inside.into
+    (subst (λ (s : FlowSearch). AreFlowRules (weights_of s.entries) s.policy s.least s.reverse c.self.inside.out c.self.inside.into) c.self.view_is c.self.invariant.1)
+    (bits_of c.in_ok-out.out) (bits_of c.in_ok-into.into) (bits_of set) c.in_ok-out.ensures c.in_ok-into.ensures union)
+    c.either.ensures

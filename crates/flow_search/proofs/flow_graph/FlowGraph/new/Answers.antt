@@ -1,33 +1,38 @@
-use Rattle.std.proofs.Common.{◌<◌, ◌≤◌, ◌^◌, ℕ, length, subst, arith}
+use Rattle.std.proofs.Common.{◌<◌, ◌≤◌, ◌≡◌, ◌^◌, ℕ, true, length, subst, arith}
+use Rattle.std.specs.List.{All}
 use Rattle.pol_rules.specs.StoredRules.{stored_rules}
-use Rattle.rule_ends.specs.Inner.EndTables.{AreEndsOf}
+use Rattle.rule_ends.specs.ChosenRules.{is_between_types}
 use Rattle.perm_map.specs.PermissionMap.{weights_of}
 use Rattle.flow_search.specs.FlowWeights.{inwards, outwards}
 use Rattle.flow_search.specs.Inner.WeightTables.{Weighing}
-use Rattle.flow_search.proofs.ReachedWeights.{reaching_few}
+use Rattle.flow_search.proofs.ReachedWeights.{reaching_between, reaching_few}
 use Rattle.flow_search.proofs.flow_graph.FlowGraph.new.Goals as goal
 
 fits : (found all : ℕ) → found ≤ all → all ≤ 400000000 → found < 2 ^ 32
 fits found all h k = omega arith
 
-pub of_gathered-requires-clause-ends : goal.of_gathered-requires-clause-ends
-of_gathered-requires-clause-ends c =
-    let found = c.in_ok-found.found.out in
-    subst (λ (weigher : Weighing). AreEndsOf weigher.policy found.rules.items found.sources.items found.targets.items) c.in_ok-weigher.ensures c.in_ok-found.ensures.out_ends
+pub build-requires-clause-rules : goal.build-requires-clause-rules
+build-requires-clause-rules c =
+    let weigher = c.in_ok-weigher.weigher in
+    let found = c.in_ok-out.field-0.out.items in
+    subst (λ (w : Weighing). All (λ number. is_between_types w.policy number ≡ true) found) c.in_ok-weigher.ensures
+    (reaching_between outwards (weights_of weigher.entries) weigher.policy c.args.least found c.requires.weight c.in_ok-out.ensures.out)
 
-pub of_gathered-requires-clause-few : goal.of_gathered-requires-clause-few
-of_gathered-requires-clause-few c =
-    let found = c.in_ok-found.found.out.rules.items in
-    let few = reaching_few outwards (weights_of c.in_ok-weigher.weigher.entries) c.in_ok-weigher.weigher.policy c.args.least found c.in_ok-found.ensures.out in
-    fits (length found) (length (stored_rules c.in_ok-weigher.weigher.policy)) few c.in_ok-found.ensures.few
+pub build-requires-clause-few : goal.build-requires-clause-few
+build-requires-clause-few c =
+    let weigher = c.in_ok-weigher.weigher in
+    let found = c.in_ok-out.field-0.out.items in
+    fits (length found) (length (stored_rules weigher.policy)) (reaching_few outwards (weights_of weigher.entries) weigher.policy c.args.least found c.in_ok-out.ensures.out) c.in_ok-out.ensures.few
 
-pub of_gathered-requires-2-clause-ends : goal.of_gathered-requires-2-clause-ends
-of_gathered-requires-2-clause-ends c =
-    let found = c.in_ok-found.found.into in
-    subst (λ (weigher : Weighing). AreEndsOf weigher.policy found.rules.items found.sources.items found.targets.items) c.in_ok-weigher.ensures c.in_ok-found.ensures.into_ends
+pub build-requires-2-clause-rules : goal.build-requires-2-clause-rules
+build-requires-2-clause-rules c =
+    let weigher = c.in_ok-weigher.weigher in
+    let found = c.in_ok-out.field-0.into.items in
+    subst (λ (w : Weighing). All (λ number. is_between_types w.policy number ≡ true) found) c.in_ok-weigher.ensures
+    (reaching_between inwards (weights_of weigher.entries) weigher.policy c.args.least found c.requires.weight c.in_ok-out.ensures.into)
 
-pub of_gathered-requires-2-clause-few : goal.of_gathered-requires-2-clause-few
-of_gathered-requires-2-clause-few c =
-    let found = c.in_ok-found.found.into.rules.items in
-    let few = reaching_few inwards (weights_of c.in_ok-weigher.weigher.entries) c.in_ok-weigher.weigher.policy c.args.least found c.in_ok-found.ensures.into in
-    fits (length found) (length (stored_rules c.in_ok-weigher.weigher.policy)) few c.in_ok-found.ensures.few
+pub build-requires-2-clause-few : goal.build-requires-2-clause-few
+build-requires-2-clause-few c =
+    let weigher = c.in_ok-weigher.weigher in
+    let found = c.in_ok-out.field-0.into.items in
+    fits (length found) (length (stored_rules weigher.policy)) (reaching_few inwards (weights_of weigher.entries) weigher.policy c.args.least found c.in_ok-out.ensures.into) c.in_ok-out.ensures.few

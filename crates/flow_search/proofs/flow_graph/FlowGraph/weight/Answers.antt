@@ -7,8 +7,8 @@ use Rattle.flow_search.specs.Inner.FlowEdges.{FlowSearch}
 use Rattle.flow_search.proofs.Greatest.{rule_is_stored, weight_done}
 use Rattle.flow_search.proofs.flow_graph.FlowGraph.weight.Goals as goal
 
-pub given-requires : goal.given-requires
-given-requires c =
+pub raised-weight-requires : goal.raised-weight-requires
+raised-weight-requires c =
     let number = get_or c.args.rules.now c.loop-number.number-index 0 in
     let among : Contains c.args.rules.now number = Contains-get_or c.args.rules.now c.loop-number.number-index 0 c.loop-number-test.true in
     let are : c.args.rules.now ≡ flow_rules (weights_of c.self.inside.weigher.entries) c.self.inside.weigher.policy c.self.inside.least c.args.from c.args.to = c.requires ∙ ap (λ (s : FlowSearch). flow_rules (weights_of s.entries) s.policy s.least c.args.from c.args.to) (sym c.self.view_is) in

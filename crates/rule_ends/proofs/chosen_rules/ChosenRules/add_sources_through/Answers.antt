@@ -1,4 +1,4 @@
-use Rattle.std.proofs.Common.{◌≡◌, ℕ, Bool, List, [], ap, sym, ◌∙◌}
+use Rattle.std.proofs.Common.{Bool, List, ap, sym, ◌∙◌}
 use Rattle.std.specs.Prelude.{◌||◌, ◌==◌, length}
 use Rattle.std.specs.List.{filter, range_with_len}
 use Rattle.pol_bitmap.specs.declared.Node.{Node}

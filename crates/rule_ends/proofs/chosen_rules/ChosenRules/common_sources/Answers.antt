@@ -6,7 +6,7 @@ use Rattle.pol_expand.specs.PolicyMap.{IsPolicyMap}
 use Rattle.pol_file.specs.declared.Parts.{Parts}
 use Rattle.value_groups.specs.Among.{is_among}
 use Rattle.rule_ends.specs.ChosenRules.{ChosenRules}
-use Rattle.rule_ends.specs.Inner.EndTables.{HaveEnds, IsEnd, holds_any}
+use Rattle.rule_ends.specs.Inner.EndTables.{HaveEnds, IsEnd}
 use Rattle.rule_ends.proofs.Holders.{touching_holds}
 use Rattle.rule_ends.proofs.Shared.{shared_are, touching_are_ends}
 use Rattle.rule_ends.proofs.chosen_rules.ChosenRules.common_sources.Goals as goal

@@ -1,0 +1,78 @@
+ghost use Rattle.std.specs.Prelude.{◌≡◌, ◌<◌, ◌^◌, true, IfOk, length};
+ghost use Rattle.std.specs.List.{All};
+ghost use Rattle.rule_ends.specs.ChosenRules.{is_between_types};
+ghost use Rattle.rule_ends.specs.RulesByEnd.{AreRowsOf, rows_under};
+ghost use Rattle.rule_ends.specs.Inner.EndRows.{has_rows};
+
+use crate::end_row::EndRow;
+use crate::ends_had::EndsHad;
+use crate::row_places::{row_starts, rows_by_end};
+use crate::rule_end::RuleEnd;
+use pol_read::Policy;
+use std::alloc::{AllocError, Global};
+use std::marker::Model;
+
+/// Rules under one of their ends. Contracts see the rows under each value, by value from 0 on.
+pub struct EndRows {
+    // By value: where its rows begin, which is where those of the value before it end.
+    starts: Vec<usize>,
+    rows: Vec<EndRow>,
+}
+
+// Its parts go in one call, wherever it is dropped.
+impl Drop for EndRows {
+    fn drop(self) {
+        let EndRows { starts, rows } = self;
+    }
+}
+
+impl Model for EndRows {
+    ghost use Rattle.std.specs.Prelude.{List};
+    ghost use Rattle.rule_ends.specs.declared.end_row.EndRow.{EndRow};
+    ghost use Rattle.rule_ends.specs.Inner.EndRows.{rows_in, AreRowSteps};
+
+    ghost Value = { List (List EndRow) };
+
+    ghost view = { λ r. rows_in r.starts.items r.rows.items };
+
+    ghost invariant = { λ r. AreRowSteps r.starts.items r.rows.items };
+}
+
+impl EndRows {
+    /// Puts the rules of these numbers under one of their ends, in two passes over them. The ends of each are types and attributes.
+    pub fn of_rules(
+        alloc: Global,
+        policy: &Policy<'_>,
+        near: RuleEnd,
+        numbers: &[u32],
+    ) -> Result<EndRows, AllocError>
+        requires rules { All (λ number. is_between_types policy.now number ≡ true) numbers.now }
+        requires few { length numbers.now < 2 ^ 32 }
+        ensures { IfOk result (λ rows. AreRowsOf policy.now near numbers.now rows) }
+    {
+        let starts = row_starts(alloc, policy, near, numbers)?;
+        let rows = rows_by_end(alloc, policy, near, numbers, &starts)?;
+        Ok(EndRows { starts, rows })
+    }
+
+    /// The rows under a value. There is none under a value above all ends.
+    pub fn under(&self, end: u32) -> &[EndRow]
+        ensures { result.now ≡ rows_under self.now end }
+    {
+        let place = end as usize;
+        if place + 1 >= self.starts.len() {
+            return &[];
+        }
+        let start = self.starts[place];
+        let stop = self.starts[place + 1];
+        &self.rows[start..stop]
+    }
+}
+
+impl EndsHad for EndRows {
+    ghost has = { has_rows };
+
+    fn has(&self, end: u32) -> bool {
+        !self.under(end).is_empty()
+    }
+}
