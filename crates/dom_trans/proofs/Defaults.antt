@@ -1,31 +1,31 @@
 -- The rules that set the default domain of a process.
-use Rattle.std.proofs.Common.{◌≡◌, ℕ, ◌+◌, ◌<◌, ◌≤◌, Bool, true, false, cond, List, [], ◌∷◌, ◌++◌, Some, length, take, drop, get_or, slice_get, refl, sym, ap, subst, ◌∙◌, arith}
-use Rattle.std.specs.Prelude.{◌==◌, ◌&&◌, ◌||◌, ◌↔◌}
+use Rattle.std.proofs.Common.{◌≡◌, ℕ, ◌+◌, ◌<◌, ◌≤◌, Bool, true, false, cond, List, [], ◌∷◌, ◌++◌, Option, Some, None, length, get_or, slice_get, refl, sym, ap, subst, ◌∙◌, arith}
+use Rattle.std.specs.Prelude.{◌==◌, ◌&&◌, ◌||◌, ◌↔◌, option_and_then}
 use Rattle.std.specs.Bool.{IsTrue}
 use Rattle.std.specs.List.{All, Contains, filter, fold, list_any, range_with_len}
 use Rattle.std.specs.List.Sorted.{IsPermutation}
 use Rattle.std.proofs.lemmas.Bool.{and_parts, and_from, eqb-true}
-use Rattle.std.proofs.Math.Seq.{take-append_seam}
 use Rattle.std.proofs.lemmas.List.Elements.{All-contains, All-contains_itself, All-filter, All-weaker, Contains-append_left, Contains-append_right}
 use Rattle.std.proofs.lemmas.List.Folds.{list_any-append}
-use Rattle.std.proofs.lemmas.List.Sorted.{IsPermutation-sym, IsPermutation-trans, length_permutation}
+use Rattle.std.proofs.lemmas.List.Sorted.{IsPermutation-sym, IsPermutation-trans}
 use Rattle.pol_bitmap.specs.Sets.{IsCommon, ShareBit}
 use Rattle.pol_bitmap.proofs.Elements.{kept, keeps, contains_range, range_holds}
 use Rattle.pol_expand.proofs.Values.{same_tests}
 use Rattle.pol_fields.specs.declared.TableKind.TheVariants.{Classes}
 use Rattle.pol_symbols.specs.PolicySymbols.{value_in}
 use Rattle.pol_file.specs.declared.Parts.{Parts}
+use Rattle.pol_rules.specs.declared.RulePart.{RulePart}
+use Rattle.pol_rules.specs.declared.RulePart.TheVariants.{Default}
 use Rattle.pol_rules.specs.StoredRules.{StoredRule, stored_rules}
 use Rattle.rule_order.specs.ListedOrder.{AreRules, is_listed_before, ordered_by, with_number}
 use Rattle.rule_ends.specs.ChosenRules.{AreRulesFrom, any_joins, begins_at, ends_at, is_between_types, joins, passes, rule_passes, targets_from, targets_of_rules}
 use Rattle.rule_ends.specs.PlainTypes.{is_type_value}
 use Rattle.rule_ends.proofs.Anys.{any_agree, any_gives, any_from, filter_agree, or_assoc, or_false}
-use Rattle.rule_ends.proofs.Ends.{passes_within}
 use Rattle.rule_ends.proofs.ByOneEnd.{from_each, joins_by_ends}
 use Rattle.dom_trans.specs.Grants.{rules_that, sets_default, granting_rules, grants, default_rules, has_default, part_has_default, process, file, entrypoint}
 use Rattle.dom_trans.specs.Transitions.{is_default}
 use Rattle.dom_trans.specs.Inner.RuleLists.{HaveTypeEnds, rules_to}
-use Rattle.dom_trans.specs.Inner.Targets.{AreTypeValues, HaveDefaultOf, enters_by, starts_at_point, starts_to}
+use Rattle.dom_trans.specs.Inner.Targets.{AreTypeValues, HaveDefaultOf, default_set_by, enters_by, is_found, part_sets, starts_at_point, starts_to}
 use Rattle.dom_trans.proofs.Keeps.{filter_short}
 
 -- the default of a stored rule
@@ -36,14 +36,6 @@ default_of policy value number rule at = sym (ap (passes (λ (r : StoredRule). p
 pub not_so : (b : Bool) → (b ≡ true → ⊥) → b ≡ false
 not_so true h = absurd (h refl)
 not_so false h = refl
-
-default_within : (policy : Parts) (value number : ℕ) → has_default policy value number ≡ true → number < length (stored_rules policy)
-unfolding has_default
-default_within policy value number e = passes_within policy (λ (r : StoredRule). part_has_default value r.part) number e
-
--- no rule has no default
-pub default_of_none : (policy : Parts) (value number : ℕ) → length (stored_rules policy) ≤ number → false ≡ has_default policy value number
-default_of_none policy value number past = sym (not_so (has_default policy value number) (λ e. omega (arith, past, default_within policy value number e)))
 
 default_rule_below : (policy : Parts) (number : ℕ) → Contains (default_rules policy) number → number < length (stored_rules policy)
 unfolding rules_that
@@ -134,16 +126,10 @@ pub with_default_are : (policy : Parts) (a b : ℕ) (numbers found : List ℕ) �
 with_default_are policy a b numbers found from is =
     subst (All (Contains (default_rules policy))) (sym is) (All-filter (has_default policy b) (Contains (default_rules policy)) numbers (from_are_defaults policy a numbers from))
 
-pub moved_from : (policy : Parts) (rules : List ℕ) (a : ℕ) (old new : List ℕ) → AreRulesFrom policy rules a old → IsPermutation old new → AreRulesFrom policy rules a new
-moved_from policy rules a old new from moved = IsPermutation-trans new old (filter (begins_at policy a) rules) (IsPermutation-sym old new moved) from
-
--- as a vector whose numbers are lent as a slice to be sorted
-pub sorted_from : (policy : Parts) (a : ℕ) (numbers lent sorted seen : List ℕ) (len : ℕ) → AreRulesFrom policy (default_rules policy) a numbers → lent ≡ numbers → len ≡ length numbers → IsPermutation lent sorted → seen ≡ take len (sorted ++ drop (length sorted) numbers)
-    → AreRulesFrom policy (default_rules policy) a seen
-sorted_from policy a numbers lent sorted seen len from is long same back =
-    let whole : len ≡ length sorted = omega (arith, long, length_permutation lent sorted same, ap (length {A = ℕ}) is) in
-    let all : seen ≡ sorted = back ∙ rw whole (take-append_seam sorted (drop (length sorted) numbers)) in
-    subst (AreRulesFrom policy (default_rules policy) a) (sym all) (moved_from policy (default_rules policy) a lent sorted (subst (AreRulesFrom policy (default_rules policy) a) (sym is) from) same)
+-- they are that in any order
+pub sorted_from : (policy : Parts) (a : ℕ) (numbers sorted seen : List ℕ) → AreRulesFrom policy (default_rules policy) a numbers → IsPermutation numbers sorted → seen ≡ sorted → AreRulesFrom policy (default_rules policy) a seen
+sorted_from policy a numbers sorted seen from same is =
+    subst (AreRulesFrom policy (default_rules policy) a) (sym is) (IsPermutation-trans sorted numbers (filter (begins_at policy a) (default_rules policy)) (IsPermutation-sym numbers sorted same) from)
 
 -- ---- a list in two parts
 
@@ -237,11 +223,27 @@ any_and : (k : Bool) (p : ℕ → Bool) (xs : List ℕ) → list_any (λ x. k &&
 any_and true p xs = refl
 any_and false p xs = any_never xs
 
+-- a rule sets the default that it has
+pub default_is : (policy : Parts) (number : ℕ) (found : Option ℕ) (b : ℕ) → found ≡ default_set_by policy number → is_found found b ≡ has_default policy b number
+unfolding has_default
+default_is policy number found b e = ap (λ (o : Option ℕ). is_found o b) e ∙ go (slice_get (stored_rules policy) number)
+  where
+    of_part : (part : RulePart) → is_found (part_sets part) b ≡ part_has_default b part
+    of_part (Default value) = refl
+    of_part part = refl
+
+    go : (o : Option StoredRule) → is_found (option_and_then (λ (rule : StoredRule). part_sets rule.part) o) b ≡ passes (λ (rule : StoredRule). part_has_default b rule.part) o
+    go None = refl
+    go (Some rule) = of_part rule.part
+
+same_default : (policy : Parts) (number first b : ℕ) → default_set_by policy number ≡ default_set_by policy first → has_default policy b number ≡ has_default policy b first
+same_default policy number first b e = sym (default_is policy number (default_set_by policy number) b refl) ∙ default_is policy first (default_set_by policy number) b e
+
 -- whether some of them starts a domain is told by the default of the first
 alike : (policy : Parts) (types numbers : List ℕ) (first c : ℕ) → HaveDefaultOf policy first numbers → list_any (enters_by policy types c) numbers ≡ ((is_type_value policy c && has_default policy c first) && list_any (starts_at_point policy types c) numbers)
 alike policy types numbers first c same =
     let test = is_type_value policy c && has_default policy c first in
-    any_agree (enters_by policy types c) (λ number. test && starts_at_point policy types c number) numbers (λ k d lt. ap (λ (t : Bool). (is_type_value policy c && t) && starts_at_point policy types c (get_or numbers k d)) (same k d lt c))
+    any_agree (enters_by policy types c) (λ number. test && starts_at_point policy types c number) numbers (λ k d lt. ap (λ (t : Bool). (is_type_value policy c && t) && starts_at_point policy types c (get_or numbers k d)) (same_default policy (get_or numbers k d) first c (same k d lt)))
     ∙ any_and test (starts_at_point policy types c) numbers
 
 and_ever : (b : Bool) → (b && true) ≡ b

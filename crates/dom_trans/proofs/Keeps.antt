@@ -1,21 +1,30 @@
 -- The rules that are kept, as one pass over all rules finds them.
-use Rattle.std.proofs.Common.{◌≡◌, ℕ, ◌+◌, ◌<◌, ◌≤◌, ◌^◌, Bool, true, false, cond, List, [], ◌∷◌, ◌++◌, Option, Some, None, length, slice_get, refl, sym, ap, subst, ◌∙◌, arith}
+use Rattle.std.proofs.Common.{◌≡◌, ℕ, ◌+◌, ◌<◌, ◌≤◌, ◌^◌, Bool, true, false, cond, List, [], ◌∷◌, ◌++◌, Option, Some, None, Result, Ok, Err, append-nil, length, slice_get, refl, sym, ap, subst, ◌∙◌, arith}
+use Rattle.std.specs.Prelude.{◌==◌, option_map, OnOk}
 use Rattle.std.specs.List.{All, filter, range_with_len}
-use Rattle.std.proofs.lemmas.Bool.{false≢true}
+use Rattle.std.proofs.lemmas.Bool.{and_parts, false≢true, or_parts}
 use Rattle.std.proofs.lemmas.List.Elements.{All-weaker, filter_passes}
 use Rattle.std.proofs.lemmas.List.FromFn.{length-range_with_len}
+use Rattle.pol_fields.specs.declared.TableKind.TheVariants.{Classes}
+use Rattle.pol_commons.specs.Permissions.{mask_has}
+use Rattle.pol_symbols.specs.declared.Symbols.{Symbols}
+use Rattle.pol_symbols.specs.PolicySymbols.{value_in, permission_value_in}
 use Rattle.pol_file.specs.declared.Parts.{Parts}
 use Rattle.pol_rules.specs.declared.RuleKind.{RuleKind}
 use Rattle.pol_rules.specs.declared.RuleKind.TheVariants.{Allow, TypeTransition}
 use Rattle.pol_rules.specs.declared.RulePart.{RulePart}
-use Rattle.pol_rules.specs.StoredRules.{StoredRule, stored_rules}
+use Rattle.pol_rules.specs.declared.RulePart.TheVariants.{Perms}
+use Rattle.pol_rules.specs.declared.RuleEnds.{RuleEnds}
+use Rattle.pol_rules.specs.StoredRules.{StoredRule, ends_of, stored_rules}
+use Rattle.pol_rules.proofs.RulesDeclared.{rule_with_ends}
 use Rattle.pol_cursor.proofs.Ranges.{filter_range_one}
+use Rattle.rule_ends.specs.declared.RulesWithEnds.{RulesWithEnds}
+use Rattle.rule_ends.specs.Inner.EndTables.{AreEndsOf}
 use Rattle.rule_ends.specs.ChosenRules.{passes, rule_passes, has_type_ends, is_between_types}
 use Rattle.dom_trans.specs.declared.permission.Permission.{Permission}
-use Rattle.dom_trans.specs.declared.keeping.Wanted.{Wanted}
 use Rattle.dom_trans.specs.declared.keeping.Kept.{Kept}
-use Rattle.dom_trans.specs.Grants.{rules_that, part_gives, gives, kind_sets_default, sets_default}
-use Rattle.dom_trans.specs.Inner.Keeping.{kept_of, AreKept, GainsWhere, AddsRule}
+use Rattle.dom_trans.specs.Grants.{rules_that, permission_named, permission_of_class, part_gives, gives, is_value, is_nameless, kind_sets_default, sets_default, process, file, transition, dyntransition, setexec, setcurrent, execute, entrypoint}
+use Rattle.dom_trans.specs.Inner.Keeping.{wanted_in, is_asked_class, kept_of, AreKept, GainsWhere, IsKept}
 use Rattle.dom_trans.specs.Inner.RuleLists.{HaveTypeEnds}
 
 -- one rule more
@@ -27,16 +36,91 @@ more policy test n rule old new at was gained =
     ∙ ap (λ (o : Option StoredRule). kept_of policy n test ++ cond (passes test o) (n ∷ []) []) (sym at)
     ∙ sym (filter_range_one p 0 n n (omega arith))
 
-pub kept_more : (policy : Parts) (wanted : Wanted) (n : ℕ) (rule : StoredRule) (old new : Kept) → slice_get (stored_rules policy) n ≡ Some rule → AreKept policy wanted n old → AddsRule wanted n rule old new → AreKept policy wanted (n + 1) new
-kept_more policy wanted n rule old new at are adds = record {
-  transition = more policy (gives wanted.transition) n rule old.transition.items new.transition.items at are.transition adds.transition;
-  dyntransition = more policy (gives wanted.dyntransition) n rule old.dyntransition.items new.dyntransition.items at are.dyntransition adds.dyntransition;
-  setexec = more policy (gives wanted.setexec) n rule old.setexec.items new.setexec.items at are.setexec adds.setexec;
-  setcurrent = more policy (gives wanted.setcurrent) n rule old.setcurrent.items new.setcurrent.items at are.setcurrent adds.setcurrent;
-  execute = more policy (gives wanted.execute) n rule old.execute.items new.execute.items at are.execute adds.execute;
-  entrypoint = more policy (gives wanted.entrypoint) n rule old.entrypoint.items new.entrypoint.items at are.entrypoint adds.entrypoint;
-  defaults = more policy (sets_default wanted.process) n rule old.defaults.items new.defaults.items at are.defaults adds.defaults;
+-- what two facts of a success give
+pub on_both : {T E P Q R : Type 0} (result : Result T E) → (P → Q → R) → OnOk result P → OnOk result Q → OnOk result R
+on_both (Ok x) f p q = f p q
+on_both (Err e) f p q = tt
+
+pub kept_none : (policy : Parts) (test : StoredRule → Bool) (list : RulesWithEnds) → list.rules.items ≡ [] → AreEndsOf policy list.rules.items list.sources.items list.targets.items → IsKept policy 0 test list
+kept_none policy test list none ends = record { rules = none; ends = ends }
+
+pub kept_more : (policy : Parts) (test : StoredRule → Bool) (n : ℕ) (rule : StoredRule) (old new : RulesWithEnds) (passes : Bool) → slice_get (stored_rules policy) n ≡ Some rule → IsKept policy n test old → passes ≡ test rule
+    → GainsWhere n passes old.rules.items new.rules.items → AreEndsOf policy new.rules.items new.sources.items new.targets.items → IsKept policy (n + 1) test new
+kept_more policy test n rule old new passes at was is gained ends = record {
+  rules = more policy test n rule old.rules.items new.rules.items at was.rules (subst (λ (b : Bool). GainsWhere n b old.rules.items new.rules.items) is gained);
+  ends = ends;
 }
+
+-- ---- rules of other classes
+
+-- a rule that gives a permission of a class is of that class
+named_class : (symbols : Symbols) (class name : List ℕ) (rule : StoredRule) → gives (permission_named symbols class name) rule ≡ true → is_value (value_in symbols Classes class) rule.class ≡ true
+unfolding permission_named
+named_class symbols class name rule e = go (value_in symbols Classes class) e
+  where
+    of_part : (permission : Permission) (kind : RuleKind) (value : ℕ) (part : RulePart) → part_gives permission kind value part ≡ true → (value == permission.class) ≡ true
+    of_part permission Allow value (Perms mask) e = (and_parts (value == permission.class) (mask_has mask permission.value) e).0
+    of_part permission kind value part e = absurd (false≢true e)
+
+    of_value : (value : ℕ) (found : Option ℕ) → gives (option_map (λ number. record { class = value; value = number }) found) rule ≡ true → (rule.class == value) ≡ true
+    of_value value None e = absurd (false≢true e)
+    of_value value (Some number) e = of_part (record { class = value; value = number }) rule.kind rule.class rule.part e
+
+    go : (found : Option ℕ) → gives (permission_of_class symbols name found) rule ≡ true → is_value found rule.class ≡ true
+    go None e = absurd (false≢true e)
+    go (Some value) e = of_value value (permission_value_in symbols value name) e
+
+-- so is one that sets a default
+default_class : (class : Option ℕ) (rule : StoredRule) → sets_default class rule ≡ true → is_value class rule.class ≡ true
+default_class class rule e = go rule.kind e
+  where
+    go : (kind : RuleKind) → kind_sets_default kind rule.name class rule.class ≡ true → is_value class rule.class ≡ true
+    go TypeTransition e = (and_parts (is_nameless rule.name) (is_value class rule.class) e).1
+    go kind e = absurd (false≢true e)
+
+gains_none : (number : ℕ) (passes of_class : Bool) (numbers : List ℕ) → of_class ≡ false → (passes ≡ true → of_class ≡ true) → GainsWhere number passes numbers numbers
+gains_none number true of_class numbers other is = absurd (false≢true (sym other ∙ is refl))
+gains_none number false of_class numbers other is = sym (append-nil numbers)
+
+kept_less : (policy : Parts) (test : StoredRule → Bool) (n : ℕ) (rule : StoredRule) (list : RulesWithEnds) (of_class : Bool) → slice_get (stored_rules policy) n ≡ Some rule → of_class ≡ false → (test rule ≡ true → of_class ≡ true) → IsKept policy n test list → IsKept policy (n + 1) test list
+kept_less policy test n rule list of_class at other is was = record {
+  rules = more policy test n rule list.rules.items list.rules.items at was.rules (gains_none n (test rule) of_class list.rules.items other is);
+  ends = was.ends;
+}
+
+-- a rule of another class is in no list
+pub kept_past : (policy : Parts) (n : ℕ) (ends : RuleEnds) (kept : Kept) → option_map ends_of (slice_get (stored_rules policy) n) ≡ Some ends → is_asked_class (wanted_in policy.symbols) ends.class ≡ false → AreKept policy (wanted_in policy.symbols) n kept
+    → AreKept policy (wanted_in policy.symbols) (n + 1) kept
+kept_past policy n ends kept at other are = record {
+  transition = of_process transition kept.transition are.transition;
+  dyntransition = of_process dyntransition kept.dyntransition are.dyntransition;
+  setexec = of_process setexec kept.setexec are.setexec;
+  setcurrent = of_process setcurrent kept.setcurrent are.setcurrent;
+  execute = of_file execute kept.execute are.execute;
+  entrypoint = of_file entrypoint kept.entrypoint are.entrypoint;
+  defaults = kept_less policy (sets_default processes) n rule kept.defaults (is_value processes rule.class) there apart.0 (default_class processes rule) are.defaults;
+}
+  where
+    processes : Option ℕ
+    processes = value_in policy.symbols Classes process
+
+    files : Option ℕ
+    files = value_in policy.symbols Classes file
+
+    rule : StoredRule
+    rule = (rule_with_ends policy n ends at).0
+
+    there : slice_get (stored_rules policy) n ≡ Some rule
+    there = (rule_with_ends policy n ends at).1
+
+    apart : (is_value processes rule.class ≡ false) × (is_value files rule.class ≡ false)
+    apart = or_parts (is_value processes rule.class) (is_value files rule.class) (ap (λ (e : RuleEnds). is_asked_class (wanted_in policy.symbols) e.class) (rule_with_ends policy n ends at).2 ∙ other)
+
+    of_process : (name : List ℕ) (list : RulesWithEnds) → IsKept policy n (gives (permission_named policy.symbols process name)) list → IsKept policy (n + 1) (gives (permission_named policy.symbols process name)) list
+    of_process name list = kept_less policy (gives (permission_named policy.symbols process name)) n rule list (is_value processes rule.class) there apart.0 (named_class policy.symbols process name rule)
+
+    of_file : (name : List ℕ) (list : RulesWithEnds) → IsKept policy n (gives (permission_named policy.symbols file name)) list → IsKept policy (n + 1) (gives (permission_named policy.symbols file name)) list
+    of_file name list = kept_less policy (gives (permission_named policy.symbols file name)) n rule list (is_value files rule.class) there apart.1 (named_class policy.symbols file name rule)
 
 -- ---- their ends are types
 

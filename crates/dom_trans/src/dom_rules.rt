@@ -1,29 +1,33 @@
-ghost use Rattle.std.specs.Prelude.{◌≡◌, ℕ, ◌+◌, ◌++◌, ◌==◌, ◌≤◌, ◌||◌, [], ◌∷◌, IfOk, OnOk, false, if◌then◌else◌, length, map, not, slice_index, take, true};
+ghost use Rattle.std.specs.Prelude.{◌≡◌, ℕ, ◌+◌, ◌++◌, ◌==◌, ◌≤◌, ◌||◌, ◌<◌, ◌^◌, [], ◌∷◌, IfOk, OnOk, false, if◌then◌else◌, length, map, not, slice_index, take, true};
 ghost use Rattle.std.specs.List.{All, Contains, filter, list_any};
-ghost use Rattle.std.specs.List.Sorted.{IsPermutation, IsStrictlyIncreasing};
+ghost use Rattle.std.specs.List.Sorted.{IsPermutation, IsSortedByKey, IsStrictlyIncreasing};
+ghost use Rattle.std.specs.Option.{option_cmp};
+ghost use Rattle.std.specs.Ordering.{nat_cmp};
 ghost use Rattle.pol_bitmap.specs.Nodes.{bits_of};
 ghost use Rattle.pol_expand.specs.PolicyMap.{IsPolicyMap};
+ghost use Rattle.pol_rules.specs.StoredRules.{stored_rules};
 ghost use Rattle.rule_order.specs.ListedOrder.{AreRules};
 ghost use Rattle.rule_ends.specs.ChosenRules.{any_joins, common_sources, rules_between, sources_to, targets_from};
 ghost use Rattle.rule_ends.specs.PlainTypes.{is_type_value};
+ghost use Rattle.rule_ends.specs.Inner.EndTables.{AreEndsOf};
 ghost use Rattle.value_groups.specs.Among.{is_among};
-ghost use Rattle.dom_trans.specs.Inner.Targets.{AreEntered, AreEntering, AreSources, AreTargets, AreTypeValues, HaveDefaultOf, enters_by, is_found, starts_at_point, starts_to};
+ghost use Rattle.dom_trans.specs.Inner.Targets.{AreEntered, AreEntering, AreSources, AreTargets, AreTypeValues, HaveDefaultOf, default_set_by, enters_by, starts_at_point, starts_to};
 ghost use Rattle.dom_trans.specs.Grants.{granting_rules, grants, default_rules, has_default, process, dyntransition, setcurrent, file, execute, entrypoint};
 ghost use Rattle.dom_trans.specs.Transitions.{entries, is_standard, is_dynamic, defaults_between};
 ghost use Rattle.dom_trans.specs.ReasonLists.{entry_reason, reasons_between};
-ghost use Rattle.dom_trans.specs.Inner.RuleLists.{HaveTypeEnds, IsSourceOf, chosen, is_allowed, rules_of, rules_to};
+ghost use Rattle.dom_trans.specs.Inner.Keeping.{AreKept, wanted_in};
+ghost use Rattle.dom_trans.specs.Inner.RuleLists.{IsSourceOf, chosen, is_allowed, rule_lists, rules_of, rules_to};
 
 use crate::by_default::RulesByDefault;
 use crate::grant::Grant;
-use crate::keeping::kept_rules;
-use crate::permission::has_default;
+use crate::keeping::{Kept, kept_rules};
+use crate::permission::{default_in, has_default};
 use crate::reasons::{EntryReason, EntryReasonList, Reasons};
 use pol_bitmap::Set;
 use pol_cursor::{NumberList, OwnedList};
 use pol_expand::TypeMap;
 use pol_read::Policy;
-use pol_rules::RulePart;
-use rule_ends::{ChosenRules, are_two_types, is_type};
+use rule_ends::{ChosenRules, RulesWithEnds, are_two_types, is_type};
 use std::alloc::{AllocError, Global};
 use std::marker::Model;
 use value_groups::DenseSet;
@@ -75,20 +79,14 @@ impl<'p> DomRules<'p> {
         ensures { IfOk result (λ rules. rules ≡ policy.now) }
     {
         let kept = kept_rules(alloc, policy)?;
-        let mut lists = Vec::with_capacity(alloc, 7)?;
-        push_ends(&mut lists, policy, types, kept.transition)?;
-        push_ends(&mut lists, policy, types, kept.dyntransition)?;
-        push_ends(&mut lists, policy, types, kept.setexec)?;
-        push_ends(&mut lists, policy, types, kept.setcurrent)?;
-        push_ends(&mut lists, policy, types, kept.execute)?;
-        push_ends(&mut lists, policy, types, kept.entrypoint)?;
-        let defaults = copied(alloc, &kept.defaults)?;
-        push_ends(&mut lists, policy, types, kept.defaults)?;
+        let numbers = copied(alloc, &kept.defaults.rules)?;
+        let defaults = RulesByDefault::of_rules(alloc, policy, numbers)?;
+        let lists = lists_of(alloc, policy, types, kept)?;
         Ok(DomRules {
             policy,
             types,
             lists,
-            defaults: RulesByDefault::of_rules(alloc, policy, defaults)?,
+            defaults,
         })
     }
 
@@ -251,7 +249,7 @@ impl<'p> DomRules<'p> {
         ensures { IfOk result (λ set. AreEntered self.now a (bits_of set)) }
     {
         let mut numbers = self.list(Grant::Default).rules_from(alloc, a)?;
-        self.sort_by_default(&mut numbers);
+        self.sort_by_default(&mut numbers)?;
         let mut found = DenseSet::new(alloc, self.policy.type_count() as usize + 1)?;
         let mut left = numbers.as_slice();
         while !left.is_empty() {
@@ -263,10 +261,11 @@ impl<'p> DomRules<'p> {
     }
 
     // Puts rules of the same default together.
-    fn sort_by_default(&self, numbers: &mut [u32])
-        ensures { IsPermutation numbers.old numbers.new }
+    fn sort_by_default(&self, numbers: &mut Vec<u32>) -> Result<(), AllocError>
+        ensures same { IsPermutation numbers.old.items numbers.new.items }
+        ensures rise { OnOk result (IsSortedByKey (default_set_by self.now) (option_cmp nat_cmp) numbers.new.items) }
     {
-        numbers.sort_unstable_by_key(|number| self.default_of(*number));
+        numbers.sort_by_cached_key(|number| self.default_of(*number))
     }
 
     // How many of the rules, from the first on, have the default of the first.
@@ -275,6 +274,7 @@ impl<'p> DomRules<'p> {
         ensures some { 1 ≤ result }
         ensures most { result ≤ length numbers.now }
         ensures alike { HaveDefaultOf self.now (slice_index numbers.now 0) (take result numbers.now) }
+        ensures longest { result < length numbers.now → ¬ (default_set_by self.now (slice_index numbers.now result) ≡ default_set_by self.now (slice_index numbers.now 0)) }
     {
         let first = self.default_of(numbers[0]);
         for place in 1..numbers.len() {
@@ -287,15 +287,12 @@ impl<'p> DomRules<'p> {
 
     // The default of the rule of a number, if it has one.
     fn default_of(&self, number: u32) -> Option<u32>
-        ensures { (b : ℕ) → is_found result b ≡ has_default self.now b number }
+        ensures { result ≡ default_set_by self.now number }
     {
         if number >= self.policy.rule_count() {
             return None;
         }
-        match self.policy.rule(number).part {
-            RulePart::Default(b) => Some(b),
-            _ => None,
-        }
+        default_in(&self.policy.rule(number))
     }
 
     // Adds the default that some rules have, where they start it from one of its entry points among some types.
@@ -492,19 +489,43 @@ fn copied(alloc: Global, numbers: &[u32]) -> Result<Vec<u32>, AllocError>
     Ok(copy)
 }
 
+// The rules of each grant, in their order.
+fn lists_of<'p>(
+    alloc: Global,
+    policy: &'p Policy<'p>,
+    types: &'p TypeMap,
+    kept: Kept,
+) -> Result<Vec<ChosenRules<'p>>, AllocError>
+    requires map { IsPolicyMap policy.now types.now }
+    requires kept { AreKept policy.now (wanted_in policy.now.symbols) (length (stored_rules policy.now)) kept }
+    requires few { length (stored_rules policy.now) ≤ 400000000 }
+    ensures { IfOk result (λ lists. lists.items ≡ rule_lists policy.now) }
+{
+    let mut lists = Vec::with_capacity(alloc, 7)?;
+    push_ends(&mut lists, policy, types, kept.transition)?;
+    push_ends(&mut lists, policy, types, kept.dyntransition)?;
+    push_ends(&mut lists, policy, types, kept.setexec)?;
+    push_ends(&mut lists, policy, types, kept.setcurrent)?;
+    push_ends(&mut lists, policy, types, kept.execute)?;
+    push_ends(&mut lists, policy, types, kept.entrypoint)?;
+    push_ends(&mut lists, policy, types, kept.defaults)?;
+    Ok(lists)
+}
+
 // Adds rules with their ends to lists.
 fn push_ends<'p>(
     lists: &mut Vec<ChosenRules<'p>>,
     policy: &'p Policy<'p>,
     types: &'p TypeMap,
-    numbers: Vec<u32>,
+    gathered: RulesWithEnds,
 ) -> Result<(), AllocError>
     requires map { IsPolicyMap policy.now types.now }
-    requires numbers { HaveTypeEnds policy.now numbers.items }
-    ensures { OnOk result (lists.new.items ≡ lists.old.items ++ chosen policy.now numbers.items ∷ []) }
+    requires ends { AreEndsOf policy.now gathered.rules.items gathered.sources.items gathered.targets.items }
+    requires few { length gathered.rules.items < 2 ^ 32 }
+    ensures { OnOk result (lists.new.items ≡ lists.old.items ++ chosen policy.now gathered.rules.items ∷ []) }
 {
     let alloc = *lists.allocator();
-    lists.push(ChosenRules::build(alloc, policy, types, numbers)?)?;
+    lists.push(ChosenRules::of_gathered(alloc, policy, types, gathered)?)?;
     Ok(())
 }
 

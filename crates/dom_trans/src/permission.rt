@@ -1,7 +1,8 @@
 ghost use Rattle.std.specs.Prelude.{◌≡◌, ◌==◌};
 ghost use Rattle.std.specs.Int.{bit_at};
 ghost use Rattle.pol_rules.specs.StoredRules.{stored};
-ghost use Rattle.dom_trans.specs.Grants.{permission_named, gives, is_nameless, is_value, sets_default, part_has_default};
+ghost use Rattle.dom_trans.specs.Grants.{permission_named, gives, is_value, sets_default, part_has_default};
+ghost use Rattle.dom_trans.specs.Inner.Targets.{part_sets};
 
 use pol_fields::TableKind;
 use pol_read::{Rule, RuleKind, RulePart};
@@ -61,8 +62,8 @@ pub fn sets_default(class: Option<u32>, rule: &Rule<'_>) -> bool
     }
 }
 
-// Whether a value is that one.
-fn is_value(other: Option<u32>, value: u32) -> bool
+/// Whether a value is that one.
+pub fn is_value(other: Option<u32>, value: u32) -> bool
     ensures { result ≡ is_value other value }
 {
     match other {
@@ -78,5 +79,15 @@ pub fn has_default(value: u32, rule: &Rule<'_>) -> bool
     match &rule.part {
         RulePart::Default(other) => *other == value,
         _ => false,
+    }
+}
+
+/// The default that a rule sets, if it sets one.
+pub fn default_in(rule: &Rule<'_>) -> Option<u32>
+    ensures { result ≡ part_sets (stored rule.now).part }
+{
+    match &rule.part {
+        RulePart::Default(default) => Some(*default),
+        _ => None,
     }
 }

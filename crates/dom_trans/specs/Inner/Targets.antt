@@ -1,8 +1,11 @@
 -- The types that a type may change to, and those that may change to it, as the graph finds them. It serves the code alone.
-use Rattle.std.specs.Prelude.{◌≡◌, ◌≤◌, ℕ, Bool, true, false, not, ◌&&◌, ◌||◌, ◌==◌, ◌↔◌, Option, Some, None, List}
+use Rattle.std.specs.Prelude.{◌≡◌, ◌≤◌, ℕ, Bool, true, false, not, ◌&&◌, ◌||◌, ◌==◌, ◌↔◌, Option, Some, None, List, option_and_then, slice_get}
 use Rattle.std.specs.List.{All, Contains, filter, list_any, range_with_len}
 use Rattle.pol_bitmap.specs.Nodes.{has_bit}
 use Rattle.pol_file.specs.declared.Parts.{Parts}
+use Rattle.pol_rules.specs.declared.RulePart.{RulePart}
+use Rattle.pol_rules.specs.declared.RulePart.TheVariants.{Default}
+use Rattle.pol_rules.specs.StoredRules.{stored_rules}
 use Rattle.rule_ends.specs.ChosenRules.{ends_at}
 use Rattle.rule_ends.specs.PlainTypes.{are_two_types, is_type_value}
 use Rattle.dom_trans.specs.Grants.{grants, has_default, file, entrypoint}
@@ -27,9 +30,18 @@ pub record AreTargets (policy : Parts) (a : ℕ) (types : List ℕ) : Type 0 whe
 abbrev pub AreTypeValues : Parts → List ℕ → Type 0
 AreTypeValues policy values = All (λ value. (1 ≤ value) × (value ≤ policy.symbols.types.nprim)) values
 
--- each rule has the default that a rule has, or none where that has none
+-- the default that a part sets, if it sets one
+abbrev pub part_sets : RulePart → Option ℕ
+part_sets (Default value) = Some value
+part_sets part = None
+
+-- that of the rule of a number
+abbrev pub default_set_by : Parts → ℕ → Option ℕ
+default_set_by policy number = option_and_then (λ rule. part_sets rule.part) (slice_get (stored_rules policy) number)
+
+-- each rule sets the default that a rule sets, or none where that sets none
 abbrev pub HaveDefaultOf : Parts → ℕ → List ℕ → Type 0
-HaveDefaultOf policy first numbers = All (λ number. (b : ℕ) → has_default policy b number ≡ has_default policy b first) numbers
+HaveDefaultOf policy first numbers = All (λ number. default_set_by policy number ≡ default_set_by policy first) numbers
 
 -- a process that starts by a rule, from one of some types, starts from an entry point of a domain
 abbrev pub starts_at_point : Parts → List ℕ → ℕ → ℕ → Bool

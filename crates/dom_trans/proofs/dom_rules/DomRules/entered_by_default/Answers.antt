@@ -1,4 +1,4 @@
-use Rattle.std.proofs.Common.{◌≡◌, ◌+◌, ◌++◌, ℕ, List, take, sym, ap, subst, ◌∙◌, arith}
+use Rattle.std.proofs.Common.{◌≡◌, ◌+◌, ◌++◌, ℕ, List, take, sym, ap, subst, ◌∙◌}
 use Rattle.std.specs.Prelude.{◌||◌}
 use Rattle.std.specs.List.{Contains, list_any}
 use Rattle.std.proofs.lemmas.List.{take-append-drop}
@@ -19,7 +19,7 @@ pub loop-left-init : goal.loop-left-init
 loop-left-init c =
     let policy = c.args.self.now in
     let from = subst (λ (r : ChosenRules). AreRulesFrom r.policy r.rules c.args.a c.in_ok-numbers.numbers.items) c.list.ensures c.in_ok-numbers.ensures in
-    let sorted = sorted_from policy c.args.a c.in_ok-numbers.numbers.items c.deref_mut.result.now c.sort_by_default.new.numbers c.as_slice-left.result.now c.in_ok-numbers.numbers.len from c.deref_mut.ensures.value (omega (arith, c.in_ok-numbers.numbers.ok.0)) c.sort_by_default.ensures c.as_slice-left.ensures.value in (
+    let sorted = sorted_from policy c.args.a c.in_ok-numbers.numbers.items c.sort_by_default.new.numbers.items c.as_slice-left.result.now from c.sort_by_default.ensures.same c.as_slice-left.ensures.value in (
       ap (λ (m : MarkedValues). m.count) c.in_ok-found.ensures ∙ ap (λ (n : ℕ). n + 1) (c.type_count.ensures.count ∙ ap (λ (p : Parts). p.symbols.types.nprim) c.self.view_is),
       from_are_defaults policy c.args.a c.as_slice-left.result.now sorted,
       λ b. ap (λ (m : MarkedValues). is_among m.values b || list_any (enters_by policy (bits_of c.args.source.now.executable) b) c.as_slice-left.result.now) c.in_ok-found.ensures,
@@ -58,7 +58,7 @@ returns c =
     let found = c.loop-left.found.values in
     let left = c.loop-left.left.now in
     let from = subst (λ (r : ChosenRules). AreRulesFrom r.policy r.rules c.args.a c.in_ok-numbers.numbers.items) c.list.ensures c.in_ok-numbers.ensures in
-    let sorted = sorted_from policy c.args.a c.in_ok-numbers.numbers.items c.deref_mut.result.now c.sort_by_default.new.numbers numbers c.in_ok-numbers.numbers.len from c.deref_mut.ensures.value (omega (arith, c.in_ok-numbers.numbers.ok.0)) c.sort_by_default.ensures c.as_slice-left.ensures.value in
+    let sorted = sorted_from policy c.args.a c.in_ok-numbers.numbers.items c.sort_by_default.new.numbers.items numbers from c.sort_by_default.ensures.same c.as_slice-left.ensures.value in
     let says = λ (b : ℕ). nothing_left (enters_by policy (bits_of source.executable) b) left (is_among found b) (sym c.is_empty.ensures ∙ c.loop-left-test.false) ∙ c.loop-left.invariant.2 b in
     IfOk-weaker c.to_set.result (λ (set : List Node). bits_of set ≡ found) (λ (set : List Node). AreEntered policy c.args.a (bits_of set))
     (λ set is. subst (AreEntered policy c.args.a) (sym is) (entered_by_defaults policy c.args.a source.executable source.setexec source.setcurrent numbers found c.requires.source c.requires.without sorted says))
