@@ -1,5 +1,5 @@
 -- The types that the criteria of the ends ask for, criterion by criterion.
-use Rattle.std.proofs.Common.{◌≡◌, ℕ, Bool, true, false, cond, Option, Some, None, List, [], ◌∷◌, ◌++◌, ◌+◌, ◌<◌, length, get_or, drop, refl, ap, ◌∙◌, add-one, drop-cons}
+use Rattle.std.proofs.Common.{◌≡◌, Bool, true, false, cond, Option, Some, None, List, [], ◌∷◌, ◌++◌, refl, ap, ◌∙◌}
 use Rattle.std.specs.Prelude.{nat_lt}
 use Rattle.std.specs.Option.{option_or}
 use Rattle.pol_bitmap.specs.declared.Node.{Node}
@@ -29,10 +29,6 @@ first-append f (x ∷ xs) ys = ap (option_or (f x)) (first-append f xs ys) ∙ o
 
 first_added : {A B : Type 0} (f : A → Option B) (xs : List A) (x : A) → first_of f (xs ++ x ∷ []) ≡ option_or (first_of f xs) (f x)
 first_added f xs x = first-append f xs (x ∷ []) ∙ ap (option_or (first_of f xs)) (or_none (f x))
-
--- the first of those from one on
-pub first_drop : {A B : Type 0} (f : A → Option B) (xs : List A) (i : ℕ) (x : A) → i < length xs → x ≡ get_or xs i x → first_of f (drop i xs) ≡ option_or (f x) (first_of f (drop (i + 1) xs))
-first_drop f xs i x lt is = rw (add-one, drop-cons xs i x, ← is) refl
 
 -- ---- one more criterion
 

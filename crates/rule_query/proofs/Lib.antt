@@ -8,7 +8,7 @@ pub mod Passing
 pub mod TestOrder
 pub mod NumberedRules
 pub mod Resolvings
-pub mod Asking
 pub mod FoundRules
 pub mod MetRules
 pub mod PassedRules
+pub mod ListRefusals

@@ -12,19 +12,12 @@ use Rattle.regex.specs.declared.string.regex.Regex.{Regex}
 use Rattle.se_outside.specs.Patterns.{IsBuiltFrom}
 use Rattle.named_values.specs.Named.{is_value, is_named}
 use Rattle.named_values.specs.Found.{is_found}
-use Rattle.rule_criteria.specs.Elements.{elements_of}
 use Rattle.rule_criteria.specs.Modes.{is_pattern}
 use Rattle.rule_criteria.specs.declared.Criterion.{Criterion}
-use Rattle.rule_query.specs.Given.{Given}
 use Rattle.rule_query.specs.Ends.{is_meant}
-use Rattle.rule_query.specs.Listed.{is_listed}
-use Rattle.rule_query.specs.Refusals.{may_be_pattern}
-use Rattle.rule_query.specs.Inner.Tests.{HasPattern, HasPatternWord, is_asked_name, is_asked_type}
+use Rattle.rule_query.specs.Inner.Tests.{HasPattern, is_asked_name, is_asked_type}
 
 -- ---- a set of values where the criterion is a pattern, and where it is none
-
-abbrev Has : (ℕ → Bool) → List Node → Type 0
-Has test set = (value : ℕ) → has_bit set value ≡ test value
 
 -- what a pattern finds in a table
 abbrev pub Finds : Symbols → TableKind → Regex → List Node → Type 0
@@ -60,17 +53,6 @@ module _ {E : Type 0} (symbols : Symbols) (table : TableKind) (criterion : Crite
   pub meant_named : (text : List ℕ) → text ≡ criterion.text → o ≡ None → IfOk r (λ set. (value : ℕ) → has_bit set value ≡ is_named symbols table (text ∷ []) value) → IfOk r (λ set. (value : ℕ) → has_bit set value ≡ is_meant symbols table criterion value)
   meant_named text same e h = other_set (is_value (value_in symbols table criterion.text)) e r (one_name text same r h)
 
-  -- listed
-  pub listed_found : (pattern : Regex) → o ≡ Some pattern → IfOk r (Finds symbols table pattern) → IfOk r (λ set. (value : ℕ) → has_bit set value ≡ is_listed symbols table criterion value)
-  listed_found pattern e h = found_set (is_named symbols table (elements_of criterion.text)) pattern e r h
-
-  pub listed_named : (names : List (List ℕ)) → names ≡ elements_of criterion.text → o ≡ None → IfOk r (λ set. (value : ℕ) → has_bit set value ≡ is_named symbols table names value) → IfOk r (λ set. (value : ℕ) → has_bit set value ≡ is_listed symbols table criterion value)
-  listed_named names is e h = other_set (is_named symbols table (elements_of criterion.text)) e r (renamed r h)
-    where
-      renamed : (r : Result (List Node) E) → IfOk r (λ set. (value : ℕ) → has_bit set value ≡ is_named symbols table names value) → IfOk r (λ set. (value : ℕ) → has_bit set value ≡ is_named symbols table (elements_of criterion.text) value)
-      renamed (Err x) h = tt
-      renamed (Ok set) h = λ value. h value ∙ ap (λ (xs : List (List ℕ)). is_named symbols table xs value) is
-
 -- asked types
 module _ {E : Type 0} (policy : Parts) (criterion : Criterion) (o : Option Regex) (has : HasPattern criterion o) (r : Result (List Node) E) where
   pub asked_found : (pattern : Regex) → o ≡ Some pattern → IfOk r (Finds policy.symbols Types pattern) → IfOk r (λ set. (value : ℕ) → has_bit set value ≡ is_asked_type policy criterion value)
@@ -78,9 +60,3 @@ module _ {E : Type 0} (policy : Parts) (criterion : Criterion) (o : Option Regex
 
   pub asked_named : o ≡ None → IfOk r (λ set. (value : ℕ) → has_bit set value ≡ is_asked_name policy criterion.text value) → IfOk r (λ set. (value : ℕ) → has_bit set value ≡ is_asked_type policy criterion value)
   asked_named e h = other_set policy.symbols Types criterion o has r (is_asked_name policy criterion.text) e r h
-
--- ---- the pattern of a word
-
-pub word_pattern : (given : Given) (o : Option Regex) → may_be_pattern given.aspect ≡ true → HasPatternWord given o → HasPattern given.criterion o
-word_pattern given None e has = rw e at has
-word_pattern given (Some pattern) e has = (rw e at has.0, has.1)

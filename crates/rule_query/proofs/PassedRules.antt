@@ -3,7 +3,7 @@ use Rattle.std.proofs.Common.{◌≡◌, ⊎_elim, ℕ, zero, suc, ◌+◌, ◌-
 use Rattle.std.specs.Prelude.{◌&&◌}
 use Rattle.std.specs.List.{filter, list_all, range_with_len}
 use Rattle.std.proofs.lemmas.Bool.{cases_lt, false≢true}
-use Rattle.std.proofs.lemmas.List.Folds.{list_all_at}
+use Rattle.std.specs.Option.{option_or}
 use Rattle.std.proofs.lemmas.Option.{slice_get_cases}
 use Rattle.std.proofs.Math.Seq.{drop-cons}
 use Rattle.pol_avtab.specs.AvKeys.{kind_of}
@@ -23,40 +23,58 @@ use Rattle.rule_tests.specs.AskedKinds.{is_kind_asked}
 use Rattle.rule_tests.specs.Inner.AskedVectors.{VectorMarks, is_asked_at, is_kind_marked, is_standing, is_value_asked, low_marks, may_be_asked, standing_at}
 use Rattle.rule_tests.proofs.KindMarks.{kind_marked}
 use Rattle.rule_query.specs.declared.query.Query.{Query}
-use Rattle.rule_query.specs.declared.ends.Ends.{Ends}
 use Rattle.rule_query.specs.declared.tests.Test.{Test}
 use Rattle.rule_query.specs.declared.tests.Test.TheVariants as tests
 use Rattle.rule_query.specs.Inner.Gathering.{Gathers, HasMet, PassesOver, is_passing, passes_at}
-use Rattle.rule_query.specs.Inner.MarkedSets.{AreMarksOf}
-use Rattle.rule_query.specs.Inner.Tests.{has_end, rule_test}
+use Rattle.rule_query.specs.Inner.MarkedSets.{AreMarksOf, AreMarksOfSome}
+use Rattle.rule_query.specs.Inner.Tests.{first_of, has_end, rule_test, source_types, sources_of, target_types, targets_of}
 use Rattle.rule_query.proofs.MetRules.{met_failing}
 use Rattle.value_groups.specs.Inner.Marking.{MarkedValues}
 
 -- ---- ends
 
--- no rule between types passes some tests whose source, or whose target, is not among the marks
-abbrev pub AreSources : List Test → Option MarkedValues → Type 0
-AreSources tests marks = (symbols : Symbols) (rule : StoredRule) → source_table rule.kind ≡ Types → is_value_asked marks rule.source ≡ false → list_all (rule_test symbols rule) tests ≡ false
-
-abbrev pub AreTargets : List Test → Option MarkedValues → Type 0
-AreTargets tests marks = (symbols : Symbols) (rule : StoredRule) → target_table rule.kind ≡ Types → is_value_asked marks rule.target ≡ false → list_all (rule_test symbols rule) tests ≡ false
-
 -- what the marks of a set pass over is not in the set
-pub unmarked_value : (set : List Node) (marks : Option MarkedValues) (value : ℕ) → AreMarksOf set marks → is_value_asked marks value ≡ false → has_bit set value ≡ false
+unmarked_value : (set : List Node) (marks : Option MarkedValues) (value : ℕ) → AreMarksOf set marks → is_value_asked marks value ≡ false → has_bit set value ≡ false
 unmarked_value set None value are e = absurd (false≢true (sym e))
 unmarked_value set (Some marks) value are e = sym (are value) ∙ e
 
--- those of a test that is there, and of the types that it asks for
-module _ (these : List Test) (i : ℕ) (d : Test) (ends : Ends) (marks : Option MarkedValues) (lt : i < length these) (are : AreMarksOf ends.types marks) where
-  pub source_marks : get_or these i d ≡ tests.Source ends → AreSources these marks
-  source_marks is symbols rule types e =
-      list_all_at (rule_test symbols rule) these i d lt
-      (ap (rule_test symbols rule) is ∙ ap (λ (table : TableKind). has_end ends table rule.source) types ∙ unmarked_value ends.types marks rule.source are e)
+and_false : (a b : Bool) → b ≡ false → (a && b) ≡ false
+and_false true b e = e
+and_false false b e = refl
 
-  pub target_marks : get_or these i d ≡ tests.Target ends → AreTargets these marks
-  target_marks is symbols rule types e =
-      list_all_at (rule_test symbols rule) these i d lt
-      (ap (rule_test symbols rule) is ∙ ap (λ (table : TableKind). has_end ends table rule.target) types ∙ unmarked_value ends.types marks rule.target are e)
+-- a rule does not pass some tests if an end of it is not in the set that the first test of this end has
+module _ (asked : Test → Option (List Node)) (p : Test → Bool) (value : ℕ) (fails : (test : Test) (set : List Node) → asked test ≡ Some set → has_bit set value ≡ false → p test ≡ false) where
+  one_fails : (these : List Test) (set : List Node) → first_of asked these ≡ Some set → has_bit set value ≡ false → list_all p these ≡ false
+  one_fails [] set e out = absurd cc
+  one_fails (test ∷ more) set e out = by (λ e. one_fails more set e out) (asked test) refl e
+    where
+      by : (first_of asked more ≡ Some set → list_all p more ≡ false) → (o : Option (List Node)) → asked test ≡ o → option_or o (first_of asked more) ≡ Some set → (p test && list_all p more) ≡ false
+      by later None is e = and_false (p test) (list_all p more) (later e)
+      by later (Some own) is e = rw (fails test set (is ∙ e) out) refl
+
+  unmarked_fails : (these : List Test) (o : Option (List Node)) (marks : Option MarkedValues) → first_of asked these ≡ o → AreMarksOfSome o marks → is_value_asked marks value ≡ false → list_all p these ≡ false
+  unmarked_fails these None None e are out = absurd (false≢true (sym out))
+  unmarked_fails these None (Some marks) e are out = absurd are
+  unmarked_fails these (Some set) marks e are out = one_fails these set e (unmarked_value set marks value are out)
+
+module _ (symbols : Symbols) (rule : StoredRule) where
+  source_fails : source_table rule.kind ≡ Types → (test : Test) (set : List Node) → sources_of test ≡ Some set → has_bit set rule.source ≡ false → rule_test symbols rule test ≡ false
+  source_fails types (tests.Source ends) set e out = let same : ends.types ≡ set = cc in ap (λ (table : TableKind). has_end ends table rule.source) types ∙ rw same out
+  source_fails types (tests.Target ends) set e out = absurd cc
+  source_fails types (tests.Class classes) set e out = absurd cc
+  source_fails types (tests.Permissions test) set e out = absurd cc
+  source_fails types (tests.Numbers test) set e out = absurd cc
+  source_fails types (tests.Default ends) set e out = absurd cc
+  source_fails types (tests.Condition nodes) set e out = absurd cc
+
+  target_fails : target_table rule.kind ≡ Types → (test : Test) (set : List Node) → targets_of test ≡ Some set → has_bit set rule.target ≡ false → rule_test symbols rule test ≡ false
+  target_fails types (tests.Source ends) set e out = absurd cc
+  target_fails types (tests.Target ends) set e out = let same : ends.types ≡ set = cc in ap (λ (table : TableKind). has_end ends table rule.target) types ∙ rw same out
+  target_fails types (tests.Class classes) set e out = absurd cc
+  target_fails types (tests.Permissions test) set e out = absurd cc
+  target_fails types (tests.Numbers test) set e out = absurd cc
+  target_fails types (tests.Default ends) set e out = absurd cc
+  target_fails types (tests.Condition nodes) set e out = absurd cc
 
 -- ---- a rule of the table
 
@@ -68,14 +86,17 @@ one_missing kind false target true true marked first second e = first refl
 one_missing kind true false true true marked first second e = second refl
 one_missing kind true true true true marked first second e = sym (sym e ∙ marked refl)
 
-pub passes_over : (query : Query) (sources targets : Option MarkedValues) → AreSources query.tests.items sources → AreTargets query.tests.items targets → PassesOver query (record { kinds = low_marks query.kinds; sources = sources; targets = targets })
+pub passes_over : (query : Query) (sources targets : Option MarkedValues) → AreMarksOfSome (source_types query) sources → AreMarksOfSome (target_types query) targets → PassesOver query (record { kinds = low_marks query.kinds; sources = sources; targets = targets })
 passes_over query sources targets are_sources are_targets = record {
   at = λ symbols condition av e.
       let rule : StoredRule = av_rule condition av in
       let kind = kind_of av.value.specified in
+      let these = query.tests.items in
       one_missing (is_kind_marked (low_marks query.kinds) av.value) (is_value_asked sources rule.source) (is_value_asked targets rule.target)
-      (is_kind_asked query.kinds rule.kind) (list_all (rule_test symbols rule) query.tests.items)
-      (kind_marked query.kinds av.value.specified) (are_sources symbols rule (source_of kind)) (are_targets symbols rule (target_of kind)) e;
+      (is_kind_asked query.kinds rule.kind) (list_all (rule_test symbols rule) these)
+      (kind_marked query.kinds av.value.specified)
+      (unmarked_fails sources_of (rule_test symbols rule) rule.source (source_fails symbols rule (source_of kind)) these (source_types query) sources refl are_sources)
+      (unmarked_fails targets_of (rule_test symbols rule) rule.target (target_fails symbols rule (target_of kind)) these (target_types query) targets refl are_targets) e;
 }
 
 -- ---- numbers that are gathered

@@ -103,14 +103,6 @@ module _ (policy : Parts) (criteria : Criteria) (old mid new : Option (List (Lis
       };
     }
 
--- no memory for their order
-pub no_order : (policy : Parts) (criteria : Criteria) (old : Option (List (List ℕ))) (past : ℕ) → Resolves policy criteria old old past past (Err Memory)
-no_order policy criteria old past = record {
-  later = omega arith;
-  query = tt;
-  ends = record { before = []; after = in_word_order criteria; order = refl; asked = asked_none old };
-}
-
 -- all words passed
 module _ (policy : Parts) (criteria : Criteria) (old new : Option (List (List ℕ))) (past now : ℕ) (done : List Given) (tests : List Test) (so_far : LookedUp policy criteria old new past now done tests) (is : done ≡ in_word_order criteria) where
   pub all_words : (query : Query) → AreSameTests tests query.tests.items → query.kinds ≡ criteria.kinds → Resolves policy criteria old new past now (Ok query)

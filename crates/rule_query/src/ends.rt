@@ -20,14 +20,30 @@ use rule_criteria::Criterion;
 use std::alloc::{AllocError, Global};
 
 /// The values of types, attributes among them, and of roles that an end may have.
-#[derive(Drop)]
 pub struct Ends {
     pub types: MarkedSet,
     pub roles: MarkedSet,
 }
 
+// Its parts go in one call, wherever it is dropped.
+impl Drop for Ends {
+    fn drop(self) {
+        let Ends { types, roles } = self;
+    }
+}
+
 impl Ends {
     ghost use Rattle.rule_query.specs.Inner.Tests.{has_end};
+
+    // Those of a set of types and one of roles.
+    fn of(alloc: Global, types: Set, roles: Set) -> Result<Ends, AllocError>
+        ensures types { IfOk result (λ ends. ends.types ≡ types) }
+        ensures roles { IfOk result (λ ends. ends.roles ≡ roles) }
+    {
+        let types = MarkedSet::of(alloc, types)?;
+        let roles = MarkedSet::of(alloc, roles)?;
+        Ok(Ends { types, roles })
+    }
 
     /// Whether a value of a table is one of them.
     pub fn has(&self, table: TableKind, value: u32) -> bool
@@ -61,10 +77,7 @@ pub fn ends_of(
         criterion,
         pattern,
     )?;
-    Ok(Ends {
-        types: MarkedSet::of(alloc, of_types)?,
-        roles: MarkedSet::of(alloc, of_roles)?,
-    })
+    Ends::of(alloc, of_types, of_roles)
 }
 
 /// The defaults that meet a criterion: types, and new roles.
@@ -79,10 +92,7 @@ pub fn defaults(
 {
     let of_types = meant(alloc, symbols, TableKind::Types, criterion, pattern)?;
     let of_roles = meant(alloc, symbols, TableKind::Roles, criterion, pattern)?;
-    Ok(Ends {
-        types: MarkedSet::of(alloc, of_types)?,
-        roles: MarkedSet::of(alloc, of_roles)?,
-    })
+    Ends::of(alloc, of_types, of_roles)
 }
 
 // The values of a table that are meant themselves.

@@ -3,14 +3,17 @@ ghost use Rattle.std.specs.Prelude.{◌≡◌, ◌+◌, ◌<◌, ◌≤◌, [], 
 ghost use Rattle.pol_rules.specs.StoredRules.{av_rule, ends_of, rules_of_branch, rules_of_node, stored_rules};
 ghost use Rattle.rule_order.specs.Inner.Keys.{AreGathered};
 ghost use Rattle.rule_query.specs.Inner.Gathering.{HasMet, PassesOver, StandFrom};
+ghost use Rattle.rule_query.specs.Inner.MarkedSets.{AreMarksOfSome};
+ghost use Rattle.rule_query.specs.Inner.Tests.{first_of, types_of};
 
+use crate::given::Aspect;
 use crate::query::Query;
-use crate::tests::Test;
 use pol_avtab::AvView;
 use pol_read::{Condition, Policy, RuleEnds, vector_ends};
 use rule_order::RuleKeys;
 use rule_tests::AskedVectors;
 use std::alloc::AllocError;
+use value_groups::DenseSet;
 
 impl Query {
     /// Adds the rules that meet the criteria, in file order. Only the kind and the ends are read of an access vector whose kind, source
@@ -58,16 +61,16 @@ impl Query {
     fn asked_vectors(&self) -> AskedVectors<'_>
         ensures { PassesOver self.now result }
     {
-        let mut sources = None;
-        let mut targets = None;
-        for test in &self.tests {
-            match test {
-                Test::Source(ends) => sources = ends.types.marks(),
-                Test::Target(ends) => targets = ends.types.marks(),
-                _ => (),
-            }
-        }
+        let sources = self.marks_of(Aspect::Source);
+        let targets = self.marks_of(Aspect::Target);
         AskedVectors::new(&self.kinds, sources, targets)
+    }
+
+    // The marks of the types that are asked for at an end, where there are some.
+    fn marks_of(&self, end: Aspect) -> Option<&DenseSet>
+        ensures { AreMarksOfSome (first_of (types_of end) self.now.tests.items) (option_map (λ marks. marks.now) result) }
+    {
+        self.types_of(end)?.marks()
     }
 
     // Adds those from one number up to another. The numbers of those that may be asked are put together first, and only these rules are

@@ -13,10 +13,16 @@ const MARKED: u32 = 65536;
 
 /// A set that tells by a mark for each value whether it has the value, where none of its values is too large for a mark. Contracts see
 /// the set.
-#[derive(Drop)]
 pub struct MarkedSet {
     set: Set,
     marks: Option<DenseSet>,
+}
+
+// Its parts go in one call, wherever it is dropped.
+impl Drop for MarkedSet {
+    fn drop(self) {
+        let MarkedSet { set, marks } = self;
+    }
 }
 
 impl Model for MarkedSet {

@@ -6,8 +6,10 @@ ghost use Rattle.rule_criteria.specs.declared.Criteria.{Criteria};
 ghost use Rattle.rule_query.specs.Meeting.{meets, meeting};
 ghost use Rattle.rule_query.specs.Inner.NumberedRules.{IsRuleAt, rule_at};
 ghost use Rattle.rule_query.specs.Inner.Resolved.{IsQueryOf};
-ghost use Rattle.rule_query.specs.Inner.Tests.{passes, rule_test, source_types, target_types};
+ghost use Rattle.rule_query.specs.Inner.Tests.{first_of, passes, rule_test, source_types, target_types, types_of};
 
+use crate::given::Aspect;
+use crate::marked_set::MarkedSet;
 use crate::tests::Test;
 use pol_bitmap::Set;
 use pol_read::{Policy, RuleEnds};
@@ -60,21 +62,23 @@ impl Query {
     pub fn sources(&self) -> Option<&Set>
         ensures { option_map (λ set. set.now) result ≡ source_types self.now }
     {
-        for test in &self.tests {
-            if let Test::Source(ends) = test {
-                return Some(ends.types.set());
-            }
-        }
-        None
+        Some(self.types_of(Aspect::Source)?.set())
     }
 
     /// The types and attributes that may be the target of a rule, where a criterion asks for some. Takes no memory.
     pub fn targets(&self) -> Option<&Set>
         ensures { option_map (λ set. set.now) result ≡ target_types self.now }
     {
+        Some(self.types_of(Aspect::Target)?.set())
+    }
+
+    // Those that are asked for at an end, by the first test of it.
+    pub(crate) fn types_of(&self, end: Aspect) -> Option<&MarkedSet>
+        ensures { option_map (λ set. set.now) result ≡ first_of (types_of end) self.now.tests.items }
+    {
         for test in &self.tests {
-            if let Test::Target(ends) = test {
-                return Some(ends.types.set());
+            if let Some(types) = test.types_of(end) {
+                return Some(types);
             }
         }
         None

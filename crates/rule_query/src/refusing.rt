@@ -1,11 +1,10 @@
 // Which criteria are refused by their names and numbers.
-ghost use Rattle.std.specs.Prelude.{◌≡◌, IfOk, is_some};
+ghost use Rattle.std.specs.Prelude.{◌≡◌, IfOk, is_some, map};
 ghost use Rattle.std.specs.List.{list_all, list_any};
-ghost use Rattle.pol_rules.specs.DeclaredRules.{default_table};
-ghost use Rattle.pol_rules.specs.RuleOrder.{source_table, target_table};
 ghost use Rattle.rule_query.specs.Given.{shown};
 ghost use Rattle.rule_tests.specs.Numbers.{span_of};
-ghost use Rattle.rule_query.specs.Refusals.{all_kinds, default_kinds, is_end_missing, is_missing, is_pattern_word, is_permission, is_permission_of, may_be_pattern, refusal_of, refusal_of_names, refuse_if};
+ghost use Rattle.rule_query.specs.Inner.Refusing.{end_table, refusal_of_elements};
+ghost use Rattle.rule_query.specs.Refusals.{is_end_missing, is_missing, is_pattern_word, is_permission, is_permission_of, may_be_pattern, refusal_of, refusal_of_names, refuse_if};
 
 use crate::given::{Aspect, GivenCriterion};
 use pol_fields::TableKind;
@@ -80,7 +79,7 @@ fn may_be_pattern(aspect: Aspect) -> bool
     }
 }
 
-// Why a criterion that is no pattern is refused.
+// Why a criterion that is no pattern is refused: for its name, which is that of an end, or for the elements that it lists.
 fn refusal_of_names(
     alloc: Global,
     symbols: &Symbols<'_>,
@@ -91,34 +90,39 @@ fn refusal_of_names(
     ensures { IfOk result (λ refusal. refusal ≡ refusal_of_names symbols.now kinds.now aspect text.now) }
 {
     match aspect {
-        Aspect::Source => Ok(refuse_if(is_source_missing(symbols, kinds, text), Refusal::NotThere)),
-        Aspect::Target => Ok(refuse_if(is_target_missing(symbols, kinds, text), Refusal::NotThere)),
-        Aspect::Default => Ok(refuse_if(
-            is_default_missing(symbols, kinds, text),
-            Refusal::NotThere,
-        )),
-        Aspect::Class => {
-            let names = elements(alloc, text)?;
-            Ok(refuse_if(
-                is_any_missing(symbols, TableKind::Classes, &names),
-                Refusal::NotThere,
-            ))
+        Aspect::Source | Aspect::Target => {
+            let missing = is_end_missing(symbols, kinds, &ALL_KINDS, aspect, text);
+            Ok(refuse_if(missing, Refusal::NotThere))
         }
+        Aspect::Default => {
+            let missing = is_end_missing(symbols, kinds, &DEFAULT_KINDS, aspect, text);
+            Ok(refuse_if(missing, Refusal::NotThere))
+        }
+        _ => {
+            let elements = elements(alloc, text)?;
+            Ok(refusal_of_elements(symbols, aspect, &elements))
+        }
+    }
+}
+
+// Why a list is refused for its elements.
+#[tactic(auto, using(rule_tests::proofs::ClassPermissions::any_map, rule_tests::proofs::ClassPermissions::all_map))]
+fn refusal_of_elements(symbols: &Symbols<'_>, aspect: Aspect, elements: &[&[u8]]) -> Option<Refusal>
+    ensures { result ≡ refusal_of_elements symbols.now aspect (map (λ element. element.now) elements.now) }
+{
+    match aspect {
+        Aspect::Numbers => refuse_if(!are_spans(elements), Refusal::NoNumber),
+        Aspect::Permissions => { refuse_if(!are_permissions(symbols, elements), Refusal::NotThere) }
         Aspect::Booleans => {
-            let names = elements(alloc, text)?;
-            Ok(refuse_if(
-                is_any_missing(symbols, TableKind::Booleans, &names),
+            refuse_if(
+                is_any_missing(symbols, TableKind::Booleans, elements),
                 Refusal::NotThere,
-            ))
+            )
         }
-        Aspect::Permissions => {
-            let names = elements(alloc, text)?;
-            Ok(refuse_if(!are_permissions(symbols, &names), Refusal::NotThere))
-        }
-        Aspect::Numbers => {
-            let names = elements(alloc, text)?;
-            Ok(refuse_if(!are_spans(&names), Refusal::NoNumber))
-        }
+        _ => refuse_if(
+            is_any_missing(symbols, TableKind::Classes, elements),
+            Refusal::NotThere,
+        ),
     }
 }
 
@@ -137,31 +141,30 @@ fn is_missing(symbols: &Symbols<'_>, table: TableKind, name: &[u8]) -> bool
     symbols.by_name(table, name).is_none()
 }
 
-// Whether a name is missing in the table of the sources of a kind that is asked.
-fn is_source_missing(symbols: &Symbols<'_>, kinds: &[bool; 12], name: &[u8]) -> bool
-    ensures { result ≡ is_end_missing symbols.now kinds.now all_kinds source_table name.now }
+// Whether a name is missing in the table of an end of a kind that is asked, among some kinds.
+fn is_end_missing(
+    symbols: &Symbols<'_>,
+    kinds: &[bool; 12],
+    some: &[RuleKind],
+    end: Aspect,
+    name: &[u8],
+) -> bool
+    ensures { result ≡ is_end_missing symbols.now kinds.now some.now (end_table end) name.now }
 {
-    ALL_KINDS.iter().any(|kind| {
-        is_kind_asked(kinds, *kind) && is_missing(symbols, kind.source_table(), name)
+    some.iter().any(|kind| {
+        is_kind_asked(kinds, *kind) && is_missing(symbols, end_table(end, *kind), name)
     })
 }
 
-// The same of their targets.
-fn is_target_missing(symbols: &Symbols<'_>, kinds: &[bool; 12], name: &[u8]) -> bool
-    ensures { result ≡ is_end_missing symbols.now kinds.now all_kinds target_table name.now }
+// The table of the sources of a kind, of its targets, or of its defaults.
+fn end_table(end: Aspect, kind: RuleKind) -> TableKind
+    ensures { result ≡ end_table end kind }
 {
-    ALL_KINDS.iter().any(|kind| {
-        is_kind_asked(kinds, *kind) && is_missing(symbols, kind.target_table(), name)
-    })
-}
-
-// And of their defaults, where they have any.
-fn is_default_missing(symbols: &Symbols<'_>, kinds: &[bool; 12], name: &[u8]) -> bool
-    ensures { result ≡ is_end_missing symbols.now kinds.now default_kinds default_table name.now }
-{
-    DEFAULT_KINDS.iter().any(|kind| {
-        is_kind_asked(kinds, *kind) && is_missing(symbols, kind.default_table(), name)
-    })
+    match end {
+        Aspect::Source => kind.source_table(),
+        Aspect::Target => kind.target_table(),
+        _ => kind.default_table(),
+    }
 }
 
 // ---- lists

@@ -1,11 +1,12 @@
 // What a rule is compared with, criterion by criterion.
-ghost use Rattle.std.specs.Prelude.{◌≡◌, ◌<◌, length};
+ghost use Rattle.std.specs.Prelude.{◌≡◌, ◌<◌, length, option_map};
 ghost use Rattle.pol_rules.specs.StoredRules.{stored_rules};
 ghost use Rattle.rule_query.specs.Inner.NumberedRules.{IsRuleAt, rule_at};
-ghost use Rattle.rule_query.specs.Inner.Tests.{class_test, condition_test, default_test, reads_rule, rule_test};
+ghost use Rattle.rule_query.specs.Inner.Tests.{class_test, condition_test, default_test, reads_rule, rule_test, types_of};
 
 use crate::ends::Ends;
-use crate::marked_set::has_value;
+use crate::given::Aspect;
+use crate::marked_set::{MarkedSet, has_value};
 use pol_bitmap::Set;
 use pol_read::{Condition, Policy, RuleEnds, RuleKind, RulePart};
 use rule_tests::{NumberTest, PermissionTest};
@@ -24,6 +25,18 @@ pub enum Test {
 }
 
 impl Test {
+    /// The types and attributes that it asks for at an end of rules, where it is a test of that end.
+    pub fn types_of(&self, end: Aspect) -> Option<&MarkedSet>
+        ensures { option_map (λ set. set.now) result ≡ types_of end self.now }
+    {
+        match (end, self) {
+            (Aspect::Source, Test::Source(ends)) | (Aspect::Target, Test::Target(ends)) => {
+                Some(&ends.types)
+            }
+            _ => None,
+        }
+    }
+
     /// Whether the rule is read whole for it, and not its ends and its class alone.
     pub fn reads_rule(&self) -> bool
         ensures { result ≡ reads_rule self.now }

@@ -9,3 +9,9 @@ use Rattle.value_groups.specs.Inner.Marking.{MarkedValues}
 abbrev pub AreMarksOf : List Node → Option MarkedValues → Type 0
 AreMarksOf set None = ⊤
 AreMarksOf set (Some marks) = (value : ℕ) → is_among marks.values value ≡ has_bit set value
+
+-- the same of a set that may not be there, which then has none
+abbrev pub AreMarksOfSome : Option (List Node) → Option MarkedValues → Type 0
+AreMarksOfSome None None = ⊤
+AreMarksOfSome None (Some marks) = ⊥
+AreMarksOfSome (Some set) marks = AreMarksOf set marks

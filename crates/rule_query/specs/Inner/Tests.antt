@@ -25,6 +25,8 @@ use Rattle.named_values.specs.Found.{is_found}
 use Rattle.rule_criteria.specs.Modes.{is_pattern}
 use Rattle.rule_criteria.specs.declared.Criterion.{Criterion}
 use Rattle.rule_query.specs.declared.ends.Ends.{Ends}
+use Rattle.rule_query.specs.declared.given.Aspect.{Aspect}
+use Rattle.rule_query.specs.declared.given.Aspect.TheVariants as aspects
 use Rattle.rule_query.specs.declared.tests.Test.{Test}
 use Rattle.rule_query.specs.declared.tests.Test.TheVariants as tests
 use Rattle.rule_query.specs.declared.query.Query.{Query}
@@ -126,6 +128,12 @@ sources_of other = None
 abbrev pub targets_of : Test → Option (List Node)
 targets_of (tests.Target ends) = Some ends.types
 targets_of other = None
+
+-- those of a test of an end
+abbrev pub types_of : Aspect → Test → Option (List Node)
+types_of aspects.Source = sources_of
+types_of aspects.Target = targets_of
+types_of other = λ test. None
 
 -- what the first of some things has that has any
 abbrev pub first_of : {A B : Type 0} → (A → Option B) → List A → Option B
