@@ -1,2 +1,3 @@
 pub mod ConstraintTexts
 pub mod ListedRecords
+pub mod ExpressionTexts

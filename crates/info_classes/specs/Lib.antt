@@ -3,3 +3,4 @@ pub mod ConstraintTexts
 pub mod ConstraintLines
 pub mod DefaultLines
 pub mod BoundsLines
+pub mod Inner

@@ -3,7 +3,7 @@
 ghost use Rattle.std.specs.Prelude.{◌≡◌, ◌<◌, ◌∷◌, [], ◌++◌, IfOk, OnOk, length};
 ghost use Rattle.std.specs.List.{All};
 ghost use Rattle.info_classes.specs.RecordOrder.{records_at};
-ghost use Rattle.info_classes.specs.ConstraintLines.{constraints_of, entries_of, entries_in};
+ghost use Rattle.info_classes.specs.ConstraintLines.{constraints_of, entries_in};
 
 use pol_classes::{ClassView, ConstraintList};
 use pol_constraints::ConstraintView;

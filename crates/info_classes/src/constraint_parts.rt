@@ -1,11 +1,10 @@
 //! The parts of a constraint's line.
 
-ghost use Rattle.std.specs.Prelude.{◌≡◌, ◌++◌, IfOk, OnOk, map};
+ghost use Rattle.std.specs.Prelude.{◌≡◌, ◌++◌, IfOk, IfSome, OnOk, map};
 ghost use Rattle.std.specs.List.{filter, fold, list_any};
-ghost use Rattle.pol_constraints.specs.ConstraintRecord.{IsExpression};
 ghost use Rattle.pol_commons.specs.Permissions.{has_permission};
 ghost use Rattle.pol_symbols.specs.PolicySymbols.{name_in, permissions_of};
-ghost use Rattle.pol_texts.specs.NameLists.{with_name, in_order};
+ghost use Rattle.pol_texts.specs.NameLists.{with_name};
 ghost use Rattle.info_lines.specs.PermissionSets.{permissions_text};
 ghost use Rattle.info_classes.specs.ConstraintTexts.{constraint_text};
 ghost use Rattle.info_classes.specs.ConstraintLines.{is_level_pair, compares_levels, mls_word, subject_text, constraint_line};
@@ -18,21 +17,22 @@ use pol_constraints::{ConstraintItemView, ConstraintItems, ConstraintView};
 use pol_symbols::Symbols;
 use std::alloc::{AllocError, Global};
 
-/// Adds the line of a constraint of a kind.
+/// Adds the line of a constraint of a kind, whose expression has the text that is given, if one is.
 #[tactic(auto, unfolding(crate::specs::ConstraintLines::constraint_line))]
 pub(crate) fn push_constraint(
     buffer: &mut Vec<u8>,
     symbols: &Symbols<'_>,
     kind: ConstraintKind,
     entry: &ConstraintEntry<'_>,
+    kept: Option<&[u8]>,
 ) -> Result<(), AllocError>
+    requires { IfSome kept (λ text. text.now ≡ constraint_text (name_in symbols.now) entry.now.constraint.items) }
     ensures { OnOk result (buffer.new.items ≡ buffer.old.items ++ constraint_line symbols.now kind entry.now) }
 {
     push_mls_word(buffer, entry.constraint.items())?;
     push_subject(buffer, symbols, kind, entry)?;
     buffer.extend_from_slice(b" (")?;
-    let expression = expression_text(*buffer.allocator(), symbols, &entry.constraint)?;
-    buffer.extend_from_slice(&expression)?;
+    push_expression(buffer, symbols, &entry.constraint, kept)?;
     buffer.extend_from_slice(b");")
 }
 
@@ -138,14 +138,43 @@ fn insert_names<'a>(
     Ok(())
 }
 
-// The text of the expression of a constraint.
-fn expression_text(
+// Adds the text of the expression of a constraint: the one that is given, or else one that is made.
+fn push_expression(
+    buffer: &mut Vec<u8>,
+    symbols: &Symbols<'_>,
+    constraint: &ConstraintView<'_>,
+    kept: Option<&[u8]>,
+) -> Result<(), AllocError>
+    requires { IfSome kept (λ text. text.now ≡ constraint_text (name_in symbols.now) constraint.now.items) }
+    ensures { OnOk result (buffer.new.items ≡ buffer.old.items ++ constraint_text (name_in symbols.now) constraint.now.items) }
+{
+    match kept {
+        Some(text) => buffer.extend_from_slice(text),
+        None => push_made(buffer, symbols, constraint),
+    }
+}
+
+// Adds the text of the expression of a constraint, made anew.
+fn push_made(
+    buffer: &mut Vec<u8>,
+    symbols: &Symbols<'_>,
+    constraint: &ConstraintView<'_>,
+) -> Result<(), AllocError>
+    ensures { OnOk result (buffer.new.items ≡ buffer.old.items ++ constraint_text (name_in symbols.now) constraint.now.items) }
+{
+    let text = expression_text(*buffer.allocator(), symbols, constraint)?;
+    buffer.extend_from_slice(&text)
+}
+
+/// The text of the expression of a constraint.
+pub(crate) fn expression_text(
     alloc: Global,
     symbols: &Symbols<'_>,
     constraint: &ConstraintView<'_>,
 ) -> Result<Vec<u8>, AllocError>
-    requires { IsExpression constraint.now.items }
     ensures { IfOk result (λ text. text.items ≡ constraint_text (name_in symbols.now) constraint.now.items) }
 {
+    // the count's clause says that the items are an expression
+    let _ = constraint.len();
     constraint.infix(alloc, symbols)
 }

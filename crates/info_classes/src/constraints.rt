@@ -7,6 +7,7 @@ ghost use Rattle.info_classes.specs.ConstraintLines.{constraint_line, constraint
 
 use crate::constraint_entry::{ConstraintEntry, ConstraintKind, constraint_entries};
 use crate::constraint_parts::push_constraint;
+use crate::expression_texts::{ExpressionText, expression_texts, kept_text};
 use info_lines::{EntryLines, EntryText, numbers_listed};
 use pol_fields::TableKind;
 use pol_symbols::Symbols;
@@ -19,15 +20,21 @@ pub struct ConstraintLines<'p, 'a> {
     symbols: &'p Symbols<'a>,
     kind: ConstraintKind,
     entries: Vec<ConstraintEntry<'a>>,
+    // Texts that entries have in common.
+    texts: Vec<ExpressionText>,
 }
 
 impl<'p, 'a> Model for ConstraintLines<'p, 'a> {
     ghost use Rattle.std.specs.Prelude.{ℕ, List, map};
+    ghost use Rattle.std.specs.List.{All};
     ghost use Rattle.info_classes.specs.ConstraintLines.{constraint_line};
+    ghost use Rattle.info_classes.specs.Inner.ExpressionTexts.{IsKept};
 
     ghost Value = { List (List ℕ) };
 
     ghost view = { λ l. map (constraint_line l.symbols.now l.kind) l.entries.items };
+
+    ghost invariant = { λ l. All (IsKept l.symbols.now l.entries.items) l.texts.items };
 }
 
 impl<'p, 'a> ConstraintLines<'p, 'a> {
@@ -41,10 +48,13 @@ impl<'p, 'a> ConstraintLines<'p, 'a> {
         requires { All (λ n. n < length symbols.now.classes.records) numbers.now }
         ensures { IfOk result (λ lines. lines ≡ map (constraint_line symbols.now kind) (entries_in kind (records_at symbols.now.classes.records numbers.now))) }
     {
+        let entries = constraint_entries(alloc, symbols, kind, numbers)?;
+        let texts = expression_texts(alloc, symbols, &entries)?;
         Ok(ConstraintLines {
             symbols,
             kind,
-            entries: constraint_entries(alloc, symbols, kind, numbers)?,
+            entries,
+            texts,
         })
     }
 }
@@ -58,7 +68,9 @@ impl<'p, 'a> EntryText for ConstraintLines<'p, 'a> {
 
     #[tactic(auto, using(info_lines::proofs::ListingLines::line_at))]
     fn push_text(&self, number: usize, buffer: &mut Vec<u8>) -> Result<(), AllocError> {
-        push_constraint(buffer, self.symbols, self.kind, &self.entries[number])
+        let entry = &self.entries[number];
+        let kept = kept_text(&self.texts, self.symbols, &self.entries, &entry.constraint);
+        push_constraint(buffer, self.symbols, self.kind, entry, kept)
     }
 }
 

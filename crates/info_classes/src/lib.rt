@@ -7,6 +7,7 @@ mod constraint_parts;
 mod constraints;
 mod default_entry;
 mod defaults;
+mod expression_texts;
 
 pub use bounds::{BoundsLines, bounds_lines};
 pub use constraint_entry::{ConstraintEntry, ConstraintKind};

@@ -1,6 +1,5 @@
 // The paths of the file systems without labels, as one list.
 ghost use Rattle.std.specs.Prelude.{◌≡◌, ◌++◌, IfOk, OnOk, option_map};
-ghost use Rattle.std.specs.Str.{bytes_eq};
 ghost use Rattle.info_contexts.specs.GenfsLines.{entries_of, entries_in};
 ghost use Rattle.info_contexts.specs.NamedEntries.{is_asked, of_name};
 

@@ -1,5 +1,5 @@
 -- What a summary counts besides rules.
-use Rattle.std.specs.Prelude.{ℕ, ◌+◌, List, length}
+use Rattle.std.specs.Prelude.{ℕ, ◌+◌, Bool, List, length}
 use Rattle.std.specs.List.{count_by, sum_by}
 use Rattle.pol_cursor.specs.References.{Placed}
 use Rattle.pol_bitmap.specs.Nodes.{bits_of}
@@ -23,11 +23,15 @@ use Rattle.info_symbols.specs.TypeListings.{set_numbers}
 abbrev pub flavour_count : Flavour → List (Placed TypeRec) → ℕ
 flavour_count flavour records = count_by (λ t. is_flavour flavour (flavour_of t.value.properties)) records
 
+-- those of a table that are no aliases
+abbrev pub primary_count : {A : Type 0} → (A → Bool) → List (Placed A) → ℕ
+primary_count is_primary records = count_by (λ r. is_primary r.value) records
+
 abbrev pub sensitivity_count : List (Placed SensitivityRec) → ℕ
-sensitivity_count records = count_by (λ level. is_primary_flag level.value.isalias) records
+sensitivity_count levels = primary_count (λ level. is_primary_flag level.isalias) levels
 
 abbrev pub category_count : List (Placed CategoryRec) → ℕ
-category_count records = count_by (λ category. is_primary_flag category.value.isalias) records
+category_count categories = primary_count (λ category. is_primary_flag category.isalias) categories
 
 -- ---- constraints of all classes
 

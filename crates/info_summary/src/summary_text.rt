@@ -1,7 +1,7 @@
 // The summary of a policy.
 ghost use Rattle.std.specs.Prelude.{◌≡◌, IfOk, map};
 ghost use Rattle.info_summary.specs.SummaryLines.{entry_line};
-ghost use Rattle.info_summary.specs.Counts.{permissive_count, capability_count};
+ghost use Rattle.info_summary.specs.Counts.{permissive_count};
 ghost use Rattle.info_summary.specs.Summary.{unknown_word, header_lines, mark_lines, summary_lines};
 
 use crate::context_counts::context_counts;

@@ -1,15 +1,15 @@
 // How many symbols and constraints there are.
 ghost use Rattle.std.specs.Prelude.{◌≡◌, cond, map};
 ghost use Rattle.info_summary.specs.SummaryLines.{entry_line};
-ghost use Rattle.info_summary.specs.Counts.{flavour_count, sensitivity_count, category_count, constraint_count, validatetrans_count};
+ghost use Rattle.info_summary.specs.Counts.{flavour_count, primary_count, constraint_count, validatetrans_count};
 ghost use Rattle.info_summary.specs.Summary.{symbol_lines, constraint_lines};
 
 use crate::entry::{Entry, count};
 use pol_classes::ClassTable;
-use pol_datums::{Category, Flavour, Sensitivity, Type};
+use pol_datums::{Flavour, Type};
 use pol_expand::is_flavour;
 use pol_symbols::Symbols;
-use pol_symtab::SymbolTable;
+use pol_symtab::{Symbol, SymbolTable};
 
 /// The counts of the primary records of the symbol tables.
 pub fn symbol_counts(symbols: &Symbols<'_>) -> [Entry; 9]
@@ -18,11 +18,8 @@ pub fn symbol_counts(symbols: &Symbols<'_>) -> [Entry; 9]
     [
         count("Commons", u64::from(symbols.commons.len())),
         count("Classes", u64::from(symbols.classes.len())),
-        count(
-            "Sensitivities",
-            u64::from(sensitivity_count(&symbols.levels)),
-        ),
-        count("Categories", u64::from(category_count(&symbols.categories))),
+        count("Sensitivities", u64::from(primary_count(&symbols.levels))),
+        count("Categories", u64::from(primary_count(&symbols.categories))),
         count(
             "Types",
             u64::from(flavour_count(&symbols.types, Flavour::Plain)),
@@ -56,26 +53,16 @@ fn flavour_count(types: &SymbolTable<'_, Type>, flavour: Flavour) -> u32
     count
 }
 
-// How many sensitivities there are, without aliases.
+// How many records there are, without aliases.
 #[tactic(auto, using(crate::proofs::Counting::at_most))]
-fn sensitivity_count(levels: &SymbolTable<'_, Sensitivity>) -> u32
-    ensures { result ≡ sensitivity_count levels.now.records }
+fn primary_count<'a, K: Symbol<'a> + Drop>(table: &SymbolTable<'a, K>) -> u32
+where
+    K::View: Drop,
+    ensures { result ≡ primary_count K.is_primary table.now.records }
 {
     let mut count = 0;
-    for i in 0..levels.len() {
-        count += one_if(levels.view(i).is_primary());
-    }
-    count
-}
-
-// How many categories there are, without aliases.
-#[tactic(auto, using(crate::proofs::Counting::at_most))]
-fn category_count(categories: &SymbolTable<'_, Category>) -> u32
-    ensures { result ≡ category_count categories.now.records }
-{
-    let mut count = 0;
-    for i in 0..categories.len() {
-        count += one_if(categories.view(i).is_primary());
+    for i in 0..table.len() {
+        count += one_if(K::is_primary(&table.view(i)));
     }
     count
 }

@@ -1,1 +1,2 @@
 pub mod AliasLists
+pub mod RankedTypes

@@ -1,6 +1,6 @@
 //! The aliases of a table: further names of its values.
 
-ghost use Rattle.std.specs.Prelude.{◌≡◌, ◌<◌, ◌++◌, ◌∷◌, [], true, IfOk, OnOk, length, map, slice_index_or};
+ghost use Rattle.std.specs.Prelude.{◌≡◌, ◌<◌, ◌++◌, ◌∷◌, [], IfOk, OnOk, length, map, slice_index_or};
 ghost use Rattle.pol_texts.specs.NameLists.{in_order};
 ghost use Rattle.info_symbols.specs.Inner.AliasLists.{AreAliases, AreListed, Gains, GainsRecord, SameLists};
 ghost use Rattle.info_symbols.specs.Aliases.{alias_text};

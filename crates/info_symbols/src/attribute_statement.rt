@@ -2,7 +2,6 @@
 
 ghost use Rattle.std.specs.Prelude.{◌≡◌, ◌++◌, ◌∷◌, [], IfOk, OnOk, map};
 ghost use Rattle.std.specs.List.{All, Contains};
-ghost use Rattle.pol_bitmap.specs.Nodes.{bits_of};
 ghost use Rattle.pol_fields.specs.declared.TableKind.TheVariants.{Types};
 ghost use Rattle.pol_datums.specs.declared.Flavour.TheVariants.{Attribute};
 ghost use Rattle.info_lines.specs.Inner.Listings.{line_of};
@@ -10,11 +9,10 @@ ghost use Rattle.info_lines.specs.NameSets.{names_of_values};
 ghost use Rattle.pol_expand.specs.PolicyMap.{IsPolicyMap, expand, values_of_flavour};
 ghost use Rattle.info_symbols.specs.AttributeStatement.{IsAttribute, attribute_statement, attribute_statement_listing, attribute_statement_listing_named, statement_lines, statement_text, types_text};
 
+use crate::ranked_types::names_of_set;
 use crate::type_sets::{TypeSet, set_number_named, set_numbers};
-use info_lines::{Lines, names_of_values, push_set};
-use pol_bitmap::Set;
+use info_lines::{Lines, push_set};
 use pol_expand::{TypeMap, type_map};
-use pol_fields::TableKind;
 use pol_read::Policy;
 use std::alloc::{AllocError, Global};
 use std::marker::Model;
@@ -105,15 +103,7 @@ fn names_with<'a>(
     ensures names { IfOk result (λ names. map (λ name. name.now) names.items ≡ names_of_values policy.now.symbols Types (expand policy.now attribute)) }
 {
     let number = types.members(alloc, attribute)?;
-    let values = values_in(alloc, types.pool().get(number))?;
-    names_of_values(alloc, policy.symbols(), TableKind::Types, values)
-}
-
-// The values of a set, rising.
-fn values_in(alloc: Global, set: &Set) -> Result<Vec<u32>, AllocError>
-    ensures { IfOk result (λ values. values.items ≡ bits_of set.now) }
-{
-    set.bits().collect(alloc)
+    names_of_set(alloc, policy.symbols(), types.pool().get(number))
 }
 
 // Adds the statement of an attribute of that name, whose types have these names.

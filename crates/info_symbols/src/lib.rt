@@ -6,6 +6,7 @@ mod attribute_statement;
 mod class_texts;
 mod mls_texts;
 mod permission_sets;
+mod ranked_types;
 mod role_text;
 mod table_lines;
 mod type_sets;

@@ -65,8 +65,9 @@ fn attributes_of_type(
     if !may_be_type(policy.symbols(), value) {
         return Ok(Vec::new(alloc));
     }
-    let values = values_of_bits(alloc, &policy.row(value))?;
-    kept_attributes(alloc, policy.symbols(), &values)
+    let mut values = values_of_bits(alloc, &policy.row(value))?;
+    keep_attributes(policy.symbols(), &mut values);
+    Ok(values)
 }
 
 // Whether the table of types may declare the value.
@@ -76,21 +77,11 @@ fn may_be_type(symbols: &Symbols<'_>, value: u32) -> bool
     0 < value && value <= symbols.prims(TableKind::Types)
 }
 
-// Those of the values that are attributes.
-fn kept_attributes(
-    alloc: Global,
-    symbols: &Symbols<'_>,
-    values: &[u32],
-) -> Result<Vec<u32>, AllocError>
-    ensures { IfOk result (λ kept. kept.items ≡ filter (is_attribute symbols.now) values.now) }
+// Keeps those of the values that are attributes.
+fn keep_attributes(symbols: &Symbols<'_>, values: &mut Vec<u32>)
+    ensures { values.new.items ≡ filter (is_attribute symbols.now) values.old.items }
 {
-    let mut kept = Vec::new(alloc);
-    for value in values {
-        if is_attribute(symbols, *value) {
-            kept.push(*value)?;
-        }
-    }
-    Ok(kept)
+    values.retain(|value| is_attribute(symbols, *value));
 }
 
 // Whether a value is declared as an attribute.
