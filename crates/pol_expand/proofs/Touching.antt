@@ -1,14 +1,14 @@
 -- The declared values whose expansion shares a type with given ones.
-use Rattle.std.proofs.Common.{◌≡◌, ◌↔◌, inl, inr, ℕ, Bool, true, false, List, [], ◌∷◌, length, sym, ap, subst, ◌∙◌, Result, Ok, Err, IfOk, arith}
+use Rattle.std.proofs.Common.{◌≡◌, ◌↔◌, inl, inr, ℕ, Bool, true, false, List, [], ◌∷◌, sym, ap, subst, ◌∙◌, Result, Ok, Err, IfOk}
 use Rattle.std.specs.Prelude.{IsTrue}
-use Rattle.std.specs.List.{Contains, filter, list_any, range_with_len}
+use Rattle.std.specs.List.{Contains, filter, list_any}
 use Rattle.std.proofs.lemmas.Bool.{and_from, and_parts, or_cases, or_left, or_right, false_from_ne_true}
 use Rattle.std.proofs.lemmas.List.Elements.{All-contains, Contains-append_right, Contains-append_cases, filter_passes}
 use Rattle.pol_bitmap.specs.declared.node.Node.{Node}
 use Rattle.pol_bitmap.specs.Nodes.{bits_of, has_bit}
 use Rattle.pol_bitmap.specs.Sets.{ShareBit, IsCommon, IsUnion}
 use Rattle.pol_bitmap.proofs.BitLists.{bits-from_has_bit, has_bit-from_bits}
-use Rattle.pol_bitmap.proofs.Elements.{contains_nothing, contains_one, contains_first, keeps, contains_range}
+use Rattle.pol_bitmap.proofs.Elements.{contains_nothing, contains_one, contains_first, keeps}
 use Rattle.pol_expand.specs.Expansion.{expansion_of, IsDeclared, IsTouching}
 use Rattle.pol_expand.specs.Inner.Inverting.{listed_all, touches, IsInversion}
 use Rattle.pol_expand.proofs.Listing.{listed_at, type_listed}
@@ -48,7 +48,7 @@ type_expands sets attributes types value h t =
 
 pub touching_is : (sets : List (List Node)) (attributes types given own rest all : List Node) → IsInversion sets attributes types
     → IsCommon (bits_of types) (bits_of given) (bits_of own)
-    → bits_of rest ≡ filter (touches (listed_all attributes sets) attributes given) (range_with_len 1 (length sets))
+    → ((value : ℕ) → Contains (bits_of rest) value ↔ Contains (filter (touches (listed_all attributes sets) attributes given) (bits_of attributes)) value)
     → IsUnion (bits_of own) (bits_of rest) (bits_of all)
     → IsTouching (listed_all attributes sets) attributes types given (bits_of all)
 touching_is sets attributes types given own rest all h common e union = record { each = λ value. (to value, from value) }
@@ -58,8 +58,8 @@ touching_is sets attributes types given own rest all h common e union = record {
       | inl one ↦ let both = (common.each value).0 one in
           (inr both.0, subst (λ (xs : List ℕ). ShareBit xs (bits_of given)) (sym (type_expands sets attributes types value h both.0)) (record { bit = value; left = contains_first value []; right = both.1 }))
       | inr one ↦
-          let there : Contains (filter (touches (listed_all attributes sets) attributes given) (range_with_len 1 (length sets))) value = subst (λ (xs : List ℕ). Contains xs value) e one in
-          let test : touches (listed_all attributes sets) attributes given value ≡ true = All-contains (λ (v : ℕ). touches (listed_all attributes sets) attributes given v ≡ true) _ value (filter_passes (touches (listed_all attributes sets) attributes given) (range_with_len 1 (length sets))) there in
+          let there : Contains (filter (touches (listed_all attributes sets) attributes given) (bits_of attributes)) value = (e value).0 one in
+          let test : touches (listed_all attributes sets) attributes given value ≡ true = All-contains (λ (v : ℕ). touches (listed_all attributes sets) attributes given v ≡ true) _ value (filter_passes (touches (listed_all attributes sets) attributes given) (bits_of attributes)) there in
           let both = and_parts (has_bit attributes value) (list_any (has_bit given) (expansion_of (listed_all attributes sets) value)) test in
           (inl (bits-from_has_bit attributes value both.0), share_from_any (expansion_of (listed_all attributes sets) value) given both.1)
     ]
@@ -67,10 +67,9 @@ touching_is sets attributes types given own rest all h common e union = record {
     from : (value : ℕ) → IsDeclared attributes types value × ShareBit (expansion_of (listed_all attributes sets) value) (bits_of given) → Contains (bits_of all) value
     from value both = elim both.0 [
       | inl a ↦
-          let within = h.declared value both.0 in
           let test : touches (listed_all attributes sets) attributes given value ≡ true = and_from (has_bit attributes value) _ (has_bit-from_bits attributes value a) (any_from_share (expansion_of (listed_all attributes sets) value) given both.1) in
-          let there = keeps (touches (listed_all attributes sets) attributes given) (range_with_len 1 (length sets)) value (contains_range 1 (length sets) value within.0 (omega (arith, within.1))) test in
-          (union.each value).1 (inr (subst (λ (xs : List ℕ). Contains xs value) (sym e) there))
+          let there = keeps (touches (listed_all attributes sets) attributes given) (bits_of attributes) value a test in
+          (union.each value).1 (inr ((e value).1 there))
       | inr t ↦
           let s : ShareBit (value ∷ []) (bits_of given) = subst (λ (xs : List ℕ). ShareBit xs (bits_of given)) (type_expands sets attributes types value h t) both.1 in
           let same : value ≡ s.bit = contains_one s.bit value s.left in
@@ -80,7 +79,7 @@ touching_is sets attributes types given own rest all h common e union = record {
 -- the same of the answer of a union
 pub touching_of : {E : Type 0} (sets : List (List Node)) (attributes types given own rest : List Node) (r : Result (List Node) E) → IsInversion sets attributes types
     → IsCommon (bits_of types) (bits_of given) (bits_of own)
-    → bits_of rest ≡ filter (touches (listed_all attributes sets) attributes given) (range_with_len 1 (length sets))
+    → ((value : ℕ) → Contains (bits_of rest) value ↔ Contains (filter (touches (listed_all attributes sets) attributes given) (bits_of attributes)) value)
     → IfOk r (λ all. IsUnion (bits_of own) (bits_of rest) (bits_of all))
     → IfOk r (λ all. IsTouching (listed_all attributes sets) attributes types given (bits_of all))
 touching_of sets attributes types given own rest (Ok all) h common e union = touching_is sets attributes types given own rest all h common e union

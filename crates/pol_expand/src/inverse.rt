@@ -1,5 +1,5 @@
 ghost use Rattle.std.specs.Prelude.{◌≡◌, ◌≤◌, ◌<◌, ◌+◌, ◌-◌, [], IfOk, length};
-ghost use Rattle.std.specs.List.{filter, range_with_len};
+ghost use Rattle.std.specs.List.{filter};
 ghost use Rattle.pol_bitmap.specs.Nodes.{bits_of};
 ghost use Rattle.pol_bitmap.specs.Sets.{IsSet, ShareBit};
 ghost use Rattle.pol_expand.specs.Expansion.{expand_all, expansion_of, HaveRows, IsDeclared, IsTouching};
@@ -100,30 +100,24 @@ impl Inverse {
     {
         let types = self.types.common(alloc, given)?;
         let values = self.touching_attributes(alloc, given)?;
-        let attributes = Set::from_rising(alloc, &values)?;
+        let attributes = Set::from_values(alloc, values)?;
         types.union(alloc, &attributes)
     }
 
-    // The attributes that have one of the given types, rising.
+    // The attributes that have one of the given types. No other value is looked at.
     fn touching_attributes(&self, alloc: Global, given: &Set) -> Result<Vec<u32>, AllocError>
-        ensures { IfOk result (λ values. values.items ≡ filter (touches self.now.expansions self.now.attributes given.now) (range_with_len 1 self.now.count)) }
+        ensures { IfOk result (λ values. values.items ≡ filter (touches self.now.expansions self.now.attributes given.now) (bits_of self.now.attributes)) }
     {
-        let mut values = Vec::new(alloc);
-        for i in 0..self.count() {
-            let value = i as u32 + 1;
-            if self.touches(i, value, given) {
-                values.push(value)?;
-            }
-        }
-        Ok(values)
+        self.attributes
+            .bits()
+            .filter(|value| self.touches(*value, given))
+            .collect(alloc)
     }
 
-    // Whether the value of a place is an attribute with one of the given types.
-    fn touches(&self, place: usize, value: u32, given: &Set) -> bool
-        requires place { place + 1 ≡ value }
-        requires within { place < self.now.count }
+    // Whether a value is an attribute with one of the given types.
+    fn touches(&self, value: u32, given: &Set) -> bool
         ensures { result ≡ touches self.now.expansions self.now.attributes given.now value }
     {
-        has_value(&self.attributes, value) && self.sets[place].meets(given)
+        has_value(&self.attributes, value) && self.sets[self.place_of(value)].meets(given)
     }
 }
