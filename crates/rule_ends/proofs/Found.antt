@@ -86,7 +86,7 @@ filter_either p q xs apart =
     ap (λ (ys : List ℕ). ys ++ filter (λ x. not (p x)) (either p q xs)) (either_first p q xs) ∙ ap (λ (ys : List ℕ). filter p xs ++ ys) (either_second p q xs apart) in
     subst (λ (ys : List ℕ). IsPermutation (either p q xs) ys) same (IsPermutation-filter_both p (λ x. not (p x)) (λ x. refl) (either p q xs))
 
-filter_twice : (p q : ℕ → Bool) (xs : List ℕ) → filter q (filter p xs) ≡ filter (λ x. p x && q x) xs
+pub filter_twice : (p q : ℕ → Bool) (xs : List ℕ) → filter q (filter p xs) ≡ filter (λ x. p x && q x) xs
 filter_twice p q [] = refl
 filter_twice p q (x ∷ xs) = go (p x) (filter_twice p q xs)
   where
@@ -253,7 +253,7 @@ module _ (policy : Parts) (rules keys others : List ℕ) (groups other_groups : 
       (place, lt, among, subst (λ (ps : List ℕ). Contains ps place) (sym (are.groups_are.each (slice_index keys place) is.within.1)) group, both.1)
 
   -- whether there is a rule
-  pub any_is : (to : List ℕ) → AreHolders policy other_groups (λ value. holds_type policy value y) to → any_found others (group_of groups) from to ≡ list_any joined rules
+  any_is : (to : List ℕ) → AreHolders policy other_groups (λ value. holds_type policy value y) to → any_found others (group_of groups) from to ≡ list_any joined rules
   any_is to ends = same_tests (any_found others (group_of groups) from to) (list_any joined rules)
       (λ e.
       let f = any_gives (λ end. list_any (λ place. is_among to (slice_index others place)) (group_of groups end)) from e in
@@ -264,6 +264,11 @@ module _ (policy : Parts) (rules keys others : List ℕ) (groups other_groups : 
       let r = place_of_rule e in
       any_from (λ end. list_any (λ place. is_among to (slice_index others place)) (group_of groups end)) from (slice_index keys r.0) r.2
       (any_from (λ place. is_among to (slice_index others place)) (group_of groups (slice_index keys r.0)) r.0 r.3 (other_held to ends r.0 r.1 ∙ r.4)))
+
+  -- so it is by lists that are those
+  pub any_by : (to own_others own_from : List ℕ) (answer : Bool) → AreHolders policy other_groups (λ value. holds_type policy value y) to → answer ≡ any_found own_others (group_of groups) own_from to → own_others ≡ others → own_from ≡ from
+      → answer ≡ list_any joined rules
+  any_by to own_others own_from answer ends is same_others same_from = rw (is, same_others, same_from) (any_is to ends)
 
   -- the types of the other ends
   pub others_hold : (ends : List ℕ) → ((value : ℕ) → is_among ends value ≡ is_other_end others (group_of groups) from value) → list_any (λ end. holds_type policy end y) ends ≡ list_any joined rules
@@ -281,7 +286,7 @@ module _ (policy : Parts) (rules keys others : List ℕ) (groups other_groups : 
       (any_from (λ place. slice_index others place == o) (group_of groups (slice_index keys r.0)) r.0 r.3 (eq-eqb o o refl)))) r.4)
 
   -- the rules that are found
-  pub found_is : (to : List ℕ) → AreApart from → AreHolders policy other_groups (λ value. holds_type policy value y) to → IsPermutation (rules_found rules others (group_of groups) from to) (filter joined rules)
+  found_is : (to : List ℕ) → AreApart from → AreHolders policy other_groups (λ value. holds_type policy value y) to → IsPermutation (rules_found rules others (group_of groups) from to) (filter joined rules)
   found_is to apart ends =
       let r = slice_index rules in
       let q = λ (place : ℕ). is_among to (slice_index others place) in
@@ -302,6 +307,11 @@ module _ (policy : Parts) (rules keys others : List ℕ) (groups other_groups : 
       subst (λ (ys : List ℕ). IsPermutation ys (filter joined rules)) (sym one)
       (subst (λ (ys : List ℕ). IsPermutation (map r (flat_map (λ end. filter q (places_of keys end)) from)) ys) (ap (map r) agree ∙ all)
       (IsPermutation-map r (flat_map (λ end. filter q (places_of keys end)) from) (filter (λ place. is_among from (slice_index keys place) && q place) range) (grouped keys q from apart)))
+
+  -- so they are by lists that are those
+  pub found_by : (to own_rules own_others own_from found : List ℕ) → AreApart from → AreHolders policy other_groups (λ value. holds_type policy value y) to → found ≡ rules_found own_rules own_others (group_of groups) own_from to → own_rules ≡ rules → own_others ≡ others
+      → own_from ≡ from → IsPermutation found (filter joined rules)
+  found_by to own_rules own_others own_from found apart ends is same_rules same_others same_from = rw (is, same_rules, same_others, same_from) (found_is to apart ends)
 
 -- ---- rules in order
 
@@ -330,21 +340,16 @@ others_are_ends policy others groups n from ends are within say = All-from_get_o
     subst (IsEnd policy) (eqb-true (slice_index others g.0) v g.2) (All-get_or (IsEnd policy) others g.0 0 below are)
 
 -- the rules that are found are stored rules, and in order they are those between the types
-pub found_are_rules : (policy : Parts) (rules found kept : List ℕ) → AreRules policy rules → (joined : ℕ → Bool) → kept ≡ filter joined rules → IsPermutation found kept → AreRules policy found
-found_are_rules policy rules found kept are joined is moved =
+found_are_rules : (policy : Parts) (rules found : List ℕ) (joined : ℕ → Bool) → AreRules policy rules → IsPermutation found (filter joined rules) → AreRules policy found
+found_are_rules policy rules found joined are moved =
     let P = λ (n : ℕ). n < length (stored_rules policy) in
-    All-permutation P kept found (IsPermutation-sym found kept moved) (All-same P kept (filter joined rules) is (All-filter joined P rules are))
+    All-permutation P (filter joined rules) found (IsPermutation-sym found (filter joined rules) moved) (All-filter joined P rules are)
 
-pub between_is : (policy : Parts) (rules sources targets : List ℕ) (by_source by_target : List (List ℕ)) (source target : ℕ) (from to found : List ℕ) → ((xs ys : List ℕ) → AreRules policy xs → IsPermutation xs ys → in_rule_order policy xs ≡ in_rule_order policy ys) → IsTableOf policy rules sources targets by_source by_target → AreApart from
-    → AreHolders policy by_source (λ value. holds_type policy value source) from → AreHolders policy by_target (λ value. holds_type policy value target) to → found ≡ rules_found rules targets (group_of by_source) from to → AreRules policy found × (in_rule_order policy found ≡ rules_between policy rules source target)
-between_is policy rules sources targets by_source by_target source target from to found settled table apart holders ends is =
-    let joined = joins policy source target in
-    let moved : IsPermutation found (filter joined rules) =
-    subst (λ (xs : List ℕ). IsPermutation xs (filter joined rules)) (sym is)
-    (found_is policy rules sources targets by_source by_target joined (λ value. holds_type policy value source) target (by_sources policy rules sources targets by_source by_target source target table) from holders to apart ends) in
-    let own = are_rules policy rules sources targets table.ends in
-    let found_are = found_are_rules policy rules found (filter joined rules) own joined refl moved in
-    (found_are, settled found (filter joined rules) found_are moved)
+pub between_is : (policy : Parts) (rules sources targets : List ℕ) (source target : ℕ) (found : List ℕ) → ((xs ys : List ℕ) → AreRules policy xs → IsPermutation xs ys → in_rule_order policy xs ≡ in_rule_order policy ys) → AreEndsOf policy rules sources targets
+    → IsPermutation found (filter (joins policy source target) rules) → AreRules policy found × (in_rule_order policy found ≡ rules_between policy rules source target)
+between_is policy rules sources targets source target found settled ends moved =
+    let found_are = found_are_rules policy rules found (joins policy source target) (are_rules policy rules sources targets ends) moved in
+    (found_are, settled found (filter (joins policy source target) rules) found_are moved)
 
 -- the types of the other ends, where the sources are given, and where the targets are
 pub targets_are : (policy : Parts) (rules sources targets : List ℕ) (by_source by_target : List (List ℕ)) (source : ℕ) (from ends : List ℕ) → IsTableOf policy rules sources targets by_source by_target → AreHolders policy by_source (λ value. holds_type policy value source) from

@@ -1,6 +1,6 @@
 -- The types and attributes that expand to a type are the type itself and the attributes of its row.
 use Rattle.std.proofs.Common.{◌≡◌, ℕ, ◌+◌, ◌-◌, ◌<◌, ◌≤◌, Bool, true, false, List, [], ◌∷◌, Option, Some, None, Result, Ok, Err, IfOk, get_or, refl, sym, ap, subst, ◌∙◌, inl, inr, arith}
-use Rattle.std.specs.Prelude.{◌==◌, ◌&&◌, ◌||◌, nat_le, nat_lt, is_some, option_map}
+use Rattle.std.specs.Prelude.{◌==◌, ◌&&◌, ◌||◌, length, nat_le, nat_lt, is_some, option_map, slice_index}
 use Rattle.std.specs.List.{All, Contains, filter, list_any, range_with_len}
 use Rattle.std.proofs.lemmas.Bool.{false≢true, cases_Bool, eq-eqb, eqb-true, and_parts, and_from, or_cases, or_left, or_right, le-leb, lt-ltb, cond-true, cond-false}
 use Rattle.pol_cursor.specs.References.{Placed}
@@ -9,13 +9,13 @@ use Rattle.pol_bitmap.specs.Nodes.{bits_of, has_bit}
 use Rattle.pol_bitmap.specs.Sets.{IsSet}
 use Rattle.pol_bitmap.proofs.BitLists.{has_bit-from_bits, bits-from_has_bit}
 use Rattle.pol_bitmap.proofs.Elements.{kept, keeps, range_holds, contains_range, contains_first, contains_one}
-use Rattle.std.proofs.lemmas.List.Elements.{All-contains, All-from_get_or, All-same, All-filter, All-cons, All-nil, Contains-get_or}
+use Rattle.std.proofs.lemmas.List.Elements.{All-contains, All-from_get_or, All-get_or, All-same, All-filter, All-cons, All-nil, Contains-get_or}
 use Rattle.pol_symtab.proofs.Searches.{not_true}
 use Rattle.pol_datums.specs.declared.Flavour.{Flavour}
 use Rattle.pol_datums.specs.declared.Flavour.TheVariants.{Plain, Attribute}
 use Rattle.pol_symbols.specs.PolicySymbols.{flavour_in}
 use Rattle.pol_file.specs.declared.Parts.{Parts}
-use Rattle.pol_expand.specs.Expansion.{Expansions, IsDeclared, IsTouching, expansion}
+use Rattle.pol_expand.specs.Expansion.{Expansions, IsDeclared, IsTouching, expansion, expansion_of}
 use Rattle.pol_expand.specs.Flavours.{is_flavour}
 use Rattle.pol_expand.specs.PolicyMap.{IsPolicyMap, has_flavour, row_found, row_in, expand, values_of_flavour}
 use Rattle.pol_expand.proofs.PolicyMaps.{declared_in}
@@ -206,6 +206,23 @@ pub passing_set : {E : Type 0} (result : Result (List Node) E) (p : ℕ → Bool
     → ((value : ℕ) → p value ≡ true → (1 ≤ value) × (value < 1 + count)) → IfOk result (λ set. bits_of set ≡ filter p (range_with_len 1 count))
 passing_set (Ok set) p count values form bits each within = nodes_pass p 1 count set form (λ value. sym (among_bits set value) ∙ ap (λ (xs : List ℕ). is_among xs value) bits ∙ each value) within
 passing_set (Err e) p count values form bits each within = tt
+
+held_by_one : (policy : Parts) (ends : List ℕ) → length ends ≡ 1 → (type : ℕ) → holds_type policy (slice_index ends 0) type ≡ list_any (λ end. holds_type policy end type) ends
+held_by_one policy [] one type = absurd (omega (arith, one))
+held_by_one policy (end ∷ []) one type = sym (or_false (holds_type policy end type))
+held_by_one policy (end ∷ more ∷ ends) one type = absurd (omega (arith, one))
+
+-- the only end is declared, and what it expands to is what all do
+pub one_declared : (policy : Parts) (m : Expansions) (ends : List ℕ) → IsPolicyMap policy m → All (IsEnd policy) ends → length ends ≡ 1 → IsDeclared m.attributes m.types (slice_index ends 0)
+one_declared policy m ends map are one = end_declared policy m (slice_index ends 0) map (All-get_or (IsEnd policy) ends 0 0 (omega (arith, one)) are)
+
+pub expands_one : {E : Type 0} (policy : Parts) (m : Expansions) (ends : List ℕ) (result : Result (List Node) E) → IsPolicyMap policy m → All (IsEnd policy) ends → length ends ≡ 1 → IfOk result IsSet → IfOk result (λ set. bits_of set ≡ expansion_of m.expansions (slice_index ends 0))
+    → IfOk result (λ set. bits_of set ≡ filter (λ type. list_any (λ end. holds_type policy end type) ends) (range_with_len 1 policy.symbols.types.nprim))
+expands_one policy m ends result map are one form bits =
+    let end = slice_index ends 0 in
+    passing_set result (λ type. list_any (λ end. holds_type policy end type) ends) policy.symbols.types.nprim (expansion_of m.expansions end) form bits
+    (λ type. held_among policy end type (expansion_of m.expansions end) (map.expands end (one_declared policy m ends map are one)) ∙ held_by_one policy ends one type)
+    (λ type. held_within policy ends type are)
 
 -- ---- the ends of some types
 

@@ -6,5 +6,9 @@ pub mod Holders
 pub mod Found
 pub mod ByOneEnd
 pub mod Shared
+pub mod TargetsAmong
 pub mod Rows
 pub mod RowPlaces
+pub mod Permuted
+pub mod Halves
+pub mod SortedParts

@@ -1,5 +1,5 @@
 -- The rows of rules under one of their ends, and what is found among them.
-use Rattle.std.proofs.Common.{◌≡◌, ℕ, ◌+◌, ◌<◌, ◌≤◌, Bool, true, false, cond, List, [], ◌∷◌, ◌++◌, Option, Some, None, Result, Ok, Err, IfOk, length, map, take, get_or, slice_get, refl, sym, ap, subst, ◌∙◌, inl, inr, arith, append_assoc, append-nil}
+use Rattle.std.proofs.Common.{◌≡◌, ℕ, ◌+◌, ◌<◌, ◌≤◌, Bool, true, false, cond, List, [], ◌∷◌, ◌++◌, Option, Some, None, Result, Ok, Err, IfOk, length, map, take, get_or, slice_get, refl, sym, ap, subst, ◌∙◌, inl, inr, arith, append-nil}
 use Rattle.std.specs.Prelude.{◌==◌, ◌&&◌, ◌||◌, not, option_map}
 use Rattle.std.specs.Global.{Vec}
 use Rattle.pol_bitmap.specs.declared.Node.{Node}
@@ -7,10 +7,11 @@ use Rattle.pol_bitmap.specs.Nodes.{bits_of}
 use Rattle.std.specs.List.{All, Contains, filter, flat_map, list_any, range_with_len}
 use Rattle.std.specs.List.Sorted.{IsPermutation}
 use Rattle.std.proofs.lemmas.Bool.{false≢true, cases_lt, eq-eqb, eqb-true, and_parts, and_from}
-use Rattle.std.proofs.lemmas.List.{length-map, get_or_past, take_more, map-append}
+use Rattle.std.proofs.lemmas.List.{length-map, get_or_past, take_more}
 use Rattle.std.proofs.lemmas.List.Concat.{flat_map-append}
-use Rattle.std.proofs.lemmas.List.Elements.{All-nil, All-same, All-weaker, All-contains, All-from_get_or, All-map, filter-append, Contains-get_or}
+use Rattle.std.proofs.lemmas.List.Elements.{All-nil, All-same, All-weaker, All-contains, All-from_get_or, All-map, Contains-get_or}
 use Rattle.std.proofs.lemmas.Option.{none-some, same_Some}
+use Rattle.std.proofs.lemmas.List.Sorted.{All-permutation, IsPermutation-append_left, IsPermutation-map, IsPermutation-sym, IsPermutation-trans, length_permutation, list_any-IsPermutation}
 use Rattle.pol_bitmap.proofs.Elements.{kept, keeps}
 use Rattle.pol_file.specs.Acceptance.{accept}
 use Rattle.pol_file.specs.declared.Parts.{Parts}
@@ -30,7 +31,8 @@ use Rattle.rule_ends.specs.Inner.EndTables.{IsEnd}
 use Rattle.rule_ends.specs.Inner.EndRows.{AreFarEnds, has_rows, is_far_end, joins_by, rules_joining, rules_to}
 use Rattle.rule_ends.proofs.Anys.{any_gives, any_from, among_contains, contains_among, filter_agree}
 use Rattle.rule_ends.proofs.Ends.{source_is_end, target_is_end}
-use Rattle.rule_ends.proofs.Found.{and_comm, flat_map_agree, grouped_by, not_empty}
+use Rattle.rule_ends.proofs.Found.{and_comm, grouped_by, not_empty}
+use Rattle.rule_ends.proofs.Permuted.{filter_permuted, parts_permuted}
 
 -- ---- the stored ends of a rule
 
@@ -82,6 +84,12 @@ rules_of_rows policy near to (x ∷ xs) = go (is_among to (stored_end policy (ot
     go true later = ap (λ (ys : List ℕ). x ∷ ys) later
     go false later = later
 
+-- they are the same in any order of the rows
+rules_to_permuted : (to : List ℕ) (xs ys : List EndRow) → IsPermutation xs ys → IsPermutation (rules_to to xs) (rules_to to ys)
+rules_to_permuted to xs ys same =
+    let p = λ (row : EndRow). is_among to row.far in
+    IsPermutation-map (λ (row : EndRow). row.rule) (filter p xs) (filter p ys) (filter_permuted p xs ys same)
+
 -- whether one of the other ends passes a test
 any_of_rows : (policy : Parts) (near : RuleEnd) (p : ℕ → Bool) (rules : List ℕ) → list_any (λ (row : EndRow). p row.far) (map (row_of policy near) rules) ≡ list_any (λ number. p (stored_end policy (other_end near) number)) rules
 any_of_rows policy near p [] = refl
@@ -90,7 +98,8 @@ any_of_rows policy near p (x ∷ xs) = ap (λ (b : Bool). p (stored_end policy (
 -- the other ends are types and attributes
 pub far_ends_are : (bytes : List ℕ) (policy : Parts) (near : RuleEnd) (rules : List ℕ) (rows : List (List EndRow)) → accept bytes ≡ Ok policy → All (λ number. is_between_types policy number ≡ true) rules → AreRowsOf policy near rules rows → AreFarEnds policy rows
 far_ends_are bytes policy near rules rows accepted types are value = elim (cases_lt value (policy.symbols.types.nprim + 1)) [
-  | inl lt ↦ All-same (λ (row : EndRow). IsEnd policy row.far) (rows_under rows value) (map (row_of policy near) (rules_under policy near rules value)) (are.each value (omega (arith, lt)))
+  | inl lt ↦ All-permutation (λ (row : EndRow). IsEnd policy row.far) (map (row_of policy near) (rules_under policy near rules value)) (rows_under rows value)
+      (IsPermutation-sym (rows_under rows value) (map (row_of policy near) (rules_under policy near rules value)) (are.each value (omega (arith, lt))))
       (of_rules (rules_under policy near rules value) (λ number there. All-contains (λ n. is_between_types policy n ≡ true) rules number types (kept (λ n. stored_end policy near n == value) rules number there).0))
   | inr past ↦ All-same (λ (row : EndRow). IsEnd policy row.far) (rows_under rows value) [] (get_or_past rows value [] (omega (arith, past, are.count))) (All-nil (λ (row : EndRow). IsEnd policy row.far))
 ]
@@ -119,25 +128,29 @@ module _ (bytes : List ℕ) (table : RulesByEnd) (rules : List ℕ) (accepted : 
       let key = near_end number in
       let under = keeps (λ n. near_end n == key) rules number there (eq-eqb key key refl) in
       let has : has_rows table.rows key ≡ true =
-      ap (λ (n : ℕ). not (n == 0)) (ap (length {A = EndRow}) (hold.rows.each key is.within.1) ∙ length-map (rules_under table.policy table.near rules key) (row_of table.policy table.near))
+      ap (λ (n : ℕ). not (n == 0))
+      (sym (length_permutation (rows_under table.rows key) (map (row_of table.policy table.near) (rules_under table.policy table.near rules key)) (hold.rows.each key is.within.1)) ∙ length-map (rules_under table.policy table.near rules key) (row_of table.policy table.near))
       ∙ not_empty (rules_under table.policy table.near rules key) number under in
       each key is has
 
   -- the rules that are found
-  pub joining_is : (other : ℕ) (to found : List ℕ) → AreApart from → ((value : ℕ) → IsEnd table.policy value → is_among to value ≡ holds_type table.policy value other) → found ≡ rules_joining table.rows from to → IsPermutation found (filter (joins_by table.near table.policy node other) rules)
-  joining_is other to found apart held is =
+  pub joining_is : (other : ℕ) (to found : List ℕ) → AreApart from → ((value : ℕ) → IsEnd table.policy value → is_among to value ≡ holds_type table.policy value other) → IsPermutation found (rules_joining table.rows from to) → IsPermutation found (filter (joins_by table.near table.policy node other) rules)
+  joining_is other to found apart held same =
       let q = λ (number : ℕ). is_among to (far_end number) in
-      let one : rules_joining table.rows from to ≡ flat_map (λ end. filter q (filter (λ n. near_end n == end) rules)) from =
-      flat_map_agree (λ end. rules_to to (rows_under table.rows end)) (λ end. filter q (filter (λ n. near_end n == end) rules)) from
-      (All-weaker (λ value. value ≤ table.policy.symbols.types.nprim) (λ end. rules_to to (rows_under table.rows end) ≡ filter q (filter (λ n. near_end n == end) rules))
-      (λ end le. ap (rules_to to) (hold.rows.each end le) ∙ rules_of_rows table.policy table.near to (rules_under table.policy table.near rules end)) from within) in
-      let agree : filter (λ n. is_among from (near_end n) && q n) rules ≡ filter (joins_by table.near table.policy node other) rules =
+      let by_end = λ (end : ℕ). filter q (filter (λ n. near_end n == end) rules) in
+      let joined = filter (joins_by table.near table.policy node other) rules in
+      let each : IsPermutation (rules_joining table.rows from to) (flat_map by_end from) =
+      parts_permuted (λ end. rules_to to (rows_under table.rows end)) by_end from
+      (All-weaker (λ value. value ≤ table.policy.symbols.types.nprim) (λ end. IsPermutation (rules_to to (rows_under table.rows end)) (by_end end))
+      (λ end le. subst (IsPermutation (rules_to to (rows_under table.rows end))) (rules_of_rows table.policy table.near to (rules_under table.policy table.near rules end))
+      (rules_to_permuted to (rows_under table.rows end) (map (row_of table.policy table.near) (rules_under table.policy table.near rules end)) (hold.rows.each end le))) from within) in
+      let agree : filter (λ n. is_among from (near_end n) && q n) rules ≡ joined =
       filter_agree (λ n. is_among from (near_end n) && q n) (joins_by table.near table.policy node other) rules
       (λ k d lt. let n = get_or rules k d in let there = Contains-get_or rules k d lt in
       ap (λ (b : Bool). b && q n) (near_held n there) ∙ ap (λ (b : Bool). holds_type table.policy (near_end n) node && b) (held (far_end n) (is_far n there))
       ∙ sym (joins_near table.policy table.near node other n (All-contains (λ n. is_between_types table.policy n ≡ true) rules n hold.between there))) in
-      subst (λ (ys : List ℕ). IsPermutation ys (filter (joins_by table.near table.policy node other) rules)) (sym (is ∙ one))
-      (subst (λ (ys : List ℕ). IsPermutation (flat_map (λ end. filter q (filter (λ n. near_end n == end) rules)) from) ys) agree (grouped_by near_end q rules from apart))
+      IsPermutation-trans found (rules_joining table.rows from to) joined same
+      (IsPermutation-trans (rules_joining table.rows from to) (flat_map by_end from) joined each (subst (IsPermutation (flat_map by_end from)) agree (grouped_by near_end q rules from apart)))
 
   -- the types of the other ends
   pub far_hold : (other : ℕ) (ends : List ℕ) → ((value : ℕ) → is_among ends value ≡ is_far_end table.rows from value) → list_any (λ end. holds_type table.policy end other) ends ≡ list_any (joins_by table.near table.policy node other) rules
@@ -147,7 +160,9 @@ module _ (bytes : List ℕ) (table : RulesByEnd) (rules : List ℕ) (accepted : 
       test value end = list_any (λ (row : EndRow). row.far == value) (rows_under table.rows end)
 
       rows_say : (end value : ℕ) → end ≤ table.policy.symbols.types.nprim → test value end ≡ list_any (λ number. far_end number == value) (rules_under table.policy table.near rules end)
-      rows_say end value le = ap (list_any (λ (row : EndRow). row.far == value)) (hold.rows.each end le) ∙ any_of_rows table.policy table.near (λ far. far == value) (rules_under table.policy table.near rules end)
+      rows_say end value le =
+          list_any-IsPermutation (λ (row : EndRow). row.far == value) (rows_under table.rows end) (map (row_of table.policy table.near) (rules_under table.policy table.near rules end)) (hold.rows.each end le)
+          ∙ any_of_rows table.policy table.near (λ far. far == value) (rules_under table.policy table.near rules end)
 
       there : list_any (λ end. holds_type table.policy end other) ends ≡ true → list_any (joins_by table.near table.policy node other) rules ≡ true
       there e =
@@ -188,10 +203,10 @@ module _ (bytes : List ℕ) (table : RulesByEnd) (rules : List ℕ) (accepted : 
 
 -- what a table answers, whichever rules it holds
 pub found_joins : {E : Type 0} (bytes : List ℕ) (table : RulesByEnd) (node other : ℕ) (from to : List ℕ) (result : Result (Vec ℕ) E) → accept bytes ≡ Ok table.policy → ((value : ℕ) → IsEnd table.policy value → has_rows table.rows value ≡ true → is_among from value ≡ holds_type table.policy value node)
-    → All (λ value. value ≤ table.policy.symbols.types.nprim) from → AreApart from → ((value : ℕ) → IsEnd table.policy value → is_among to value ≡ holds_type table.policy value other) → IfOk result (λ found. found.items ≡ rules_joining table.rows from to)
+    → All (λ value. value ≤ table.policy.symbols.types.nprim) from → AreApart from → ((value : ℕ) → IsEnd table.policy value → is_among to value ≡ holds_type table.policy value other) → IfOk result (λ found. IsPermutation found.items (rules_joining table.rows from to))
     → IfOk result (λ found. (rules : List ℕ) → HoldRules table rules → IsPermutation found.items (filter (joins_by table.near table.policy node other) rules))
-found_joins bytes table node other from to (Ok found) accepted each within apart held is = λ rules hold. joining_is bytes table rules accepted hold node from each within other to found.items apart held is
-found_joins bytes table node other from to (Err e) accepted each within apart held is = tt
+found_joins bytes table node other from to (Ok found) accepted each within apart held same = λ rules hold. joining_is bytes table rules accepted hold node from each within other to found.items apart held same
+found_joins bytes table node other from to (Err e) accepted each within apart held same = tt
 
 pub found_others : {E : Type 0} (bytes : List ℕ) (table : RulesByEnd) (node : ℕ) (from ends : List ℕ) (result : Result (List Node) E) → accept bytes ≡ Ok table.policy → ((value : ℕ) → IsEnd table.policy value → has_rows table.rows value ≡ true → is_among from value ≡ holds_type table.policy value node)
     → All (λ value. value ≤ table.policy.symbols.types.nprim) from → ((value : ℕ) → is_among ends value ≡ is_far_end table.rows from value) → IfOk result (λ (set : List Node). bits_of set ≡ filter (λ type. list_any (λ end. holds_type table.policy end type) ends) (range_with_len 1 table.policy.symbols.types.nprim))
@@ -207,22 +222,14 @@ far_are_ends policy rows from ends are say = All-from_get_or (IsEnd policy) ends
     let g = any_gives (λ (row : EndRow). row.far == v) (rows_under rows f.0) f.2 in
     subst (IsEnd policy) (eqb-true g.0.far v g.2) (All-contains (λ (row : EndRow). IsEnd policy row.far) (rows_under rows f.0) g.0 (are f.0) g.1)
 
--- ---- one step of each loop
+-- ---- one end more
 
-pub rules_to_more : (to : List ℕ) (rows : List EndRow) (i : ℕ) (d : EndRow) (old : List ℕ) → i < length rows
-    → (old ++ rules_to to (take i rows)) ++ cond (is_among to (get_or rows i d).far) ((get_or rows i d).rule ∷ []) [] ≡ old ++ rules_to to (take (i + 1) rows)
-rules_to_more to rows i d old lt =
-    let p = λ (row : EndRow). is_among to row.far in
-    let x = get_or rows i d in
-    let more : filter p (take (i + 1) rows) ≡ filter p (take i rows) ++ cond (p x) (x ∷ []) [] = ap (filter p) (take_more rows i d lt) ∙ filter-append p (take i rows) (x ∷ []) in
-    append_assoc old (rules_to to (take i rows)) _
-    ∙ ap (λ (xs : List ℕ). old ++ xs) (ap (λ (xs : List ℕ). rules_to to (take i rows) ++ xs) (one (p x) x) ∙ sym (map-append (λ (row : EndRow). row.rule) (filter p (take i rows)) (cond (p x) (x ∷ []) [])) ∙ ap (map (λ (row : EndRow). row.rule)) (sym more))
-  where
-    one : (b : Bool) (x : EndRow) → cond b (x.rule ∷ []) [] ≡ map (λ (row : EndRow). row.rule) (cond b (x ∷ []) [])
-    one true x = refl
-    one false x = refl
-
-pub joining_more : (rows : List (List EndRow)) (from to : List ℕ) (i : ℕ) → i < length from → rules_joining rows (take i from) to ++ rules_to to (rows_under rows (get_or from i 0)) ≡ rules_joining rows (take (i + 1) from) to
-joining_more rows from to i lt =
+pub joining_more : (rows : List (List EndRow)) (from to : List ℕ) (i : ℕ) (old new : List ℕ) → i < length from → IsPermutation old (rules_joining rows (take i from) to) → IsPermutation new (old ++ rules_to to (rows_under rows (get_or from i 0)))
+    → IsPermutation new (rules_joining rows (take (i + 1) from) to)
+joining_more rows from to i old new lt so_far added =
     let f = λ (end : ℕ). rules_to to (rows_under rows end) in
-    sym (ap (flat_map f) (take_more from i 0 lt) ∙ flat_map-append f (take i from) (get_or from i 0 ∷ []) ∙ ap (λ (xs : List ℕ). flat_map f (take i from) ++ xs) (append-nil (f (get_or from i 0))))
+    let end = get_or from i 0 in
+    let more : flat_map f (take i from) ++ f end ≡ flat_map f (take (i + 1) from) =
+    sym (ap (flat_map f) (take_more from i 0 lt) ∙ flat_map-append f (take i from) (end ∷ []) ∙ ap (λ (xs : List ℕ). flat_map f (take i from) ++ xs) (append-nil (f end))) in
+    subst (IsPermutation new) more
+    (IsPermutation-trans new (old ++ f end) (flat_map f (take i from) ++ f end) added (IsPermutation-append_left (f end) old (flat_map f (take i from)) so_far))

@@ -29,13 +29,13 @@ use Rattle.rule_ends.proofs.Holders.{expands_within, held_alone, held_within}
 -- ---- a rule and its stored target
 
 -- a rule that joins a type to another has a target that expands to the other
-record StoredTarget (policy : Parts) (rules : List ℕ) (source target : ℕ) : Type 0 where
+pub record StoredTarget (policy : Parts) (rules : List ℕ) (source target : ℕ) : Type 0 where
   pub end : ℕ
   pub is : IsEnd policy end
   pub at : any_at policy rules end source ≡ true
   pub holds : holds_type policy end target ≡ true
 
-stored_target : (policy : Parts) (rules sources targets : List ℕ) (source target : ℕ) → AreEndsOf policy rules sources targets → any_joins policy rules source target ≡ true → StoredTarget policy rules source target
+pub stored_target : (policy : Parts) (rules sources targets : List ℕ) (source target : ℕ) → AreEndsOf policy rules sources targets → any_joins policy rules source target ≡ true → StoredTarget policy rules source target
 unfolding joins
 stored_target policy rules sources targets source target are e = record {
   end = t;

@@ -48,10 +48,10 @@ rules_under policy near rules value = filter (λ number. stored_end policy near 
 abbrev pub rows_under : List (List EndRow) → ℕ → List EndRow
 rows_under rows value = slice_index_or rows value []
 
--- Under each value stand the rules that have it as that end.
+-- Under each value stand the rules that have it as that end, in any order of their own.
 pub record AreRowsOf (policy : Parts) (near : RuleEnd) (rules : List ℕ) (rows : List (List EndRow)) : Type 0 where
   pub count : length rows ≡ policy.symbols.types.nprim + 1
-  pub each : (value : ℕ) → value ≤ policy.symbols.types.nprim → rows_under rows value ≡ map (row_of policy near) (rules_under policy near rules value)
+  pub each : (value : ℕ) → value ≤ policy.symbols.types.nprim → IsPermutation (rows_under rows value) (map (row_of policy near) (rules_under policy near rules value))
 
 -- The rules that are kept, whose ends are types and attributes, are these.
 pub record HoldRules (table : RulesByEnd) (rules : List ℕ) : Type 0 where

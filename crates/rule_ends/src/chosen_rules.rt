@@ -1,17 +1,18 @@
 ghost use Rattle.std.specs.Prelude.{◌≡◌, ◌+◌, ◌<◌, ◌^◌, ◌||◌, ℕ, true, IfOk, OnOk, length};
 ghost use Rattle.std.specs.List.{All, Contains, filter, list_any, range_with_len};
+ghost use Rattle.std.specs.List.Sorted.{IsPermutation};
 ghost use Rattle.pol_bitmap.specs.Nodes.{bits_of};
 ghost use Rattle.pol_expand.specs.PolicyMap.{IsPolicyMap};
 ghost use Rattle.rule_order.specs.ListedOrder.{AreRules};
 ghost use Rattle.value_groups.specs.Among.{is_among};
-ghost use Rattle.rule_ends.specs.ChosenRules.{is_between_types, any_joins, rules_between, targets_from, sources_to, sources_to_any, common_sources, AreRulesFrom, targets_of_rules};
+ghost use Rattle.rule_ends.specs.ChosenRules.{begins_at, is_between_types, joins, any_joins, rules_between, targets_from, sources_to, sources_to_any, common_sources, AreRulesFrom, targets_of_rules};
 ghost use Rattle.rule_ends.specs.Inner.EndTables.{AreEndsOf, AreTargetsOf, HaveEnds, IsEnd, any_at, joins_through, shares_at, shares_through};
 
 use crate::end_table::{EndTable, gathered_rules};
 use crate::gathered::RulesWithEnds;
 use crate::holding::{ends_holding, types_of, values_in};
 use crate::plain_types::is_type;
-use crate::walking::{found_rules, has_rule, other_ends, rules_with};
+use crate::walking::{found_rules, has_rule, other_ends, place_count, rules_with};
 use pol_bitmap::Set;
 use pol_expand::TypeMap;
 use pol_read::Policy;
@@ -19,6 +20,9 @@ use rule_order::{rules_have_one_order, sort_by_rule_order};
 use std::alloc::{AllocError, Global};
 use std::marker::Model;
 use value_groups::{DenseSet, Marked};
+
+// What looking up one pair of types takes, in rules that are gone through.
+const LOOK_UP: u64 = 8;
 
 /// Rules of a policy that were chosen, found by the types that their ends expand to. Contracts see the policy and the numbers of
 /// the rules.
@@ -98,18 +102,38 @@ impl<'p> ChosenRules<'p> {
         ensures rules { IfOk result (λ found. AreRules self.now.policy found.items) }
     {
         rules_have_one_order(self.policy);
+        let found = self.joining(alloc, source, target)?;
+        sort_by_rule_order(alloc, self.policy, &found)
+    }
+
+    // Those rules in no order of their own, found from the end that has fewer rules.
+    fn joining(&self, alloc: Global, source: u32, target: u32) -> Result<Vec<u32>, AllocError>
+        ensures { IfOk result (λ found. IsPermutation found.items (filter (joins self.now.policy source target) self.now.rules)) }
+    {
         let table = &self.table;
         let from = ends_holding(alloc, self.policy, &table.by_source, source)?;
         let to = ends_holding(alloc, self.policy, &table.by_target, target)?;
-        let found = found_rules(
-            alloc,
-            &table.rules,
-            &table.targets,
-            &table.by_source,
-            from.values(),
-            &to,
-        )?;
-        sort_by_rule_order(alloc, self.policy, &found)
+        let begin = place_count(&table.by_source, from.values());
+        let end = place_count(&table.by_target, to.values());
+        if begin <= end {
+            found_rules(
+                alloc,
+                &table.rules,
+                &table.targets,
+                &table.by_source,
+                from.values(),
+                &to,
+            )
+        } else {
+            found_rules(
+                alloc,
+                &table.rules,
+                &table.sources,
+                &table.by_target,
+                to.values(),
+                &from,
+            )
+        }
     }
 
     /// Whether there is such a rule.
@@ -119,7 +143,13 @@ impl<'p> ChosenRules<'p> {
         let table = &self.table;
         let from = ends_holding(alloc, self.policy, &table.by_source, source)?;
         let to = ends_holding(alloc, self.policy, &table.by_target, target)?;
-        Ok(has_rule(&table.targets, &table.by_source, from.values(), &to))
+        let begin = place_count(&table.by_source, from.values());
+        let end = place_count(&table.by_target, to.values());
+        if begin <= end {
+            Ok(has_rule(&table.targets, &table.by_source, from.values(), &to))
+        } else {
+            Ok(has_rule(&table.sources, &table.by_target, to.values(), &from))
+        }
     }
 
     /// The types that the targets of the rules expand to whose source expands to a type.
@@ -169,6 +199,54 @@ impl<'p> ChosenRules<'p> {
         let table = &self.table;
         let from = ends_holding(alloc, self.policy, &table.by_source, source)?;
         rules_with(alloc, &table.rules, &table.by_source, from.values())
+    }
+
+    /// How many of the rules have a source that expands to a type.
+    pub fn rule_count_from(&self, alloc: Global, source: u32) -> Result<usize, AllocError>
+        ensures { IfOk result (λ count. count ≡ length (filter (begins_at self.now.policy source) self.now.rules)) }
+    {
+        let table = &self.table;
+        let from = ends_holding(alloc, self.policy, &table.by_source, source)?;
+        Ok(place_count(&table.by_source, from.values()))
+    }
+
+    /// Those of some types that the rules join a type to. Looks each up where they are few beside the rules of the type, and else goes
+    /// through those.
+    pub fn targets_among(&self, alloc: Global, source: u32, among: &Set) -> Result<Set, AllocError>
+        ensures { IfOk result (λ set. bits_of set ≡ filter (any_joins self.now.policy self.now.rules source) (bits_of among.now)) }
+    {
+        let rules = self.rule_count_from(alloc, source)?;
+        if among.count().saturating_mul(LOOK_UP) <= rules as u64 {
+            self.looked_up(alloc, source, among)
+        } else {
+            self.found_among(alloc, source, among)
+        }
+    }
+
+    // Those of some types that the rules join a type to, each asked for.
+    fn looked_up(&self, alloc: Global, source: u32, among: &Set) -> Result<Set, AllocError>
+        ensures { IfOk result (λ set. bits_of set ≡ filter (any_joins self.now.policy self.now.rules source) (bits_of among.now)) }
+    {
+        // the clause of the nodes says that the bits rise
+        let _ = among.nodes();
+        let mut found = Vec::new(alloc);
+        for target in among.bits() {
+            if self.has_between(alloc, source, target)? {
+                found.push(target)?;
+            }
+        }
+        Set::from_rising(alloc, &found)
+    }
+
+    // The same, by way of all types that the rules join it to.
+    fn found_among(&self, alloc: Global, source: u32, among: &Set) -> Result<Set, AllocError>
+        ensures { IfOk result (λ set. bits_of set ≡ filter (any_joins self.now.policy self.now.rules source) (bits_of among.now)) }
+    {
+        self.have_ends();
+        // the clause of the nodes says that the bits rise
+        let _ = among.nodes();
+        let targets = self.targets_of(alloc, source)?;
+        targets.common(alloc, among)
     }
 
     /// The types that the targets of some of the rules expand to.

@@ -4,3 +4,6 @@ pub struct EndRow {
     pub rule: u32,
     pub far: u32,
 }
+
+/// So many rows under one end that it pays to sort them.
+pub const MANY_ROWS: usize = 1024;

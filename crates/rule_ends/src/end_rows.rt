@@ -2,17 +2,17 @@ ghost use Rattle.std.specs.Prelude.{◌≡◌, ◌<◌, ◌^◌, true, IfOk, len
 ghost use Rattle.std.specs.List.{All};
 ghost use Rattle.rule_ends.specs.ChosenRules.{is_between_types};
 ghost use Rattle.rule_ends.specs.RulesByEnd.{AreRowsOf, rows_under};
-ghost use Rattle.rule_ends.specs.Inner.EndRows.{has_rows};
+ghost use Rattle.rule_ends.specs.Inner.EndRows.{has_rows, AreSortedIfMany};
 
 use crate::end_row::EndRow;
 use crate::ends_had::EndsHad;
-use crate::row_places::{row_starts, rows_by_end};
+use crate::row_places::{row_starts, rows_by_end, sort_by_far_end};
 use crate::rule_end::RuleEnd;
 use pol_read::Policy;
 use std::alloc::{AllocError, Global};
 use std::marker::Model;
 
-/// Rules under one of their ends. Contracts see the rows under each value, by value from 0 on.
+/// Rules under one of their ends, many of a value sorted by their other end. Contracts see the rows under each value, by value from 0 on.
 pub struct EndRows {
     // By value: where its rows begin, which is where those of the value before it end.
     starts: Vec<usize>,
@@ -29,17 +29,18 @@ impl Drop for EndRows {
 impl Model for EndRows {
     ghost use Rattle.std.specs.Prelude.{List};
     ghost use Rattle.rule_ends.specs.declared.end_row.EndRow.{EndRow};
-    ghost use Rattle.rule_ends.specs.Inner.EndRows.{rows_in, AreRowSteps};
+    ghost use Rattle.rule_ends.specs.Inner.EndRows.{rows_in, AreRowSteps, AreSortedUnderEach};
 
     ghost Value = { List (List EndRow) };
 
     ghost view = { λ r. rows_in r.starts.items r.rows.items };
 
-    ghost invariant = { λ r. AreRowSteps r.starts.items r.rows.items };
+    ghost invariant = { λ r. AreRowSteps r.starts.items r.rows.items × AreSortedUnderEach (rows_in r.starts.items r.rows.items) };
 }
 
 impl EndRows {
-    /// Puts the rules of these numbers under one of their ends, in two passes over them. The ends of each are types and attributes.
+    /// Puts the rules of these numbers under one of their ends, in two passes over them, and sorts those under a value by their
+    /// other end where they are many. The ends of each are types and attributes.
     pub fn of_rules(
         alloc: Global,
         policy: &Policy<'_>,
@@ -51,13 +52,15 @@ impl EndRows {
         ensures { IfOk result (λ rows. AreRowsOf policy.now near numbers.now rows) }
     {
         let starts = row_starts(alloc, policy, near, numbers)?;
-        let rows = rows_by_end(alloc, policy, near, numbers, &starts)?;
+        let mut rows = rows_by_end(alloc, policy, near, numbers, &starts)?;
+        sort_by_far_end(&starts, &mut rows);
         Ok(EndRows { starts, rows })
     }
 
-    /// The rows under a value. There is none under a value above all ends.
+    /// The rows under a value, many of them sorted by their other end. There is none under a value above all ends.
     pub fn under(&self, end: u32) -> &[EndRow]
-        ensures { result.now ≡ rows_under self.now end }
+        ensures rows { result.now ≡ rows_under self.now end }
+        ensures rise { AreSortedIfMany result.now }
     {
         let place = end as usize;
         if place + 1 >= self.starts.len() {

@@ -78,8 +78,25 @@ fn add_attribute<E: EndsHad>(
     Ok(())
 }
 
-/// The types that ends expand to.
+/// The types that ends expand to. Those of one end are shared, not copied.
 pub fn types_of(
+    alloc: Global,
+    policy: &Policy<'_>,
+    types: &TypeMap,
+    ends: &[u32],
+) -> Result<Set, AllocError>
+    requires map { IsPolicyMap policy.now types.now }
+    requires ends { All (IsEnd policy.now) ends.now }
+    ensures { IfOk result (λ set. bits_of set ≡ filter (λ type. list_any (λ end. holds_type policy.now end type) ends.now) (range_with_len 1 policy.now.symbols.types.nprim)) }
+{
+    if ends.len() == 1 {
+        return types.expansion(alloc, ends[0]);
+    }
+    types_of_all(alloc, policy, types, ends)
+}
+
+// Those that many expand to, gathered in one set.
+fn types_of_all(
     alloc: Global,
     policy: &Policy<'_>,
     types: &TypeMap,

@@ -1,10 +1,10 @@
-// Whether a rule joins two types, without memory.
-ghost use Rattle.std.specs.Prelude.{◌≡◌, ◌≤◌, ◌&&◌};
+// Whether the ends of a rule expand to types, without memory.
+ghost use Rattle.std.specs.Prelude.{◌≡◌, ◌<◌, ◌≤◌, ◌&&◌, length};
 ghost use Rattle.pol_bitmap.specs.Nodes.{has_bit};
 ghost use Rattle.pol_expand.specs.PolicyMap.{row_in};
-ghost use Rattle.pol_rules.specs.StoredRules.{stored};
+ghost use Rattle.pol_rules.specs.StoredRules.{stored, stored_rules};
 ghost use Rattle.rule_ends.specs.PlainTypes.{is_type_value};
-ghost use Rattle.rule_ends.specs.ChosenRules.{holds_type, is_rule_from_to};
+ghost use Rattle.rule_ends.specs.ChosenRules.{begins_at, holds_type, is_rule_from_to};
 
 use crate::plain_types::is_type;
 use pol_datums::Flavour;
@@ -16,6 +16,14 @@ pub fn is_rule_from_to(policy: &Policy<'_>, rule: &Rule<'_>, source: u32, target
     ensures { result ≡ is_rule_from_to policy.now source target (stored rule.now) }
 {
     holds_type(policy, rule.source, source) && holds_type(policy, rule.target, target)
+}
+
+/// Whether the source of the rule of a number expands to a type.
+pub fn rule_begins_at(policy: &Policy<'_>, number: u32, source: u32) -> bool
+    requires { number < length (stored_rules policy.now) }
+    ensures { result ≡ begins_at policy.now source number }
+{
+    holds_type(policy, policy.rule_ends(number).source, source)
 }
 
 // Whether an end expands to a type, among others or alone.

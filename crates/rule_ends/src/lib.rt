@@ -18,7 +18,7 @@ mod walking;
 
 pub use chosen_rules::ChosenRules;
 pub use gathered::RulesWithEnds;
-pub use joining::is_rule_from_to;
+pub use joining::{is_rule_from_to, rule_begins_at};
 pub use plain_types::{are_two_types, is_type, types_outside};
 pub use rule_end::RuleEnd;
 pub use rules_by_end::RulesByEnd;

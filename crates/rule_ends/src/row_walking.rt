@@ -1,29 +1,77 @@
 // The rules under some ends that have others, and their other ends.
-ghost use Rattle.std.specs.Prelude.{◌≡◌, ◌<◌, ◌≤◌, ◌++◌, ◌||◌, ◌==◌, ℕ, IfOk, OnOk};
-ghost use Rattle.std.specs.List.{All, list_any};
+ghost use Rattle.std.specs.Prelude.{◌≡◌, ◌<◌, ◌≤◌, ◌++◌, ◌||◌, ◌==◌, ℕ, IfOk, OnOk, map};
+ghost use Rattle.std.specs.List.{All, filter, flat_map, list_any};
+ghost use Rattle.std.specs.List.Sorted.{IsPermutation};
 ghost use Rattle.value_groups.specs.Among.{is_among};
 ghost use Rattle.rule_ends.specs.RulesByEnd.{rows_under};
-ghost use Rattle.rule_ends.specs.Inner.EndRows.{is_far_end, rules_joining, rules_to};
+ghost use Rattle.rule_ends.specs.Inner.EndRows.{AreSortedIfMany, AreSortedRows, is_far_end, rules_joining, rules_of, rules_to};
 
-use crate::end_row::EndRow;
+use crate::end_row::{EndRow, MANY_ROWS};
 use crate::end_rows::EndRows;
 use std::alloc::{AllocError, Global};
 use value_groups::Marked;
 
-/// The rules that have one end among some, and the other among others.
+// Many rows are looked at one by one, unless they are more than so many times the ends that are asked for.
+const ROWS_PER_END: usize = 16;
+
+/// The rules that have one end among some, and the other among others, in any order.
 pub fn rules_joining(
     alloc: Global,
     rows: &EndRows,
     from: &[u32],
     to: &Marked,
 ) -> Result<Vec<u32>, AllocError>
-    ensures { IfOk result (λ found. found.items ≡ rules_joining rows.now from.now to.now.values) }
+    ensures { IfOk result (λ found. IsPermutation found.items (rules_joining rows.now from.now to.now.values)) }
 {
     let mut found = Vec::new(alloc);
     for end in from {
-        push_rules_to(&mut found, rows.under(*end), to)?;
+        push_joining(&mut found, rows.under(*end), to)?;
     }
     Ok(found)
+}
+
+// Appends the rules of rows whose other end is among some. These are looked up one by one where the rows are many, and many more.
+fn push_joining(found: &mut Vec<u32>, rows: &[EndRow], to: &Marked) -> Result<(), AllocError>
+    requires { AreSortedIfMany rows.now }
+    ensures { OnOk result (IsPermutation found.new.items (found.old.items ++ rules_to to.now.values rows.now)) }
+{
+    let ends = to.values();
+    if rows.len() >= MANY_ROWS && rows.len() / ROWS_PER_END > ends.len() {
+        push_rules_of_each(found, rows, ends)
+    } else {
+        push_rules_to(found, rows, to)
+    }
+}
+
+// Appends the rules of sorted rows that have one of some ends as their other one, end by end.
+fn push_rules_of_each(found: &mut Vec<u32>, rows: &[EndRow], ends: &[u32]) -> Result<(), AllocError>
+    requires { AreSortedRows rows.now }
+    ensures { OnOk result (found.new.items ≡ found.old.items ++ flat_map (rules_of rows.now) ends.now) }
+{
+    for end in ends {
+        push_rules(found, rows_of(rows, *end))?;
+    }
+    Ok(())
+}
+
+// Those of sorted rows that have an end as their other one, found by halves.
+fn rows_of(rows: &[EndRow], end: u32) -> &[EndRow]
+    requires { AreSortedRows rows.now }
+    ensures { result.now ≡ filter (λ row. end == row.far) rows.now }
+{
+    let first = rows.partition_point(|row| row.far < end);
+    let stop = rows.partition_point(|row| row.far <= end);
+    &rows[first..stop]
+}
+
+// Appends the rules of rows.
+fn push_rules(found: &mut Vec<u32>, rows: &[EndRow]) -> Result<(), AllocError>
+    ensures { OnOk result (found.new.items ≡ found.old.items ++ map (λ row. row.rule) rows.now) }
+{
+    for row in rows {
+        found.push(row.rule)?;
+    }
+    Ok(())
 }
 
 // Appends the rules of rows whose other end is among some.

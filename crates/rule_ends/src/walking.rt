@@ -1,12 +1,23 @@
 // The rules of an end table that have ends among given ones.
-ghost use Rattle.std.specs.Prelude.{◌≡◌, ◌<◌, ◌≤◌, ◌++◌, ◌||◌, ◌==◌, ℕ, true, IfOk, OnOk, length, slice_index};
-ghost use Rattle.std.specs.List.{All, list_any};
+ghost use Rattle.std.specs.Prelude.{◌≡◌, ◌<◌, ◌≤◌, ◌-◌, ◌^◌, ◌++◌, ◌||◌, ◌==◌, ℕ, true, IfOk, OnOk, length, min, slice_index};
+ghost use Rattle.std.specs.List.{All, flat_map, list_any};
 ghost use Rattle.value_groups.specs.Among.{is_among};
 ghost use Rattle.value_groups.specs.Inner.Grouping.{group_of};
 ghost use Rattle.rule_ends.specs.Inner.EndTables.{places_to, rules_at, rules_found, rules_under, any_found, is_other_end};
 
 use std::alloc::{AllocError, Global};
 use value_groups::{Groups, Marked};
+
+/// How many places stand under some ends, as far as a `usize` counts.
+pub fn place_count(groups: &Groups, ends: &[u32]) -> usize
+    ensures { result ≡ min (length (flat_map (group_of groups.now) ends.now)) (2 ^ 64 - 1) }
+{
+    let mut count: usize = 0;
+    for end in ends {
+        count = count.saturating_add(groups.places(*end).len());
+    }
+    count
+}
 
 /// The rules that have one end among some, and the other among others.
 pub fn found_rules(

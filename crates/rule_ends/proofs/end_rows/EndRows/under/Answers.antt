@@ -1,13 +1,14 @@
-use Rattle.std.proofs.Common.{◌≡◌, ℕ, ◌+◌, ◌-◌, ◌<◌, ◌≤◌, List, length, take, drop, sym, ap, ◌∙◌, arith}
+use Rattle.std.proofs.Common.{◌≡◌, ◌+◌, ◌<◌, ◌≤◌, List, length, sym, ap, subst, ◌∙◌, arith}
 use Rattle.std.specs.Prelude.{slice_index}
 use Rattle.std.proofs.lemmas.List.{get_or_default}
 use Rattle.rule_ends.specs.declared.end_row.EndRow.{EndRow}
 use Rattle.rule_ends.specs.RulesByEnd.{rows_under}
-use Rattle.rule_ends.proofs.RowPlaces.{rows_at, rows_past}
+use Rattle.rule_ends.specs.Inner.EndRows.{AreSortedIfMany}
+use Rattle.rule_ends.proofs.RowPlaces.{part_read, rows_past}
 use Rattle.rule_ends.proofs.end_rows.EndRows.under.Goals as goal
 
-pub returns-then-place-len : goal.returns-then-place-len
-returns-then-place-len c =
+pub returns-then-place-len-clause-rows : goal.returns-then-place-len-clause-rows
+returns-then-place-len-clause-rows c =
     let past : length c.self.inside.starts.items ≤ c.args.end + 1 = omega (arith, c.if-place-len.true, c.len.ensures, c.self.inside.starts.ok.0) in
     sym (rows_past c.self.inside.starts.items c.self.inside.rows.items c.args.end past) ∙ ap (λ (rows : List (List EndRow)). rows_under rows c.args.end) c.self.view_is
 
@@ -17,7 +18,7 @@ offset_bounds-deref-start c =
     let lt : c.args.end + 1 < length starts = omega (arith, c.if-place-len.false, c.len.ensures, c.self.inside.starts.ok.0) in
     let first : c.index-start.result.now ≡ slice_index starts c.args.end = c.index-start.ensures ∙ get_or_default starts c.args.end c.index-start.result.now 0 (omega (arith, lt)) in
     let size = ap (length {A = EndRow}) c.deref.ensures.value in
-    omega (arith, first, size, c.self.invariant.within c.args.end (omega (arith, lt)))
+    omega (arith, first, size, c.self.invariant.0.within c.args.end (omega (arith, lt)))
 
 pub slice_bounds-result-count : goal.slice_bounds-result-count
 slice_bounds-result-count c =
@@ -25,17 +26,17 @@ slice_bounds-result-count c =
     let lt : c.args.end + 1 < length starts = omega (arith, c.if-place-len.false, c.len.ensures, c.self.inside.starts.ok.0) in
     let first : c.index-start.result.now ≡ slice_index starts c.args.end = c.index-start.ensures ∙ get_or_default starts c.args.end c.index-start.result.now 0 (omega (arith, lt)) in
     let second : c.index-stop.result.now ≡ slice_index starts (c.args.end + 1) = c.index-stop.ensures ∙ get_or_default starts (c.args.end + 1) c.index-stop.result.now 0 lt in
-    omega (arith, first, second, c.self.invariant.rise c.args.end lt)
+    omega (arith, first, second, c.self.invariant.0.rise c.args.end lt)
 
-pub returns : goal.returns
-returns c =
+pub returns-clause-rows : goal.returns-clause-rows
+returns-clause-rows c =
     let starts = c.self.inside.starts.items in
-    let rows = c.self.inside.rows.items in
     let lt : c.args.end + 1 < length starts = omega (arith, c.if-place-len.false, c.len.ensures, c.self.inside.starts.ok.0) in
-    let first : c.index-start.result.now ≡ slice_index starts c.args.end = c.index-start.ensures ∙ get_or_default starts c.args.end c.index-start.result.now 0 (omega (arith, lt)) in
-    let second : c.index-stop.result.now ≡ slice_index starts (c.args.end + 1) = c.index-stop.ensures ∙ get_or_default starts (c.args.end + 1) c.index-stop.result.now 0 lt in
-    ap (λ (n : ℕ). take (n - c.index-start.result.now) (drop c.index-start.result.now c.deref.result.now)) second
-    ∙ ap (λ (n : ℕ). take (slice_index starts (c.args.end + 1) - n) (drop n c.deref.result.now)) first
-    ∙ ap (λ (xs : List EndRow). take (slice_index starts (c.args.end + 1) - slice_index starts c.args.end) (drop (slice_index starts c.args.end) xs)) c.deref.ensures.value
-    ∙ sym (rows_at starts rows c.args.end lt)
-    ∙ ap (λ (rows : List (List EndRow)). rows_under rows c.args.end) c.self.view_is
+    part_read starts c.self.inside.rows.items c.deref.result.now c.args.end c.index-start.result.now c.index-stop.result.now lt c.index-start.ensures c.index-stop.ensures c.deref.ensures.value ∙ ap (λ (rows : List (List EndRow)). rows_under rows c.args.end) c.self.view_is
+
+pub returns-clause-rise : goal.returns-clause-rise
+returns-clause-rise c =
+    let starts = c.self.inside.starts.items in
+    let lt : c.args.end + 1 < length starts = omega (arith, c.if-place-len.false, c.len.ensures, c.self.inside.starts.ok.0) in
+    subst AreSortedIfMany (sym (part_read starts c.self.inside.rows.items c.deref.result.now c.args.end c.index-start.result.now c.index-stop.result.now lt c.index-start.ensures c.index-stop.ensures c.deref.ensures.value))
+    (c.self.invariant.1 c.args.end)
