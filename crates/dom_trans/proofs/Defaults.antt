@@ -24,6 +24,7 @@ use Rattle.rule_ends.proofs.Anys.{any_agree, any_gives, any_from, filter_agree, 
 use Rattle.rule_ends.proofs.ByOneEnd.{from_each, joins_by_ends}
 use Rattle.dom_trans.specs.Grants.{rules_that, sets_default, granting_rules, grants, default_rules, has_default, part_has_default, process, file, entrypoint}
 use Rattle.dom_trans.specs.Transitions.{is_default}
+use Rattle.dom_trans.specs.Inner.EntryPoints.{AreDefaultsFrom}
 use Rattle.dom_trans.specs.Inner.RuleLists.{HaveTypeEnds, rules_to}
 use Rattle.dom_trans.specs.Inner.Targets.{AreTypeValues, HaveDefaultOf, default_set_by, enters_by, is_found, part_sets, starts_at_point, starts_to}
 use Rattle.dom_trans.proofs.Keeps.{filter_short}
@@ -102,10 +103,10 @@ rule_default policy a b entry s =
     let there = keeps (joins policy a entry) (default_rules policy) s.number s.is (joins_by_ends policy a entry s.number ∙ and_from (begins_at policy a s.number) (ends_at policy entry s.number) s.begins s.ends) in
     any_ordered (has_default policy b) (is_listed_before policy) joining ∙ any_from (has_default policy b) joining s.number there s.default
 
--- the types from which a process starts, by the rules of its type
-pub starts_are : (policy : Parts) (a b : ℕ) (numbers found : List ℕ) → AreRulesFrom policy (default_rules policy) a numbers → found ≡ filter (has_default policy b) numbers → targets_of_rules policy found ≡ starts_to policy a b
+-- the types from which a process starts, by the rules that set its default domain
+pub starts_are : (policy : Parts) (a b : ℕ) (found : List ℕ) → AreDefaultsFrom policy a b found → targets_of_rules policy found ≡ starts_to policy a b
 unfolding targets_of_rules starts_to
-starts_are policy a b numbers found from is = filter_agree (λ type. list_any (ends_at policy type) found) (is_default policy a b) range (λ k d lt. same (get_or range k d))
+starts_are policy a b found are = filter_agree (λ type. list_any (ends_at policy type) found) (is_default policy a b) range (λ k d lt. same (get_or range k d))
   where
     range : List ℕ
     range = range_with_len 1 policy.symbols.types.nprim
@@ -114,17 +115,45 @@ starts_are policy a b numbers found from is = filter_agree (λ type. list_any (e
     same entry = same_tests (list_any (ends_at policy entry) found) (is_default policy a b entry)
         (λ t.
         let f = any_gives (ends_at policy entry) found t in
-        let k = kept (has_default policy b) numbers f.0 (subst (λ (xs : List ℕ). Contains xs f.0) is f.1) in
-        let r = (from_each policy (default_rules policy) a numbers f.0 from).0 k.0 in
-        rule_default policy a b entry (record { number = f.0; is = r.0; begins = r.1; ends = f.2; default = k.1 }))
+        let r = (are.each f.0).0 f.1 in
+        rule_default policy a b entry (record { number = f.0; is = r.0; begins = r.1; ends = f.2; default = r.2 }))
         (λ t.
         let s = default_rule policy a b entry t in
-        any_from (ends_at policy entry) found s.number (subst (λ (xs : List ℕ). Contains xs s.number) (sym is) (keeps (has_default policy b) numbers s.number ((from_each policy (default_rules policy) a numbers s.number from).1 (s.is, s.begins)) s.default)) s.ends)
+        any_from (ends_at policy entry) found s.number ((are.each s.number).1 (s.is, s.begins, s.default)) s.ends)
 
--- these are rules of the list
-pub with_default_are : (policy : Parts) (a b : ℕ) (numbers found : List ℕ) → AreRulesFrom policy (default_rules policy) a numbers → found ≡ filter (has_default policy b) numbers → All (Contains (default_rules policy)) found
-with_default_are policy a b numbers found from is =
-    subst (All (Contains (default_rules policy))) (sym is) (All-filter (has_default policy b) (Contains (default_rules policy)) numbers (from_are_defaults policy a numbers from))
+-- they are rules of the list
+pub from_the_list : (policy : Parts) (a b : ℕ) (found : List ℕ) → AreDefaultsFrom policy a b found → All (Contains (default_rules policy)) found
+from_the_list policy a b found are = All-weaker (Contains found) (Contains (default_rules policy)) (λ n h. ((are.each n).0 h).0) found (All-contains_itself found)
+
+-- they are found among those of the one type
+pub defaults_by_source : (policy : Parts) (a b : ℕ) (numbers found : List ℕ) → AreRulesFrom policy (default_rules policy) a numbers → found ≡ filter (has_default policy b) numbers → AreDefaultsFrom policy a b found
+defaults_by_source policy a b numbers found from is = record {
+  each = λ number. (
+    λ there.
+        let k = kept (has_default policy b) numbers number (subst (λ (xs : List ℕ). Contains xs number) is there) in
+        let r = (from_each policy (default_rules policy) a numbers number from).0 k.0 in
+        (r.0, r.1, k.1),
+    λ h. subst (λ (xs : List ℕ). Contains xs number) (sym is) (keeps (has_default policy b) numbers number ((from_each policy (default_rules policy) a numbers number from).1 (h.0, h.1)) h.2),
+  );
+}
+
+-- or among those that set the other
+pub defaults_by_target : (policy : Parts) (a b : ℕ) (numbers found : List ℕ) → numbers ≡ rules_to policy b → found ≡ filter (begins_at policy a) numbers → AreDefaultsFrom policy a b found
+defaults_by_target policy a b numbers found to is = record {
+  each = λ number. (
+    λ there.
+        let k = kept (begins_at policy a) numbers number (subst (λ (xs : List ℕ). Contains xs number) is there) in
+        let r = kept (has_default policy b) (default_rules policy) number (subst (λ (xs : List ℕ). Contains xs number) to k.0) in
+        (r.0, k.1, r.1),
+    λ h.
+        let there = subst (λ (xs : List ℕ). Contains xs number) (sym to) (keeps (has_default policy b) (default_rules policy) number h.0 h.2) in
+        subst (λ (xs : List ℕ). Contains xs number) (sym is) (keeps (begins_at policy a) numbers number there h.1),
+  );
+}
+
+-- those are rules
+pub to_are_rules : (policy : Parts) (b : ℕ) (numbers : List ℕ) → numbers ≡ rules_to policy b → AreRules policy numbers
+to_are_rules policy b numbers to = subst (AreRules policy) (sym to) (All-filter (has_default policy b) (λ (n : ℕ). n < length (stored_rules policy)) (default_rules policy) (defaults_are_rules policy))
 
 -- they are that in any order
 pub sorted_from : (policy : Parts) (a : ℕ) (numbers sorted seen : List ℕ) → AreRulesFrom policy (default_rules policy) a numbers → IsPermutation numbers sorted → seen ≡ sorted → AreRulesFrom policy (default_rules policy) a seen
@@ -246,7 +275,7 @@ alike policy types numbers first c same =
     any_agree (enters_by policy types c) (λ number. test && starts_at_point policy types c number) numbers (λ k d lt. ap (λ (t : Bool). (is_type_value policy c && t) && starts_at_point policy types c (get_or numbers k d)) (same_default policy (get_or numbers k d) first c (same k d lt)))
     ∙ any_and test (starts_at_point policy types c) numbers
 
-and_ever : (b : Bool) → (b && true) ≡ b
+pub and_ever : (b : Bool) → (b && true) ≡ b
 and_ever true = refl
 and_ever false = refl
 

@@ -1,20 +1,19 @@
 -- The entries of a transition, by the entry points of the one domain and by what the other may execute.
-use Rattle.std.proofs.Common.{◌≡◌, ℕ, zero, suc, ◌+◌, Bool, true, false, cond, List, [], ◌∷◌, length, refl, sym, ap, subst, ◌∙◌, inl, inr, arith}
-use Rattle.std.specs.Prelude.{◌==◌, ◌&&◌, ◌||◌, ◌↔◌, not, if◌then◌else◌}
-use Rattle.std.specs.List.{Contains, filter, list_any, range_with_len}
-use Rattle.std.proofs.lemmas.Bool.{and_parts, and_from, cond_both, eqb-true, false≢true, or_cases, or_left, or_right}
-use Rattle.pol_bitmap.specs.declared.Node.{Node}
-use Rattle.pol_bitmap.specs.Nodes.{bits_of}
-use Rattle.pol_bitmap.specs.Sets.{IsSet, IsCommon}
-use Rattle.pol_bitmap.proofs.BitLists.{RisesFrom, rises_lower, rises_same, bits_rise}
-use Rattle.pol_bitmap.proofs.Elements.{kept, keeps}
+use Rattle.std.proofs.Common.{◌≡◌, ℕ, Bool, true, false, cond, List, [], ◌∷◌, length, get_or, refl, sym, ap, ◌∙◌, inl, inr, arith}
+use Rattle.std.specs.Prelude.{◌==◌, ◌&&◌, ◌||◌, not, if◌then◌else◌}
+use Rattle.std.specs.List.{filter, list_any, range_with_len}
+use Rattle.std.proofs.lemmas.Bool.{and_parts, and_from, eqb-true, false≢true, or_cases}
 use Rattle.pol_file.specs.declared.Parts.{Parts}
-use Rattle.rule_ends.specs.ChosenRules.{targets_from}
-use Rattle.dom_trans.specs.Grants.{granting_rules, grants, process, file, setexec, execute, entrypoint}
+use Rattle.rule_ends.specs.ChosenRules.{any_joins, targets_from}
+use Rattle.rule_ends.specs.PlainTypes.{are_two_types, is_type_value}
+use Rattle.rule_ends.proofs.Anys.{filter_agree}
+use Rattle.rule_ends.proofs.Found.{and_comm, filter_twice}
+use Rattle.dom_trans.specs.Grants.{granting_rules, grants, process, file, transition, setexec, execute, entrypoint}
 use Rattle.dom_trans.specs.Transitions.{is_default, is_entry, is_standard, entries}
-use Rattle.dom_trans.specs.Inner.RuleLists.{IsSourceOf, is_allowed}
+use Rattle.dom_trans.specs.Inner.EntryPoints.{default_points, executable_points, is_executable_point}
+use Rattle.dom_trans.specs.Inner.RuleLists.{is_allowed}
 use Rattle.dom_trans.specs.Inner.Targets.{has_entry, starts_to}
-use Rattle.dom_trans.proofs.Defaults.{in_targets_from, not_so}
+use Rattle.dom_trans.proofs.Defaults.{and_ever, not_so}
 
 -- ---- what an entry is
 
@@ -41,61 +40,68 @@ entry_default policy a b entry never leads = elim (or_cases (grants policy a a p
 
 -- ---- all entries
 
-pub in_starts : (policy : Parts) (a b entry : ℕ) (starts : List ℕ) → starts ≡ starts_to policy a b → Contains starts entry ↔ (Contains (range_with_len 1 policy.symbols.types.nprim) entry × (is_default policy a b entry ≡ true))
-unfolding starts_to
-in_starts policy a b entry starts is =
+-- the entry points of a domain that a type may execute, found from the domain
+pub points_executed : (policy : Parts) (a b : ℕ) (points : List ℕ) → points ≡ targets_from policy (granting_rules policy file entrypoint) b → filter (any_joins policy (granting_rules policy file execute) a) points ≡ executable_points policy a b
+unfolding targets_from executable_points
+points_executed policy a b points is =
+    let may = any_joins policy (granting_rules policy file execute) a in
+    let point = any_joins policy (granting_rules policy file entrypoint) b in
+    ap (filter may) is ∙ filter_twice point may (range_with_len 1 policy.symbols.types.nprim)
+
+-- and found from the type
+pub executed_points : (policy : Parts) (a b : ℕ) (executable : List ℕ) → executable ≡ targets_from policy (granting_rules policy file execute) a
+    → filter (any_joins policy (granting_rules policy file entrypoint) b) executable ≡ executable_points policy a b
+unfolding targets_from executable_points
+executed_points policy a b executable is =
+    let may = any_joins policy (granting_rules policy file execute) a in
+    let point = any_joins policy (granting_rules policy file entrypoint) b in
     let range = range_with_len 1 policy.symbols.types.nprim in
-    (λ m. kept (is_default policy a b) range entry (subst (λ (xs : List ℕ). Contains xs entry) is m), λ h. subst (λ (xs : List ℕ). Contains xs entry) (sym is) (keeps (is_default policy a b) range entry h.0 h.1))
+    ap (filter point) is
+    ∙ filter_twice may point range
+    ∙ filter_agree (λ entry. may entry && point entry) (is_executable_point policy a b) range (λ k d lt. and_comm (may (get_or range k d)) (point (get_or range k d)))
 
-filter_rises : (p : ℕ → Bool) (least : ℕ) (xs : List ℕ) → RisesFrom least xs → RisesFrom least (filter p xs)
-filter_rises p least [] h = tt
-filter_rises p least (x ∷ xs) h =
-    let rest = filter_rises p (x + 1) xs h.1 in
-    cond_both (p x) (x ∷ filter p xs) (filter p xs) (RisesFrom least) (λ t. (h.0, rest)) (λ t. rises_lower least (x + 1) (filter p xs) (omega (arith, h.0)) rest)
+turned : (start may point : Bool) → ((start && may) && point) ≡ ((point && may) && start)
+turned true true true = refl
+turned true true false = refl
+turned true false true = refl
+turned true false false = refl
+turned false true true = refl
+turned false true false = refl
+turned false false true = refl
+turned false false false = refl
 
-range_rises : (a n : ℕ) → RisesFrom a (range_with_len a n)
-range_rises a zero = tt
-range_rises a (suc n) = (omega arith, range_rises (a + 1) n)
-
--- a set that has just the entries
-entries_of : (policy : Parts) (a b : ℕ) (found : List Node) → IsSet found → ((entry : ℕ) → Contains (bits_of found) entry ↔ (Contains (range_with_len 1 policy.symbols.types.nprim) entry × (is_entry policy a b entry ≡ true))) → bits_of found ≡ entries policy a b
-entries_of policy a b found set each =
+-- those from which it starts the domain by default
+pub points_started : (policy : Parts) (a b : ℕ) (starts executable : List ℕ) → starts ≡ starts_to policy a b → executable ≡ filter (any_joins policy (granting_rules policy file execute) a) starts
+    → filter (any_joins policy (granting_rules policy file entrypoint) b) executable ≡ default_points policy a b
+unfolding starts_to default_points
+points_started policy a b starts executable starts_is is =
+    let start = is_default policy a b in
+    let may = any_joins policy (granting_rules policy file execute) a in
+    let point = any_joins policy (granting_rules policy file entrypoint) b in
     let range = range_with_len 1 policy.symbols.types.nprim in
-    rises_same 0 1 (bits_of found) (filter (is_entry policy a b) range) (bits_rise 0 found set.0) (filter_rises (is_entry policy a b) 1 range (range_rises 1 policy.symbols.types.nprim))
-    (λ entry. (λ m. let h = (each entry).0 m in keeps (is_entry policy a b) range entry h.0 h.1, λ m. (each entry).1 (kept (is_entry policy a b) range entry m)))
+    ap (filter point) (is ∙ ap (filter may) starts_is ∙ filter_twice start may range)
+    ∙ filter_twice (λ entry. start entry && may entry) point range
+    ∙ filter_agree (λ entry. (start entry && may entry) && point entry) (λ entry. is_executable_point policy a b entry && start entry) range (λ k d lt. turned (start (get_or range k d)) (may (get_or range k d)) (point (get_or range k d)))
 
--- where the type asks for the domain
-pub entries_by_request : (policy : Parts) (a b : ℕ) (executable : List Node) (sets changes : Bool) (points both : List Node) → IsSourceOf policy a executable sets changes → sets ≡ true → bits_of points ≡ targets_from policy (granting_rules policy file entrypoint) b
-    → IsSet both → IsCommon (bits_of points) (bits_of executable) (bits_of both) → bits_of both ≡ entries policy a b
-entries_by_request policy a b executable sets changes points both source asks is set common = entries_of policy a b both set (λ entry. (
-  λ m.
-      let parts = (common.each entry).0 m in
-      let point = (in_targets_from policy (granting_rules policy file entrypoint) b entry (bits_of points) is).0 parts.0 in
-      let may = (in_targets_from policy (granting_rules policy file execute) a entry (bits_of executable) source.executes).0 parts.1 in
-      (point.0, entry_from policy a b entry point.1 may.1 (or_left (grants policy a a process setexec) (is_default policy a b entry) (sym source.asks ∙ asks))),
-  λ h.
-      let parts = entry_parts policy a b entry h.1 in
-      (common.each entry).1 ((in_targets_from policy (granting_rules policy file entrypoint) b entry (bits_of points) is).1 (h.0, parts.0), (in_targets_from policy (granting_rules policy file execute) a entry (bits_of executable) source.executes).1 (h.0, parts.1)),
-))
+-- where the type asks for the domain, each of them is an entry
+pub entries_by_request : (policy : Parts) (a b : ℕ) → grants policy a a process setexec ≡ true → executable_points policy a b ≡ entries policy a b
+unfolding is_entry executable_points
+entries_by_request policy a b asks =
+    let range = range_with_len 1 policy.symbols.types.nprim in
+    let point = is_executable_point policy a b in
+    filter_agree point (is_entry policy a b) range
+    (λ k d lt. let entry = get_or range k d in
+    sym (ap (λ (t : Bool). point entry && (t || is_default policy a b entry)) asks ∙ and_ever (point entry)))
 
--- where it does not
-pub entries_by_default : (policy : Parts) (a b : ℕ) (executable : List Node) (sets changes : Bool) (points both starts found : List Node) → IsSourceOf policy a executable sets changes → sets ≡ false
-    → bits_of points ≡ targets_from policy (granting_rules policy file entrypoint) b → IsCommon (bits_of points) (bits_of executable) (bits_of both) → bits_of starts ≡ starts_to policy a b → IsSet found → IsCommon (bits_of both) (bits_of starts) (bits_of found)
-    → bits_of found ≡ entries policy a b
-entries_by_default policy a b executable sets changes points both starts found source never is common starts_is set led = entries_of policy a b found set (λ entry. (
-  λ m.
-      let outer = (led.each entry).0 m in
-      let parts = (common.each entry).0 outer.0 in
-      let point = (in_targets_from policy (granting_rules policy file entrypoint) b entry (bits_of points) is).0 parts.0 in
-      let may = (in_targets_from policy (granting_rules policy file execute) a entry (bits_of executable) source.executes).0 parts.1 in
-      let start = (in_starts policy a b entry (bits_of starts) starts_is).0 outer.1 in
-      (point.0, entry_from policy a b entry point.1 may.1 (or_right (grants policy a a process setexec) (is_default policy a b entry) start.1)),
-  λ h.
-      let parts = entry_parts policy a b entry h.1 in
-      let default = entry_default policy a b entry (sym source.asks ∙ never) parts.2 in
-      let there = (common.each entry).1 ((in_targets_from policy (granting_rules policy file entrypoint) b entry (bits_of points) is).1 (h.0, parts.0), (in_targets_from policy (granting_rules policy file execute) a entry (bits_of executable) source.executes).1 (h.0, parts.1)) in
-      (led.each entry).1 (there, (in_starts policy a b entry (bits_of starts) starts_is).1 (h.0, default)),
-))
+-- where it does not, only those from which it starts the domain
+pub entries_by_default : (policy : Parts) (a b : ℕ) → grants policy a a process setexec ≡ false → default_points policy a b ≡ entries policy a b
+unfolding is_entry default_points
+entries_by_default policy a b never =
+    let range = range_with_len 1 policy.symbols.types.nprim in
+    let point = is_executable_point policy a b in
+    filter_agree (λ entry. point entry && is_default policy a b entry) (is_entry policy a b) range
+    (λ k d lt. let entry = get_or range k d in
+    sym (ap (λ (t : Bool). point entry && (t || is_default policy a b entry)) never))
 
 -- ---- whether there are some
 
@@ -118,6 +124,13 @@ standard_allowed policy a b found allowed is =
     own : (xs : List ℕ) → xs ≡ (if not (length xs == 0) then xs else [])
     own [] = refl
     own (x ∷ xs) = sym (ap (λ (t : Bool). if not t then x ∷ xs else []) (not_so (length (x ∷ xs) == 0) (λ e. omega (arith, eqb-true (length (x ∷ xs)) 0 e))))
+
+-- such a transition is allowed to a type alone
+pub allowed_type : (policy : Parts) (a b : ℕ) → is_allowed policy a b ≡ true → is_type_value policy b ≡ true
+allowed_type policy a b allowed =
+    let two = (and_parts (are_two_types policy a b) (grants policy a b process transition) allowed).0 in
+    let types = (and_parts (is_type_value policy a && is_type_value policy b) (not (a == b)) two).0 in
+    (and_parts (is_type_value policy a) (is_type_value policy b) types).1
 
 pub standard_refused : (policy : Parts) (a b : ℕ) → is_allowed policy a b ≡ false → false ≡ is_standard policy a b
 unfolding is_standard

@@ -1,6 +1,7 @@
 pub mod ByDefault
 pub mod DomainEdges
 pub mod EdgesBetween
+pub mod EntryPoints
 pub mod Keeping
 pub mod RuleLists
 pub mod Targets

@@ -68,6 +68,15 @@ impl<'p> RulesByDefault<'p> {
     {
         rules_at(alloc, &self.numbers, self.groups.places(b))
     }
+
+    /// How many those are.
+    pub fn count_to(&self, b: u32) -> usize
+        requires least { 1 ≤ b }
+        requires most { b ≤ self.now.policy.symbols.types.nprim }
+        ensures { result ≡ length (filter (has_default self.now.policy b) self.now.rules) }
+    {
+        self.groups.places(b).len()
+    }
 }
 
 // The rules of some places.

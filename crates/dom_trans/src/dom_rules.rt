@@ -7,14 +7,15 @@ ghost use Rattle.pol_bitmap.specs.Nodes.{bits_of};
 ghost use Rattle.pol_expand.specs.PolicyMap.{IsPolicyMap};
 ghost use Rattle.pol_rules.specs.StoredRules.{stored_rules};
 ghost use Rattle.rule_order.specs.ListedOrder.{AreRules};
-ghost use Rattle.rule_ends.specs.ChosenRules.{any_joins, common_sources, rules_between, sources_to, targets_from};
+ghost use Rattle.rule_ends.specs.ChosenRules.{any_joins, begins_at, common_sources, rules_between, sources_to, targets_from};
 ghost use Rattle.rule_ends.specs.PlainTypes.{is_type_value};
 ghost use Rattle.rule_ends.specs.Inner.EndTables.{AreEndsOf};
 ghost use Rattle.value_groups.specs.Among.{is_among};
 ghost use Rattle.dom_trans.specs.Inner.Targets.{AreEntered, AreEntering, AreSources, AreTargets, AreTypeValues, HaveDefaultOf, default_set_by, enters_by, starts_at_point, starts_to};
-ghost use Rattle.dom_trans.specs.Grants.{granting_rules, grants, default_rules, has_default, process, dyntransition, setcurrent, file, execute, entrypoint};
+ghost use Rattle.dom_trans.specs.Grants.{granting_rules, grants, default_rules, has_default, process, dyntransition, setexec, setcurrent, file, execute, entrypoint};
 ghost use Rattle.dom_trans.specs.Transitions.{entries, is_standard, is_dynamic, defaults_between};
 ghost use Rattle.dom_trans.specs.ReasonLists.{entry_reason, reasons_between};
+ghost use Rattle.dom_trans.specs.Inner.EntryPoints.{AreDefaultsFrom, default_points, executable_points};
 ghost use Rattle.dom_trans.specs.Inner.Keeping.{AreKept, wanted_in};
 ghost use Rattle.dom_trans.specs.Inner.RuleLists.{IsSourceOf, chosen, is_allowed, rule_lists, rules_of, rules_to};
 
@@ -27,7 +28,7 @@ use pol_bitmap::Set;
 use pol_cursor::{NumberList, OwnedList};
 use pol_expand::TypeMap;
 use pol_read::Policy;
-use rule_ends::{ChosenRules, RulesWithEnds, are_two_types, is_type};
+use rule_ends::{ChosenRules, RulesWithEnds, are_two_types, is_type, rule_begins_at};
 use std::alloc::{AllocError, Global};
 use std::marker::Model;
 use value_groups::DenseSet;
@@ -110,9 +111,23 @@ impl<'p> DomRules<'p> {
     {
         Ok(Source {
             executable: self.list(Grant::Execute).targets_of(alloc, a)?,
-            setexec: self.list(Grant::Setexec).has_between(alloc, a, a)?,
-            setcurrent: self.list(Grant::Setcurrent).has_between(alloc, a, a)?,
+            setexec: self.may_ask(alloc, a)?,
+            setcurrent: self.may_change(alloc, a)?,
         })
+    }
+
+    // Whether a type may ask for another domain.
+    fn may_ask(&self, alloc: Global, a: u32) -> Result<bool, AllocError>
+        ensures { IfOk result (λ holds. holds ≡ grants self.now a a process setexec) }
+    {
+        self.list(Grant::Setexec).has_between(alloc, a, a)
+    }
+
+    // Whether it may change its own.
+    fn may_change(&self, alloc: Global, a: u32) -> Result<bool, AllocError>
+        ensures { IfOk result (λ holds. holds ≡ grants self.now a a process setcurrent) }
+    {
+        self.list(Grant::Setcurrent).has_between(alloc, a, a)
     }
 }
 
@@ -138,6 +153,20 @@ impl<'p> DomRules<'p> {
         Ok(found)
     }
 
+    // Those of some rules whose source expands to a type.
+    fn beginning_at(&self, alloc: Global, a: u32, numbers: &[u32]) -> Result<Vec<u32>, AllocError>
+        requires { AreRules self.now numbers.now }
+        ensures { IfOk result (λ found. found.items ≡ filter (begins_at self.now a) numbers.now) }
+    {
+        let mut found = Vec::new(alloc);
+        for number in numbers {
+            if rule_begins_at(self.policy, *number, a) {
+                found.push(*number)?;
+            }
+        }
+        Ok(found)
+    }
+
     // The rules that say that the one type is the default domain of a process that the other starts from an entry type.
     fn defaults_between(
         &self,
@@ -153,34 +182,66 @@ impl<'p> DomRules<'p> {
         Ok(OwnedList::from_vec(found))
     }
 
-    // The types from which a process that the one type starts has the other as its default domain.
-    fn starts_to(&self, alloc: Global, a: u32, b: u32) -> Result<Set, AllocError>
-        ensures { IfOk result (λ starts. bits_of starts ≡ starts_to self.now a b) }
+    // The rules that say so, whatever the entry type is, among the rules of the one type or of the other, whichever are fewer.
+    fn defaults_from(&self, alloc: Global, a: u32, b: u32) -> Result<Vec<u32>, AllocError>
+        requires { is_type_value self.now b ≡ true }
+        ensures { IfOk result (λ found. AreDefaultsFrom self.now a b found.items) }
     {
         let rules = self.list(Grant::Default);
-        let numbers = rules.rules_from(alloc, a)?;
-        let found = self.with_default(alloc, b, &numbers)?;
-        rules.targets_of_rules(alloc, &found)
+        if rules.rule_count_from(alloc, a)? <= self.defaults.count_to(b) {
+            let numbers = rules.rules_from(alloc, a)?;
+            self.with_default(alloc, b, &numbers)
+        } else {
+            let numbers = self.defaults.rules_to(alloc, b)?;
+            self.beginning_at(alloc, a, &numbers)
+        }
+    }
+
+    // The types from which a process that the one type starts has the other as its default domain.
+    fn starts_to(&self, alloc: Global, a: u32, b: u32) -> Result<Set, AllocError>
+        requires { is_type_value self.now b ≡ true }
+        ensures { IfOk result (λ starts. bits_of starts ≡ starts_to self.now a b) }
+    {
+        let found = self.defaults_from(alloc, a, b)?;
+        self.list(Grant::Default).targets_of_rules(alloc, &found)
+    }
+
+    // The entry points of a domain that a type may execute, found from the one of the two that has fewer rules.
+    fn executable_points(&self, alloc: Global, a: u32, b: u32) -> Result<Set, AllocError>
+        ensures { IfOk result (λ points. bits_of points ≡ executable_points self.now a b) }
+    {
+        let execute = self.list(Grant::Execute);
+        let entrypoint = self.list(Grant::Entrypoint);
+        if entrypoint.rule_count_from(alloc, b)? <= execute.rule_count_from(alloc, a)? {
+            let points = entrypoint.targets_of(alloc, b)?;
+            execute.targets_among(alloc, a, &points)
+        } else {
+            let executable = execute.targets_of(alloc, a)?;
+            entrypoint.targets_among(alloc, b, &executable)
+        }
+    }
+
+    // Those from which a process that the type starts has the domain by default.
+    fn default_points(&self, alloc: Global, a: u32, b: u32) -> Result<Set, AllocError>
+        requires { is_type_value self.now b ≡ true }
+        ensures { IfOk result (λ points. bits_of points ≡ default_points self.now a b) }
+    {
+        let starts = self.starts_to(alloc, a, b)?;
+        let executable = self.list(Grant::Execute).targets_among(alloc, a, &starts)?;
+        self.list(Grant::Entrypoint)
+            .targets_among(alloc, b, &executable)
     }
 
     // The entries from a type to a domain, rising.
-    fn entries(
-        &self,
-        alloc: Global,
-        a: u32,
-        source: &Source,
-        b: u32,
-    ) -> Result<Vec<u32>, AllocError>
-        requires { IsSourceOf self.now a source.now.executable source.now.setexec source.now.setcurrent }
+    fn entries(&self, alloc: Global, a: u32, b: u32) -> Result<Vec<u32>, AllocError>
+        requires { is_type_value self.now b ≡ true }
         ensures { IfOk result (λ found. found.items ≡ entries self.now a b) }
     {
-        let points = self.points(alloc, b)?;
-        let both = points.common(alloc, &source.executable)?;
-        if source.setexec {
-            return values_in(alloc, &both);
+        if self.may_ask(alloc, a)? {
+            let points = self.executable_points(alloc, a, b)?;
+            return values_in(alloc, &points);
         }
-        let starts = self.starts_to(alloc, a, b)?;
-        let entries = both.common(alloc, &starts)?;
+        let entries = self.default_points(alloc, a, b)?;
         values_in(alloc, &entries)
     }
 }
@@ -198,33 +259,25 @@ impl<'p> DomRules<'p> {
     }
 
     // The entries of the transition by executing a file, rising. There are none where there is no such transition.
-    fn standard_entries(
-        &self,
-        alloc: Global,
-        a: u32,
-        source: &Source,
-        b: u32,
-    ) -> Result<Vec<u32>, AllocError>
-        requires { IsSourceOf self.now a source.now.executable source.now.setexec source.now.setcurrent }
+    fn standard_entries(&self, alloc: Global, a: u32, b: u32) -> Result<Vec<u32>, AllocError>
         ensures found { IfOk result (λ found. found.items ≡ (if is_standard self.now a b then entries self.now a b else [])) }
         ensures some { IfOk result (λ found. is_standard self.now a b ≡ not (length found.items == 0)) }
     {
         if self.is_allowed(alloc, a, b)? {
-            self.entries(alloc, a, source, b)
+            self.entries(alloc, a, b)
         } else {
             Ok(Vec::new(alloc))
         }
     }
 
     // Whether there is a transition without one.
-    fn is_dynamic(&self, alloc: Global, a: u32, source: &Source, b: u32) -> Result<bool, AllocError>
-        requires { IsSourceOf self.now a source.now.executable source.now.setexec source.now.setcurrent }
+    fn is_dynamic(&self, alloc: Global, a: u32, b: u32) -> Result<bool, AllocError>
         ensures { IfOk result (λ holds. holds ≡ is_dynamic self.now a b) }
     {
         if !are_two_types(self.policy(), a, b) {
             return Ok(false);
         }
-        if source.setcurrent {
+        if self.may_change(alloc, a)? {
             return self.list(Grant::Dyntransition).has_between(alloc, a, b);
         }
         Ok(false)
@@ -459,10 +512,9 @@ impl<'p> DomRules<'p> {
     pub fn reasons(&self, alloc: Global, a: u32, b: u32) -> Result<Reasons, AllocError>
         ensures { IfOk result (λ reasons. reasons ≡ reasons_between self.now a b) }
     {
-        let source = self.source(alloc, a)?;
-        let entries = self.standard_entries(alloc, a, &source, b)?;
+        let entries = self.standard_entries(alloc, a, b)?;
         let standard = !entries.is_empty();
-        let dynamic = self.is_dynamic(alloc, a, &source, b)?;
+        let dynamic = self.is_dynamic(alloc, a, b)?;
         Ok(Reasons {
             transition: between_where(alloc, standard, self.list(Grant::Transition), a, b)?,
             setexec: between_where(alloc, standard, self.list(Grant::Setexec), a, a)?,

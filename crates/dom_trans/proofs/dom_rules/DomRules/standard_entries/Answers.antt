@@ -2,8 +2,11 @@ use Rattle.std.proofs.Common.{◌≡◌, Bool, ℕ, List, [], length, ap, sym, �
 use Rattle.std.specs.Prelude.{◌==◌, not, if◌then◌else◌}
 use Rattle.std.proofs.lemmas.Result.{IfOk-weaker}
 use Rattle.dom_trans.specs.Transitions.{entries, is_standard}
-use Rattle.dom_trans.proofs.Entries.{standard_allowed, standard_refused}
+use Rattle.dom_trans.proofs.Entries.{allowed_type, standard_allowed, standard_refused}
 use Rattle.dom_trans.proofs.dom_rules.DomRules.standard_entries.Goals as goal
+
+pub entries-requires : goal.entries-requires
+entries-requires c = allowed_type c.args.self.now c.args.a c.args.b (sym c.in_ok-is_allowed.ensures ∙ c.if-branch.true)
 
 pub returns-then-branch-clause-found : goal.returns-then-branch-clause-found
 returns-then-branch-clause-found c =

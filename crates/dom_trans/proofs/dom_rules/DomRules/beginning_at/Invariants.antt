@@ -1,0 +1,7 @@
+use Rattle.std.proofs.Common.{◌≡◌, take}
+use Rattle.std.specs.List.{filter}
+use Rattle.rule_ends.specs.ChosenRules.{begins_at}
+use Rattle.dom_trans.proofs.dom_rules.DomRules.beginning_at.Given as goal
+
+abbrev pub invariant-loop-number : goal.invariant-loop-number
+invariant-loop-number l = l.found.items ≡ filter (begins_at l.self l.a) (take l.number-index l.numbers)
