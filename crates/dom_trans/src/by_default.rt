@@ -60,7 +60,7 @@ impl<'p> RulesByDefault<'p> {
         })
     }
 
-    /// Those whose default is that type.
+    /// The rules whose default is that type.
     pub fn rules_to(&self, alloc: Global, b: u32) -> Result<Vec<u32>, AllocError>
         requires least { 1 ≤ b }
         requires most { b ≤ self.now.policy.symbols.types.nprim }
@@ -69,7 +69,7 @@ impl<'p> RulesByDefault<'p> {
         rules_at(alloc, &self.numbers, self.groups.places(b))
     }
 
-    /// How many those are.
+    /// How many rules have that type as their default.
     pub fn count_to(&self, b: u32) -> usize
         requires least { 1 ≤ b }
         requires most { b ≤ self.now.policy.symbols.types.nprim }

@@ -90,7 +90,7 @@ impl<'p, 'a, R: LinedEntry, const ROW: u8> TableLines<'p, 'a, R, ROW> {
 }
 
 impl<'p, 'a, R: NamedEntry, const ROW: u8> TableLines<'p, 'a, R, ROW> {
-    /// Those of the name, or all where none is given, in file order.
+    /// The lines of the entries of a name, or of all where none is given, in file order.
     #[tactic(auto, using(crate::proofs::NamedEntries::chosen_there, crate::proofs::NamedEntries::chosen_lines, info_lines::proofs::FileOrder::as_many))]
     pub fn named(
         alloc: Global,
