@@ -14,9 +14,9 @@ use Rattle.pol_expand.proofs.Values.{same_tests}
 use Rattle.pol_fields.specs.declared.TableKind.TheVariants.{Classes}
 use Rattle.pol_symbols.specs.PolicySymbols.{value_in}
 use Rattle.pol_file.specs.declared.Parts.{Parts}
-use Rattle.pol_rules.specs.declared.RulePart.{RulePart}
-use Rattle.pol_rules.specs.declared.RulePart.TheVariants.{Default}
-use Rattle.pol_rules.specs.StoredRules.{StoredRule, stored_rules}
+use Rattle.pol_read.specs.declared.RulePart.{RulePart}
+use Rattle.pol_read.specs.declared.RulePart.TheVariants.{Default}
+use Rattle.pol_read.specs.StoredRules.{StoredRule, stored_rules}
 use Rattle.rule_order.specs.ListedOrder.{AreRules, is_listed_before, ordered_by, with_number}
 use Rattle.rule_ends.specs.ChosenRules.{AreRulesFrom, any_joins, begins_at, ends_at, is_between_types, joins, passes, rule_passes, targets_from, targets_of_rules}
 use Rattle.rule_ends.specs.PlainTypes.{is_type_value}

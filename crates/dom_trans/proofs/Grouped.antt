@@ -7,9 +7,9 @@ use Rattle.std.proofs.lemmas.List.{length-map}
 use Rattle.std.proofs.lemmas.List.Elements.{All-weaker}
 use Rattle.pol_bitmap.proofs.Elements.{range_holds}
 use Rattle.pol_file.specs.declared.Parts.{Parts}
-use Rattle.pol_rules.specs.declared.RulePart.{RulePart}
-use Rattle.pol_rules.specs.declared.RulePart.TheVariants.{Default}
-use Rattle.pol_rules.specs.StoredRules.{StoredRule, stored_rules}
+use Rattle.pol_read.specs.declared.RulePart.{RulePart}
+use Rattle.pol_read.specs.declared.RulePart.TheVariants.{Default}
+use Rattle.pol_read.specs.StoredRules.{StoredRule, stored_rules}
 use Rattle.value_groups.specs.Inner.Grouping.{group_of, is_value_at, places_of}
 use Rattle.rule_ends.specs.ChosenRules.{passes}
 use Rattle.rule_ends.proofs.Anys.{filter_agree}

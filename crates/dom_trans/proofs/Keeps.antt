@@ -10,13 +10,13 @@ use Rattle.pol_commons.specs.Permissions.{mask_has}
 use Rattle.pol_symbols.specs.declared.Symbols.{Symbols}
 use Rattle.pol_symbols.specs.PolicySymbols.{value_in, permission_value_in}
 use Rattle.pol_file.specs.declared.Parts.{Parts}
-use Rattle.pol_rules.specs.declared.RuleKind.{RuleKind}
-use Rattle.pol_rules.specs.declared.RuleKind.TheVariants.{Allow, TypeTransition}
-use Rattle.pol_rules.specs.declared.RulePart.{RulePart}
-use Rattle.pol_rules.specs.declared.RulePart.TheVariants.{Perms}
-use Rattle.pol_rules.specs.declared.RuleEnds.{RuleEnds}
-use Rattle.pol_rules.specs.StoredRules.{StoredRule, ends_of, stored_rules}
-use Rattle.pol_rules.proofs.RulesDeclared.{rule_with_ends}
+use Rattle.pol_read.specs.declared.RuleKind.{RuleKind}
+use Rattle.pol_read.specs.declared.RuleKind.TheVariants.{Allow, TypeTransition}
+use Rattle.pol_read.specs.declared.RulePart.{RulePart}
+use Rattle.pol_read.specs.declared.RulePart.TheVariants.{Perms}
+use Rattle.pol_read.specs.declared.RuleEnds.{RuleEnds}
+use Rattle.pol_read.specs.StoredRules.{StoredRule, ends_of, stored_rules}
+use Rattle.pol_read.proofs.RulesDeclared.{rule_with_ends}
 use Rattle.pol_cursor.proofs.Ranges.{filter_range_one}
 use Rattle.rule_ends.specs.declared.RulesWithEnds.{RulesWithEnds}
 use Rattle.rule_ends.specs.Inner.EndTables.{AreEndsOf}

@@ -7,11 +7,11 @@ use Rattle.pol_commons.specs.Permissions.{mask_has}
 use Rattle.pol_symbols.specs.declared.Symbols.{Symbols}
 use Rattle.pol_symbols.specs.PolicySymbols.{value_in, permission_value_in}
 use Rattle.pol_file.specs.declared.Parts.{Parts}
-use Rattle.pol_rules.specs.declared.RuleKind.{RuleKind}
-use Rattle.pol_rules.specs.declared.RuleKind.TheVariants.{Allow, TypeTransition}
-use Rattle.pol_rules.specs.declared.RulePart.{RulePart}
-use Rattle.pol_rules.specs.declared.RulePart.TheVariants.{Perms, Default}
-use Rattle.pol_rules.specs.StoredRules.{StoredRule, stored_rules}
+use Rattle.pol_read.specs.declared.RuleKind.{RuleKind}
+use Rattle.pol_read.specs.declared.RuleKind.TheVariants.{Allow, TypeTransition}
+use Rattle.pol_read.specs.declared.RulePart.{RulePart}
+use Rattle.pol_read.specs.declared.RulePart.TheVariants.{Perms, Default}
+use Rattle.pol_read.specs.StoredRules.{StoredRule, stored_rules}
 use Rattle.rule_ends.specs.ChosenRules.{rule_passes, any_joins}
 use Rattle.dom_trans.specs.declared.permission.Permission.{Permission}
 

@@ -1,6 +1,6 @@
 ghost use Rattle.std.specs.Prelude.{◌≡◌, ◌≤◌, ◌<◌, ◌^◌, IfOk, if◌then◌else◌, length, map, nat_le, slice_index};
 ghost use Rattle.std.specs.List.{All, filter};
-ghost use Rattle.pol_rules.specs.StoredRules.{stored_rules};
+ghost use Rattle.pol_read.specs.StoredRules.{stored_rules};
 ghost use Rattle.rule_order.specs.ListedOrder.{AreRules};
 ghost use Rattle.dom_trans.specs.Grants.{has_default};
 ghost use Rattle.dom_trans.specs.Inner.ByDefault.{default_value};

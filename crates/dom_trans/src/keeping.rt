@@ -1,7 +1,7 @@
 // The rules that a graph of transitions keeps, found in one pass over all rules.
 ghost use Rattle.std.specs.Prelude.{◌≡◌, ◌≤◌, ◌+◌, true, Some, IfOk, OnOk, length, slice_get};
-ghost use Rattle.pol_rules.specs.DeclaredRules.{IsDeclaredRule};
-ghost use Rattle.pol_rules.specs.StoredRules.{stored, stored_rules};
+ghost use Rattle.pol_read.specs.DeclaredRules.{IsDeclaredRule};
+ghost use Rattle.pol_read.specs.StoredRules.{stored, stored_rules};
 ghost use Rattle.pol_file.specs.declared.Parts.{Parts};
 ghost use Rattle.rule_ends.specs.ChosenRules.{has_type_ends};
 ghost use Rattle.rule_ends.specs.Inner.EndTables.{AreEndsOf};

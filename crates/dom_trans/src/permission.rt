@@ -1,6 +1,6 @@
 ghost use Rattle.std.specs.Prelude.{◌≡◌, ◌==◌};
 ghost use Rattle.std.specs.Int.{bit_at};
-ghost use Rattle.pol_rules.specs.StoredRules.{stored};
+ghost use Rattle.pol_read.specs.StoredRules.{stored};
 ghost use Rattle.dom_trans.specs.Grants.{permission_named, gives, is_value, sets_default, part_has_default};
 ghost use Rattle.dom_trans.specs.Inner.Targets.{part_sets};
 

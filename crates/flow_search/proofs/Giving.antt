@@ -7,7 +7,7 @@ use Rattle.std.proofs.lemmas.List.Sorted.{Contains-permutation, IsPermutation-sy
 use Rattle.std.proofs.lemmas.List.FromFn.{get_or-range_with_len, length-range_with_len}
 use Rattle.pol_file.specs.declared.Parts.{Parts}
 use Rattle.pol_expand.proofs.Values.{filter_rises}
-use Rattle.pol_rules.specs.StoredRules.{stored_rules}
+use Rattle.pol_read.specs.StoredRules.{stored_rules}
 use Rattle.walk_enum.proofs.Ascending.{ascends_from_increasing, same_numbers}
 use Rattle.walk_enum.proofs.Elements.{from_filter, in_cases, in_filter, in_first, in_rest, not_in_nothing, passes_filter}
 use Rattle.rule_order.specs.ListedOrder.{AreRules, in_rule_order, is_listed_before, ordered_by, with_number}

@@ -5,7 +5,7 @@ use Rattle.std.proofs.lemmas.Bool.{le-leb, leb-true}
 use Rattle.std.proofs.lemmas.List.{take_all}
 use Rattle.pol_file.specs.declared.Parts.{Parts}
 use Rattle.walk_enum.proofs.Elements.{from_filter, in_filter, in_first, not_in_nothing, passes_filter, range_high}
-use Rattle.pol_rules.specs.StoredRules.{stored_rules}
+use Rattle.pol_read.specs.StoredRules.{stored_rules}
 use Rattle.rule_order.specs.ListedOrder.{in_rule_order}
 use Rattle.perm_map.specs.PermissionMap.{Weights}
 use Rattle.flow_search.specs.FlowWeights.{greatest}

@@ -17,7 +17,7 @@ use Rattle.pol_symbols.specs.PolicySymbols.{index_in, permissions_of}
 use Rattle.pol_symbols.proofs.SymbolSearch.{primary_found, primary_is_within, primary_missing}
 use Rattle.pol_cursor.proofs.Ranges.{range_more, filter_range_one}
 use Rattle.pol_file.specs.declared.Parts.{Parts}
-use Rattle.pol_rules.specs.StoredRules.{StoredRule, stored_rules}
+use Rattle.pol_read.specs.StoredRules.{StoredRule, stored_rules}
 use Rattle.perm_map.specs.declared.Direction.{Direction}
 use Rattle.perm_map.specs.PermissionMap.{Entry, Weights, weights_of}
 use Rattle.flow_search.specs.declared.class_weights.PermissionWeight.{PermissionWeight}

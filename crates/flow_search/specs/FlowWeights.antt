@@ -8,11 +8,11 @@ use Rattle.pol_commons.specs.Permissions.{has_permission}
 use Rattle.pol_classes.specs.declared.ClassRec.{ClassRec}
 use Rattle.pol_symbols.specs.declared.Symbols.{Symbols}
 use Rattle.pol_symbols.specs.PolicySymbols.{permissions_of}
-use Rattle.pol_rules.specs.declared.RuleKind.{RuleKind}
-use Rattle.pol_rules.specs.declared.RuleKind.TheVariants.{Allow}
-use Rattle.pol_rules.specs.declared.RulePart.{RulePart}
-use Rattle.pol_rules.specs.declared.RulePart.TheVariants.{Perms}
-use Rattle.pol_rules.specs.StoredRules.{StoredRule}
+use Rattle.pol_read.specs.declared.RuleKind.{RuleKind}
+use Rattle.pol_read.specs.declared.RuleKind.TheVariants.{Allow}
+use Rattle.pol_read.specs.declared.RulePart.{RulePart}
+use Rattle.pol_read.specs.declared.RulePart.TheVariants.{Perms}
+use Rattle.pol_read.specs.StoredRules.{StoredRule}
 use Rattle.perm_map.specs.declared.Direction.{Direction}
 use Rattle.perm_map.specs.declared.Direction.TheVariants.{Read, Write, Both, No, Unmapped}
 use Rattle.perm_map.specs.PermissionMap.{Weights}

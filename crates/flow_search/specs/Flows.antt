@@ -2,7 +2,7 @@
 use Rattle.std.specs.Prelude.{ℕ, Bool, nat_le, max, Option, Some, None, List, [], length, map, slice_get, if◌then◌else◌}
 use Rattle.std.specs.List.{filter, range_with_len}
 use Rattle.pol_file.specs.declared.Parts.{Parts}
-use Rattle.pol_rules.specs.StoredRules.{StoredRule, stored_rules}
+use Rattle.pol_read.specs.StoredRules.{StoredRule, stored_rules}
 use Rattle.rule_order.specs.ListedOrder.{in_rule_order}
 use Rattle.rule_ends.specs.ChosenRules.{joins}
 use Rattle.rule_ends.specs.PlainTypes.{are_two_types}

@@ -1,6 +1,6 @@
 ghost use Rattle.std.specs.Prelude.{◌≡◌, ◌≤◌, IfOk, nat_le};
-ghost use Rattle.pol_rules.specs.declared.RuleKind.TheVariants.{Allow};
-ghost use Rattle.pol_rules.specs.StoredRules.{stored};
+ghost use Rattle.pol_read.specs.declared.RuleKind.TheVariants.{Allow};
+ghost use Rattle.pol_read.specs.StoredRules.{stored};
 ghost use Rattle.perm_map.specs.PermissionMap.{weights_of};
 ghost use Rattle.flow_search.specs.FlowWeights.{class_of, inwards, mask_weight, outwards, part_weight, rule_weight};
 

@@ -1,6 +1,6 @@
 ghost use Rattle.std.specs.Prelude.{◌≡◌, ◌≤◌, ◌<◌, [], IfOk, length, max, slice_index_or, if◌then◌else◌};
-ghost use Rattle.pol_rules.specs.declared.RuleKind.TheVariants.{Allow};
-ghost use Rattle.pol_rules.specs.StoredRules.{stored, stored_rules};
+ghost use Rattle.pol_read.specs.declared.RuleKind.TheVariants.{Allow};
+ghost use Rattle.pol_read.specs.StoredRules.{stored, stored_rules};
 ghost use Rattle.perm_map.specs.PermissionMap.{weights_of};
 ghost use Rattle.flow_search.specs.FlowWeights.{class_of, inwards, mask_weight, outwards, part_weight, rule_weight};
 ghost use Rattle.flow_search.specs.Flows.{flow_weight, given_by, weight_of_rule};

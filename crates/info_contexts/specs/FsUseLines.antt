@@ -5,7 +5,7 @@ use Rattle.pol_symbols.specs.declared.symbols.Symbols.{Symbols}
 use Rattle.pol_symbols.specs.PolicySymbols.{name_in}
 use Rattle.pol_texts.specs.NameTexts.{name_text}
 use Rattle.pol_texts.specs.NumberNames.{behaviour_word}
-use Rattle.pol_context.specs.ContextText.{context_text}
+use Rattle.pol_mls.specs.ContextText.{context_text}
 use Rattle.pol_contexts.specs.declared.fsuse_rec.FsUseRec.{FsUseRec}
 use Rattle.info_contexts.specs.NamedEntries.{of_name}
 

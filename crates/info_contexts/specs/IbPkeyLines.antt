@@ -5,7 +5,7 @@ use Rattle.pol_symbols.specs.declared.symbols.Symbols.{Symbols}
 use Rattle.pol_symbols.specs.PolicySymbols.{name_in}
 use Rattle.pol_texts.specs.AddressTexts.{groups_text}
 use Rattle.pol_texts.specs.NumberTexts.{keys_text}
-use Rattle.pol_context.specs.ContextText.{context_text}
+use Rattle.pol_mls.specs.ContextText.{context_text}
 use Rattle.pol_contexts.specs.declared.ibpkey_rec.IbPkeyRec.{IbPkeyRec}
 
 -- a prefix and the keys under it

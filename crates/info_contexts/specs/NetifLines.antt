@@ -4,7 +4,7 @@ use Rattle.pol_cursor.specs.References.{Named, Placed}
 use Rattle.pol_symbols.specs.declared.symbols.Symbols.{Symbols}
 use Rattle.pol_symbols.specs.PolicySymbols.{name_in}
 use Rattle.pol_texts.specs.NameTexts.{name_text}
-use Rattle.pol_context.specs.ContextText.{context_text}
+use Rattle.pol_mls.specs.ContextText.{context_text}
 use Rattle.pol_contexts.specs.declared.named_rec.NamedRec.{NamedRec}
 use Rattle.info_contexts.specs.NamedEntries.{of_name}
 

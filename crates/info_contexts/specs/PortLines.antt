@@ -5,7 +5,7 @@ use Rattle.pol_symbols.specs.declared.symbols.Symbols.{Symbols}
 use Rattle.pol_symbols.specs.PolicySymbols.{name_in}
 use Rattle.pol_texts.specs.NumberNames.{protocol_name}
 use Rattle.pol_texts.specs.NumberTexts.{ports_text}
-use Rattle.pol_context.specs.ContextText.{context_text}
+use Rattle.pol_mls.specs.ContextText.{context_text}
 use Rattle.pol_contexts.specs.declared.port_rec.PortRec.{PortRec}
 
 -- portcon PROTOCOL PORTS CONTEXT

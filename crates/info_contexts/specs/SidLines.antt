@@ -4,7 +4,7 @@ use Rattle.pol_cursor.specs.References.{Named, Placed}
 use Rattle.pol_symbols.specs.declared.symbols.Symbols.{Symbols}
 use Rattle.pol_symbols.specs.PolicySymbols.{name_in}
 use Rattle.pol_texts.specs.NumberNames.{sid_name}
-use Rattle.pol_context.specs.ContextText.{context_text}
+use Rattle.pol_mls.specs.ContextText.{context_text}
 use Rattle.pol_contexts.specs.declared.sid_rec.SidRec.{SidRec}
 use Rattle.info_contexts.specs.NamedEntries.{of_name}
 

@@ -1,8 +1,8 @@
 // Contexts in lines.
 ghost use Rattle.std.specs.Prelude.{◌≡◌, ◌++◌, OnOk};
-ghost use Rattle.pol_context.specs.ContextText.{context_text};
+ghost use Rattle.pol_mls.specs.ContextText.{context_text};
 
-use pol_context::{ContextView, context_text};
+use pol_mls::{ContextView, context_text};
 use pol_cursor::Names;
 use std::alloc::AllocError;
 

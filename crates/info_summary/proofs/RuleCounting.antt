@@ -11,15 +11,15 @@ use Rattle.pol_cursor.specs.References.{Placed}
 use Rattle.pol_conditionals.specs.declared.CondNodeRec.{CondNodeRec}
 use Rattle.pol_conditionals.specs.CondNodeRecord.{rules_of_branch as access_vectors_of}
 use Rattle.info_lines.proofs.FileOrder.{first_of, none_of}
-use Rattle.pol_rules.proofs.RuleSums.{node_length}
+use Rattle.pol_read.proofs.RuleSums.{node_length}
 use Rattle.pol_symbols.specs.declared.Symbols.{Symbols}
 use Rattle.pol_trans.specs.declared.NameTrans.{NameTrans}
 use Rattle.pol_trans.specs.declared.NameTrans.TheVariants.{Entries, Groups}
 use Rattle.pol_file.specs.declared.Parts.{Parts}
-use Rattle.pol_rules.specs.declared.RuleKind.{RuleKind}
-use Rattle.pol_rules.specs.declared.RuleKind.TheVariants.{Allow, Auditallow, Dontaudit, AllowXperm, AuditallowXperm, DontauditXperm, TypeTransition, TypeChange, TypeMember, RoleAllow, RoleTransition, RangeTransition}
-use Rattle.pol_rules.specs.StoredRules.{StoredRule, av_rule, rules_of_node, rules_of_nodes, role_trans_rule, role_allow_rule, name_rules, name_trans_rule, rules_of_group, rules_of_datum, range_trans_rule, stored_rules}
-use Rattle.pol_rules.specs.RuleOrder.{kind_number}
+use Rattle.pol_read.specs.declared.RuleKind.{RuleKind}
+use Rattle.pol_read.specs.declared.RuleKind.TheVariants.{Allow, Auditallow, Dontaudit, AllowXperm, AuditallowXperm, DontauditXperm, TypeTransition, TypeChange, TypeMember, RoleAllow, RoleTransition, RangeTransition}
+use Rattle.pol_read.specs.StoredRules.{StoredRule, av_rule, rules_of_node, rules_of_nodes, role_trans_rule, role_allow_rule, name_rules, name_trans_rule, rules_of_group, rules_of_datum, range_trans_rule, stored_rules}
+use Rattle.pol_read.specs.RuleOrder.{kind_number}
 use Rattle.info_summary.specs.RuleCounts.{kind_counts}
 use Rattle.info_summary.proofs.Counting.{more_of_number, within}
 

@@ -7,7 +7,7 @@ use Rattle.pol_cursor.specs.Laws.{IsReadAgain, IsReadFromSpelling}
 use Rattle.pol_cursor.specs.FileNames.{name_length_at, name_bytes_at}
 use Rattle.pol_cursor.proofs.Laws.{Reads-done, Reads-part, Reads-number, Reads-number_if, Reads-string, Reads-string_if, Again-done, Again-part, Again-as, Again-number, Again-number_if, Again-string-of, Again-string_if}
 use Rattle.pol_cursor.proofs.NameLaws.{name_spelled, name_again}
-use Rattle.pol_context.proofs.ContextLaws.{context_spelled, context_again}
+use Rattle.pol_mls.proofs.ContextLaws.{context_spelled, context_again}
 use Rattle.pol_contexts.specs.SidRecord.{sid_at, spell_sid, SidFits}
 use Rattle.pol_contexts.specs.NamedRecord.{named_at, spell_named, NamedFits}
 use Rattle.pol_contexts.specs.PortRecord.{port_at, spell_port, PortFits}

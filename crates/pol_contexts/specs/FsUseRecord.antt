@@ -8,7 +8,7 @@ use Rattle.pol_cursor.specs.Spelling.{bytes_of}
 use Rattle.pol_fields.specs.declared.fault.Cause.{Cause}
 use Rattle.pol_fields.specs.declared.fault.Cause.TheVariants.{BadBehaviour}
 use Rattle.pol_cursor.specs.FileNames.{name_at, spell_name, NameFits, name_in, name_end}
-use Rattle.pol_context.specs.ContextRecord.{context_at, spell_context, ContextFits, context_in, HasContext, context_references}
+use Rattle.pol_mls.specs.ContextRecord.{context_at, spell_context, ContextFits, context_in, HasContext, context_references}
 use Rattle.pol_contexts.specs.declared.fsuse_rec.FsUseRec.{FsUseRec}
 
 -- ---- reading and spelling

@@ -6,7 +6,7 @@ use Rattle.pol_cursor.specs.Parts.{num, number}
 use Rattle.pol_cursor.specs.References.{Placed, Reference}
 use Rattle.pol_cursor.specs.Spelling.{bytes_of}
 use Rattle.pol_cursor.specs.FileNames.{name_length_at, name_bytes_at, NameFits}
-use Rattle.pol_context.specs.ContextRecord.{context_at, spell_context, ContextFits, context_in, HasContext, context_references}
+use Rattle.pol_mls.specs.ContextRecord.{context_at, spell_context, ContextFits, context_in, HasContext, context_references}
 use Rattle.pol_contexts.specs.declared.ibendport_rec.IbEndPortRec.{IbEndPortRec}
 
 -- ---- reading and spelling

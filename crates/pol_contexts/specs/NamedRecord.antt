@@ -4,7 +4,7 @@ use Rattle.pol_fields.specs.declared.field.Field.{Field}
 use Rattle.pol_cursor.specs.Outcome.{Reader, ◌>>=◌, done}
 use Rattle.pol_cursor.specs.References.{Placed, Reference}
 use Rattle.pol_cursor.specs.FileNames.{name_at, spell_name, NameFits, name_in, name_end}
-use Rattle.pol_context.specs.ContextRecord.{context_at, spell_context, ContextFits, context_in, context_length, context_end, HasContext, context_references}
+use Rattle.pol_mls.specs.ContextRecord.{context_at, spell_context, ContextFits, context_in, context_length, context_end, HasContext, context_references}
 use Rattle.pol_contexts.specs.declared.named_rec.NamedRec.{NamedRec}
 
 -- ---- reading and spelling

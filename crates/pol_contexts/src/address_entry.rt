@@ -6,7 +6,7 @@ ghost use Rattle.pol_contexts.specs.AddressRecord.{address_at, address_in, spell
 use crate::address_rec::AddressRec;
 use crate::entry::{Entry, Standing};
 use crate::kinds::{AddressView, Node, Node6};
-use pol_context::{ContextView, read_context};
+use pol_mls::{ContextView, read_context};
 use pol_cursor::{Cursor, Names, Part, ReadAlone, Written, array_in};
 use pol_fields::fields::{NODE_ADDRESS, NODE_MASK, NODE6_ADDRESS, NODE6_MASK};
 use pol_fields::{Fault, Field};

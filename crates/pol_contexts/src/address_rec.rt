@@ -1,4 +1,4 @@
-use pol_context::ContextRec;
+use pol_mls::ContextRec;
 
 /// The context of addresses of that many bytes, owned.
 #[derive(Drop)]

@@ -7,7 +7,7 @@ use crate::causes::behaviour_cause;
 use crate::entry::{Entry, Standing};
 use crate::fsuse_rec::FsUseRec;
 use crate::kinds::{FsUse, FsUseView};
-use pol_context::{ContextView, read_context};
+use pol_mls::{ContextView, read_context};
 use pol_cursor::{
     ByteList, Cursor, Names, Part, ReadAlone, Written, name_end, name_standing, read_name, refuse,
     u32_in,
@@ -38,7 +38,7 @@ impl<'a> FsUseView<'a> {
     }
 
     /// Its context.
-    #[tactic(auto, using(pol_cursor::proofs::Facts::length_part, pol_context::proofs::Places::context_ends))]
+    #[tactic(auto, using(pol_cursor::proofs::Facts::length_part, pol_mls::proofs::ContextPlaces::context_ends))]
     pub fn context(&self) -> ContextView<'a>
         ensures { result ≡ record { place = self.now.place + 8 + length self.now.value.name; value = self.now.value.context } }
     {

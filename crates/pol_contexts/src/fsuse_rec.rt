@@ -1,4 +1,4 @@
-use pol_context::ContextRec;
+use pol_mls::ContextRec;
 use pol_cursor::ByteList;
 
 /// How the files of a file system get their contexts, owned.

@@ -6,7 +6,7 @@ ghost use Rattle.pol_contexts.specs.IbEndPortRecord.{ibendport_at, ibendport_in,
 use crate::entry::{Entry, Standing};
 use crate::ibendport_rec::IbEndPortRec;
 use crate::kinds::{IbEndPort, IbEndPortView};
-use pol_context::{ContextView, read_context};
+use pol_mls::{ContextView, read_context};
 use pol_cursor::{
     ByteList, Cursor, Names, Part, ReadAlone, Written, read_name_bytes, read_name_length,
     string_in, u32_in,
@@ -38,7 +38,7 @@ impl<'a> IbEndPortView<'a> {
     }
 
     /// Its context.
-    #[tactic(auto, using(pol_cursor::proofs::Facts::length_part, pol_context::proofs::Places::context_ends))]
+    #[tactic(auto, using(pol_cursor::proofs::Facts::length_part, pol_mls::proofs::ContextPlaces::context_ends))]
     pub fn context(&self) -> ContextView<'a>
         ensures { result ≡ record { place = self.now.place + 8 + length self.now.value.name; value = self.now.value.context } }
     {

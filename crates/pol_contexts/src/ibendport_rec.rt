@@ -1,4 +1,4 @@
-use pol_context::ContextRec;
+use pol_mls::ContextRec;
 use pol_cursor::ByteList;
 
 /// The context of an InfiniBand device at a port, owned.

@@ -1,4 +1,4 @@
-use pol_context::ContextRec;
+use pol_mls::ContextRec;
 
 /// The context of a range of InfiniBand partition keys, owned.
 #[derive(Drop)]

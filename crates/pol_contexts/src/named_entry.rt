@@ -5,7 +5,7 @@ ghost use Rattle.pol_contexts.specs.NamedRecord.{named_at, named_in, spell_named
 use crate::entry::{Entry, EntryKind, Standing};
 use crate::kinds::NamedView;
 use crate::named_rec::NamedRec;
-use pol_context::{ContextView, context_end, read_context};
+use pol_mls::{ContextView, context_end, read_context};
 use pol_cursor::{
     ByteList, Cursor, Names, Part, ReadAlone, Written, name_end, name_standing, read_name,
 };
@@ -27,7 +27,7 @@ impl<'a> NamedView<'a> {
     }
 
     /// Its own context.
-    #[tactic(auto, using(pol_cursor::proofs::Facts::length_part, pol_context::proofs::Places::context_ends))]
+    #[tactic(auto, using(pol_cursor::proofs::Facts::length_part, pol_mls::proofs::ContextPlaces::context_ends))]
     pub fn context(&self) -> ContextView<'a>
         ensures { result ≡ record { place = context_place self.now; value = self.now.value.context } }
     {
@@ -35,7 +35,7 @@ impl<'a> NamedView<'a> {
     }
 
     /// The context of its files, or of the packets that it receives.
-    #[tactic(auto, using(pol_cursor::proofs::Facts::length_part, pol_context::proofs::Places::context_ends))]
+    #[tactic(auto, using(pol_cursor::proofs::Facts::length_part, pol_mls::proofs::ContextPlaces::context_ends))]
     pub fn second_context(&self) -> ContextView<'a>
         ensures { result ≡ record { place = second_place self.now; value = self.now.value.second_context } }
     {

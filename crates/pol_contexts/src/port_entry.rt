@@ -4,7 +4,7 @@ ghost use Rattle.pol_contexts.specs.PortRecord.{port_at, port_in, spell_port, Ha
 use crate::entry::{Entry, Standing};
 use crate::kinds::{Port, PortView};
 use crate::port_rec::PortRec;
-use pol_context::{ContextView, read_context};
+use pol_mls::{ContextView, read_context};
 use pol_cursor::{Cursor, Names, Part, ReadAlone, Written, u32_in};
 use pol_fields::Fault;
 use pol_fields::fields::{PORT_HIGH, PORT_LOW, PORT_PROTOCOL};

@@ -2,3 +2,4 @@ pub mod ReadValues
 pub mod PolicyTypes
 pub mod Acceptances
 pub mod Sequences
+pub mod HeaderLaws

@@ -3,3 +3,4 @@ pub mod PolicyParts
 pub mod PolicyReferences
 pub mod Acceptance
 pub mod TypeValues
+pub mod HeaderRecord

@@ -5,7 +5,7 @@ use Rattle.pol_cursor.specs.Outcome.{Reader, ◌>>=◌, done}
 use Rattle.pol_cursor.specs.Parts.{end_at, counted, records_at}
 use Rattle.pol_cursor.specs.References.{placed}
 use Rattle.pol_bitmap.specs.Bitmap.{bitmap_at}
-use Rattle.pol_header.specs.HeaderRecord.{header_at}
+use Rattle.pol_file.specs.HeaderRecord.{header_at}
 use Rattle.pol_symbols.specs.PolicySymbols.{symbols_at}
 use Rattle.pol_avtab.specs.AvTables.{table_at as rule_table_at}
 use Rattle.pol_conditionals.specs.CondNodeList.{conditionals_at}

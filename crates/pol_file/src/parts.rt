@@ -1,11 +1,11 @@
 // The parts of a policy, in the order of the file.
+use crate::header_view::HeaderView;
 use crate::type_map::TypeMap;
 use pol_avtab::AvTable;
 use pol_bitmap::BitmapView;
 use pol_conditionals::Conditionals;
 use pol_contexts::Contexts;
 use pol_genfs::GenfsList;
-use pol_header::HeaderView;
 use pol_symbols::Symbols;
 use pol_trans::{NameTrans, RangeTransList, RoleAllowList, RoleTransList};
 

@@ -3,6 +3,7 @@ ghost use Rattle.std.specs.Prelude.{◌≡◌};
 ghost use Rattle.pol_cursor.specs.Outcome.{Yields};
 ghost use Rattle.pol_file.specs.PolicyParts.{front_at, rule_lists_at, label_lists_at, policy_at};
 
+use crate::header_view::read_header;
 use crate::parts::{Front, LabelLists, Parts, RuleLists};
 use crate::type_map::read_type_map;
 use pol_avtab::read_table;
@@ -13,7 +14,6 @@ use pol_cursor::{Cursor, ReadError};
 use pol_fields::TableKind;
 use pol_fields::fields::END_END;
 use pol_genfs::read_genfs;
-use pol_header::read_header;
 use pol_symbols::read_symbols;
 use pol_trans::{read_name_trans, read_range_trans, read_role_allows, read_role_trans};
 use std::alloc::Global;

@@ -7,7 +7,7 @@ use Rattle.pol_cursor.specs.Laws.{IsReadAgain, IsReadFromSpelling}
 use Rattle.pol_cursor.proofs.Laws.{Reads-done, Reads-part, Reads-number, Again-done, Again-part, Again-as, Again-number, counted_records_spelled, counted_records_again}
 use Rattle.pol_cursor.proofs.NameLaws.{name_spelled, name_again}
 use Rattle.pol_genfs.specs.GenfsRecord.{path_at, spell_path, PathFits, genfs_at, spell_genfs, GenfsFits}
-use Rattle.pol_context.proofs.ContextLaws.{context_spelled, context_again}
+use Rattle.pol_mls.proofs.ContextLaws.{context_spelled, context_again}
 
 pub path_spelled : IsReadFromSpelling path_at spell_path PathFits
 unfolding path_at

@@ -6,7 +6,7 @@ use Rattle.pol_cursor.specs.FileNames.{name_in, name_end}
 use Rattle.pol_cursor.specs.Parts.{num}
 use Rattle.pol_cursor.proofs.PlacedRuns.{run_placed_by}
 use Rattle.pol_cursor.proofs.Facts.{length_part}
-use Rattle.pol_context.proofs.Places.{context_ends}
+use Rattle.pol_mls.proofs.ContextPlaces.{context_ends}
 use Rattle.pol_genfs.specs.GenfsRecord.{path_in, path_length, path_end, HasPath}
 
 path_reaches : (bytes : List ℕ) (place : ℕ) → HasPath bytes place → place + path_length (path_in bytes place) ≡ path_end bytes place

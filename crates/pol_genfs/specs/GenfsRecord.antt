@@ -9,8 +9,8 @@ use Rattle.pol_cursor.specs.FileNames.{name_at, spell_name, NameFits, name_in, n
 use Rattle.pol_cursor.specs.References.{Placed, Reference, values_of}
 use Rattle.pol_cursor.specs.Runs.{run_in, HasRun, placed_from}
 use Rattle.pol_cursor.specs.Spelling.{bytes_of}
-use Rattle.pol_context.specs.ContextRecord.{context_at, spell_context, ContextFits, context_in, context_length, context_end, HasContext, context_references}
-use Rattle.pol_context.specs.declared.context_rec.ContextRec.{ContextRec}
+use Rattle.pol_mls.specs.ContextRecord.{context_at, spell_context, ContextFits, context_in, context_length, context_end, HasContext, context_references}
+use Rattle.pol_mls.specs.declared.context_rec.ContextRec.{ContextRec}
 use Rattle.pol_genfs.specs.declared.genfs_rec.GenfsPathRec.{GenfsPathRec}
 use Rattle.pol_genfs.specs.declared.genfs_rec.GenfsRec.{GenfsRec}
 

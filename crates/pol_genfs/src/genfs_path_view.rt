@@ -5,7 +5,7 @@ ghost use Rattle.pol_cursor.specs.References.{dangling_of};
 ghost use Rattle.pol_genfs.specs.GenfsRecord.{path_in, HasPath, class_place, class_references, context_of_path, path_references};
 
 use crate::genfs_rec::GenfsPathRec;
-use pol_context::{ContextView, context_end, read_context};
+use pol_mls::{ContextView, context_end, read_context};
 use pol_cursor::{
     ByteList, Copied, Cursor, Inner, Names, Record, RecordView, dangling, name_end, name_standing,
     read_name, u32_in,
@@ -50,7 +50,7 @@ impl<'a> GenfsPathView<'a> {
     }
 
     /// Their context.
-    #[tactic(auto, using(pol_cursor::proofs::Facts::length_part, pol_context::proofs::Places::context_ends))]
+    #[tactic(auto, using(pol_cursor::proofs::Facts::length_part, pol_mls::proofs::ContextPlaces::context_ends))]
     pub fn context(&self) -> ContextView<'a>
         ensures { result ≡ context_of_path self.now }
     {
@@ -69,7 +69,7 @@ impl<'a> GenfsPathView<'a> {
         }
     }
 
-    #[tactic(auto, using(pol_cursor::proofs::Facts::length_part, pol_context::proofs::Places::context_ends))]
+    #[tactic(auto, using(pol_cursor::proofs::Facts::length_part, pol_mls::proofs::ContextPlaces::context_ends))]
     fn dangling_class<N: Names>(&self, names: &N) -> Option<Fault>
         ensures { result ≡ dangling_of (N.named names.now) (class_references (class_place self.now) self.now.value.class) }
     {
@@ -114,7 +114,7 @@ impl Inner for GenfsPath {
 
     ghost ends = { path_end };
 
-    #[tactic(auto, using(pol_context::proofs::Places::context_ends))]
+    #[tactic(auto, using(pol_mls::proofs::ContextPlaces::context_ends))]
     fn end(bytes: &[u8], place: u32) -> u32 {
         context_end(bytes, name_end(bytes, place) + 4)
     }

@@ -1,4 +1,4 @@
-use pol_context::ContextRec;
+use pol_mls::ContextRec;
 use pol_cursor::{ByteList, OwnedList};
 
 /// The context of the files of a file system whose paths begin with a path, owned.

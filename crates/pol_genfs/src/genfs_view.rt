@@ -6,7 +6,7 @@ ghost use Rattle.pol_genfs.specs.GenfsRecord.{genfs_at, genfs_in, HasGenfs, path
 
 use crate::genfs_path_view::GenfsPath;
 use crate::genfs_rec::GenfsRec;
-use pol_context::ContextView;
+use pol_mls::ContextView;
 use pol_cursor::{
     ByteList, Copied, Cursor, Names, ReadAlone, Record, RecordView, Referring, Run, name_end,
     name_standing, read_name, read_run, u32_in,

@@ -2,7 +2,7 @@
 use Rattle.std.proofs.Common.{ℕ, Bool, Option, None, ◌==◌, List, []}
 use Rattle.pol_fields.specs.declared.field.Field.{Field}
 use Rattle.pol_fields.specs.declared.fields.TheConstants.{CLASS_DEFAULT_USER, CLASS_DEFAULT_ROLE, CLASS_DEFAULT_RANGE, CLASS_DEFAULT_TYPE}
-use Rattle.pol_header.specs.HeaderRecord.{identity_at, counts_at, header_at}
+use Rattle.pol_file.specs.HeaderRecord.{identity_at, counts_at, header_at}
 use Rattle.pol_bitmap.specs.Bitmap.{node_at, nodes_at, floor_after, bitmap_at}
 use Rattle.pol_expr.specs.ConditionRecord as condition
 use Rattle.pol_constraints.specs.ConstraintRecord as constraint

@@ -19,7 +19,7 @@ use Rattle.pol_trans.specs.RangeTransRecord.{range_trans_at}
 use Rattle.pol_trans.specs.NameTransRecord.{name_trans_at}
 use Rattle.pol_trans.specs.NameGroupRecord.{name_datum_at, name_group_at}
 use Rattle.pol_trans.specs.NameTransitions.{has_groups, entries_at, groups_at, name_transitions_at}
-use Rattle.pol_context.specs.ContextRecord.{context_at}
+use Rattle.pol_mls.specs.ContextRecord.{context_at}
 use Rattle.pol_contexts.specs.SidRecord.{sid_at}
 use Rattle.pol_contexts.specs.NamedRecord.{named_at}
 use Rattle.pol_contexts.specs.PortRecord.{port_at}

@@ -27,7 +27,7 @@ use Rattle.pol_avtab.specs.XPerms.{xperms_of}
 use Rattle.pol_avtab.specs.AvRecord.{is_extended, extended_at, data_at, part_at, av_at}
 use Rattle.pol_conditionals.specs.CondNodeRecord.{condnode_at}
 use Rattle.pol_trans.specs.RangeTransRecord.{range_trans_at}
-use Rattle.pol_context.specs.ContextRecord.{context_at}
+use Rattle.pol_mls.specs.ContextRecord.{context_at}
 use Rattle.pol_contexts.specs.SidRecord.{sid_at}
 use Rattle.pol_contexts.specs.NamedRecord.{named_at}
 use Rattle.pol_contexts.specs.PortRecord.{port_at}

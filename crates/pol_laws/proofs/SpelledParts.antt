@@ -6,7 +6,7 @@ use Rattle.pol_fields.specs.declared.fields.TheConstants.{ROLETRANS_COUNT, ROLEA
 use Rattle.pol_cursor.proofs.Laws.{Reads-part, Reads-done}
 use Rattle.pol_bitmap.specs.Bitmap.{bitmap_at, spell_bitmap, BitmapFits}
 use Rattle.pol_bitmap.proofs.Laws.{bitmap_spelled}
-use Rattle.pol_header.proofs.HeaderLaws.{header_spelled}
+use Rattle.pol_file.proofs.HeaderLaws.{header_spelled}
 use Rattle.pol_symtab.specs.SymbolTables.{Table, table_start}
 use Rattle.pol_commons.specs.declared.CommonRec.{CommonRec}
 use Rattle.pol_commons.specs.CommonRecord.{spell_common, CommonFits}

@@ -14,7 +14,7 @@ use Rattle.pol_conditionals.specs.declared.CondNodeRec.{CondNodeRec}
 use Rattle.pol_avtab.specs.AvRecord.{is_extended}
 use Rattle.pol_avtab.specs.XPerms.{xperms_of}
 use Rattle.pol_trans.specs.declared.RangeTransRec.{RangeTransRec}
-use Rattle.pol_context.specs.declared.ContextRec.{ContextRec}
+use Rattle.pol_mls.specs.declared.ContextRec.{ContextRec}
 use Rattle.pol_contexts.specs.declared.SidRec.{SidRec}
 use Rattle.pol_contexts.specs.declared.NamedRec.{NamedRec}
 use Rattle.pol_contexts.specs.declared.PortRec.{PortRec}

@@ -5,8 +5,8 @@ use Rattle.pol_fields.specs.declared.fields.TheConstants.{RANGE_N, RANGE_LOW, CO
 use Rattle.pol_cursor.specs.Parts.{counted, records_at, spell_counted}
 use Rattle.pol_cursor.specs.References.{placed}
 use Rattle.pol_mls.specs.RangeRecord.{range_at, spell_range}
-use Rattle.pol_context.specs.declared.ContextRec.{ContextRec}
-use Rattle.pol_context.specs.ContextRecord.{context_at, spell_context}
+use Rattle.pol_mls.specs.declared.ContextRec.{ContextRec}
+use Rattle.pol_mls.specs.ContextRecord.{context_at, spell_context}
 use Rattle.pol_contexts.specs.declared.SidRec.{SidRec}
 use Rattle.pol_contexts.specs.SidRecord.{sid_at, spell_sid}
 use Rattle.pol_make.specs.MadeSymbols.{bare_range}

@@ -2,7 +2,7 @@
 use Rattle.std.proofs.Common.{◌≡◌, ℕ, ◌+◌, ◌≤◌, List, ◌++◌, refl, ap, append_assoc, arith}
 use Rattle.std.proofs.lemmas.List.{append-nil}
 use Rattle.pol_fields.specs.declared.fields.TheConstants.{HEADER_MAGIC, HEADER_IDLEN, HEADER_ID, HEADER_VERSION, HEADER_CONFIG, HEADER_SYMTABS, HEADER_CONTEXTS}
-use Rattle.pol_header.specs.HeaderRecord.{identity, identity_at, counts_at, header_at, spell_identity, spell_counts, spell_header}
+use Rattle.pol_file.specs.HeaderRecord.{identity, identity_at, counts_at, header_at, spell_identity, spell_counts, spell_header}
 use Rattle.pol_symtab.specs.SymbolTables.{bare, spell_table}
 use Rattle.pol_commons.specs.CommonRecord.{spell_common}
 use Rattle.pol_datums.specs.RoleRecord.{spell_role}

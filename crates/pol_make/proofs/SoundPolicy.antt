@@ -4,7 +4,7 @@ use Rattle.std.proofs.lemmas.List.{append-nil}
 use Rattle.std.proofs.lemmas.Bool.{le-leb}
 use Rattle.pol_fields.specs.declared.fields.TheConstants.{END_END}
 use Rattle.pol_cursor.specs.Outcome.{Outcome, Got, Bad}
-use Rattle.pol_header.specs.declared.HeaderRec.{HeaderRec}
+use Rattle.pol_file.specs.declared.HeaderRec.{HeaderRec}
 use Rattle.pol_symtab.specs.SymbolTables.{BareTable}
 use Rattle.pol_datums.specs.declared.TypeRec.{TypeRec}
 use Rattle.pol_symbols.specs.declared.Symbols.{Symbols}

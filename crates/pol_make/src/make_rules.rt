@@ -9,9 +9,9 @@ use crate::make_symbols::bare_range;
 use crate::sets::set_of;
 use pol_avtab::{AvPart, AvRec, AvRecList};
 use pol_bitmap::{Set, SetList};
-use pol_context::ContextRec;
 use pol_contexts::{SidRec, SidRecList};
 use pol_cursor::OwnedList;
+use pol_mls::ContextRec;
 use std::alloc::{AllocError, Global};
 
 /// The table of rules.

@@ -2,3 +2,5 @@ pub mod MlsLaws
 pub mod NumberRuns
 pub mod RunTexts
 pub mod RangePlaces
+pub mod ContextLaws
+pub mod ContextPlaces

@@ -1,7 +1,12 @@
-//! The levels and ranges of MLS: records of the policy format, and their texts.
+//! The levels and ranges of MLS, and the security contexts that have them: records of the policy format, and their texts.
 #![tactic(auto)]
 
 mod causes;
+mod context_laws;
+mod context_rec;
+mod context_texts;
+mod context_view;
+mod context_write;
 mod level_rec;
 mod level_view;
 mod level_write;
@@ -13,9 +18,15 @@ mod run;
 mod run_text;
 mod texts;
 
+pub use context_laws::contexts_have_laws;
+pub use context_rec::{ContextRec, ContextRecList};
+pub use context_texts::context_text;
+pub use context_view::{ContextView, context_end, read_context};
 pub use level_rec::{LevelRec, LevelRecList};
 pub use level_view::{LevelView, read_level};
-pub use pol_cursor::{write_record as write_level, write_record as write_range};
+pub use pol_cursor::{
+    write_record as write_context, write_record as write_level, write_record as write_range,
+};
 pub use range_rec::{RangeRec, RangeRecList};
 pub use range_view::{RangeView, read_range};
 pub use record_laws::{levels_have_laws, ranges_have_laws};

@@ -1,13 +1,24 @@
-//! A policy that was accepted, with its stored rules.
+//! A policy that was accepted, with its stored rules by their numbers, and the order in which these are listed.
 #![tactic(auto)]
 
+mod declared_law;
+mod declared_value;
+mod key_law;
+mod name_index;
 mod policy;
+mod rule;
+mod rule_index;
+mod rule_order;
+mod rule_record;
 mod rules;
 mod sorting;
+mod stored;
+mod sums;
 
+pub use declared_law::declared_types_have_law;
+pub use key_law::rule_keys_have_law;
 pub use pol_file::{TypeMap, TypeMapRow};
-pub use pol_rules::{
-    Condition, Rule, RuleEnds, RuleKey, RuleKind, RulePart, RuleRecord, rule_kind, vector_ends,
-    vector_rule,
-};
 pub use policy::{Policy, read};
+pub use rule::{Condition, Rule, RuleEnds, RuleKind, RulePart};
+pub use rule_order::{RuleKey, rule_key};
+pub use rule_record::{RuleRecord, rule_kind, vector_ends, vector_rule};

@@ -3,6 +3,7 @@ ghost use Rattle.pol_conditionals.specs.CondNodeRecord.{node_condition};
 ghost use Rattle.pol_file.specs.Acceptance.{accept, undeclared, Accepts};
 ghost use Rattle.pol_file.specs.TypeValues.{IsTypeValue, HasTypeValues};
 
+use crate::rule_index::{RuleIndex, index_rules};
 use pol_avtab::AvTable;
 use pol_bitmap::BitmapView;
 use pol_conditionals::Conditionals;
@@ -13,7 +14,6 @@ use pol_expr::ConditionView;
 use pol_fields::TableKind;
 use pol_file::{Parts, read_file, row_of};
 use pol_genfs::GenfsList;
-use pol_rules::{RuleIndex, index_rules};
 use pol_symbols::Symbols;
 use pol_trans::{NameTrans, RangeTransList, RoleAllowList, RoleTransList};
 use std::alloc::{AllocError, Global};
@@ -44,7 +44,7 @@ impl<'a> Model for Policy<'a> {
     ghost use Rattle.pol_file.specs.declared.Parts.{Parts};
     ghost use Rattle.pol_file.specs.Acceptance.{accept};
     ghost use Rattle.pol_file.specs.TypeValues.{HasTypeValues};
-    ghost use Rattle.pol_rules.specs.Inner.RuleNumbers.{IsIndexOf};
+    ghost use Rattle.pol_read.specs.Inner.RuleNumbers.{IsIndexOf};
 
     ghost Value = { Parts };
 
@@ -203,7 +203,7 @@ pub fn read<'a>(alloc: Global, bytes: &'a [u8]) -> Result<Policy<'a>, ReadError>
 }
 
 // The policy of these parts of a file.
-#[tactic(auto, using(pol_rules::proofs::RuleCounts::accepted_has_few_rules, pol_file::proofs::Acceptances::accepted_has_type_values))]
+#[tactic(auto, using(crate::proofs::RuleCounts::accepted_has_few_rules, pol_file::proofs::Acceptances::accepted_has_type_values))]
 fn indexed<'a>(alloc: Global, bytes: &'a [u8], parts: Parts<'a>) -> Result<Policy<'a>, AllocError>
     requires size { length bytes.now ≤ 67108864 }
     requires accepted { accept bytes.now ≡ Ok parts }

@@ -1,14 +1,15 @@
 // The stored rules of a policy.
 ghost use Rattle.std.specs.Prelude.{◌≡◌, ◌<◌, ◌≤◌, Some, length, option_map, slice_get};
-ghost use Rattle.pol_rules.specs.StoredRules.{stored, ends_of, stored_rules};
-ghost use Rattle.pol_rules.specs.DeclaredRules.{IsDeclaredRule, AreDeclaredEnds};
+ghost use Rattle.pol_read.specs.StoredRules.{stored, ends_of, stored_rules};
+ghost use Rattle.pol_read.specs.DeclaredRules.{IsDeclaredRule, AreDeclaredEnds};
 
 use crate::policy::Policy;
-use pol_rules::{Rule, RuleEnds, ends_at, rule_at};
+use crate::rule::{Rule, RuleEnds};
+use crate::stored::{ends_at, rule_at};
 
 impl<'a> Policy<'a> {
     /// How many stored rules there are, at most 400,000,000.
-    #[tactic(auto, using(pol_rules::proofs::RuleSums::total_is))]
+    #[tactic(auto, using(crate::proofs::RuleSums::total_is))]
     pub fn rule_count(&self) -> u32
         ensures count { result ≡ length (stored_rules self.now) }
         ensures limited { result ≤ 400000000 }

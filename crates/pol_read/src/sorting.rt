@@ -1,10 +1,10 @@
 // Numbers of rules, put in the order in which the rules are listed.
 ghost use Rattle.std.specs.Prelude.{◌≡◌};
 ghost use Rattle.std.specs.List.Sorted.{IsPermutation};
-ghost use Rattle.pol_rules.specs.RuleOrder.{AreInRuleOrder, rank_key_of};
+ghost use Rattle.pol_read.specs.RuleOrder.{AreInRuleOrder, rank_key_of};
 
 use crate::policy::Policy;
-use pol_rules::{RuleKey, rule_key};
+use crate::rule_order::{RuleKey, rule_key};
 
 impl<'a> Policy<'a> {
     // The key of the rule of a number, where there is one.

@@ -3,8 +3,8 @@ use Rattle.std.proofs.Common.{◌≡◌, ℕ, ◌<◌, ◌^◌, length, arith}
 use Rattle.std.proofs.lemmas.List.{length-append}
 use Rattle.pol_cursor.proofs.Numbers.{length-bytes_of}
 use Rattle.pol_mls.specs.RangeRecord.{spell_range, RangeFits}
-use Rattle.pol_context.specs.declared.ContextRec.{ContextRec}
-use Rattle.pol_context.specs.ContextRecord.{spell_context, ContextFits}
+use Rattle.pol_mls.specs.declared.ContextRec.{ContextRec}
+use Rattle.pol_mls.specs.ContextRecord.{spell_context, ContextFits}
 use Rattle.pol_contexts.specs.declared.SidRec.{SidRec}
 use Rattle.pol_contexts.specs.declared.NamedRec.{NamedRec}
 use Rattle.pol_contexts.specs.declared.PortRec.{PortRec}

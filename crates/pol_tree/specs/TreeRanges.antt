@@ -4,7 +4,7 @@ use Rattle.std.specs.Prelude.{◌≡◌, length}
 use Rattle.std.specs.List.{AllByRecursion}
 use Rattle.pol_cursor.specs.Parts.{CountedFits}
 use Rattle.pol_bitmap.specs.Bitmap.{BitmapFits}
-use Rattle.pol_header.specs.HeaderRecord.{HeaderFits}
+use Rattle.pol_file.specs.HeaderRecord.{HeaderFits}
 use Rattle.pol_symtab.specs.SymbolTables.{TableFits}
 use Rattle.pol_commons.specs.CommonRecord.{CommonFits}
 use Rattle.pol_datums.specs.RoleRecord.{RoleFits}

@@ -3,8 +3,8 @@ use Rattle.std.specs.Prelude.{ℕ, List, ◌++◌, slice_index, if◌then◌else
 use Rattle.std.specs.List.{flat_map}
 use Rattle.pol_cursor.specs.Parts.{spell_counted}
 use Rattle.pol_bitmap.specs.Bitmap.{spell_bitmap}
-use Rattle.pol_header.specs.declared.HeaderRec.{HeaderRec}
-use Rattle.pol_header.specs.HeaderRecord.{spell_header}
+use Rattle.pol_file.specs.declared.HeaderRec.{HeaderRec}
+use Rattle.pol_file.specs.HeaderRecord.{spell_header}
 use Rattle.pol_symtab.specs.SymbolTables.{BareTable, spell_table}
 use Rattle.pol_commons.specs.CommonRecord.{spell_common}
 use Rattle.pol_datums.specs.RoleRecord.{spell_role}

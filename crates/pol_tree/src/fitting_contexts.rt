@@ -1,5 +1,5 @@
 // Contexts, and the records that have them.
-ghost use Rattle.pol_context.specs.ContextRecord.{ContextFits};
+ghost use Rattle.pol_mls.specs.ContextRecord.{ContextFits};
 ghost use Rattle.pol_contexts.specs.SidRecord.{SidFits};
 ghost use Rattle.pol_contexts.specs.NamedRecord.{NamedFits};
 ghost use Rattle.pol_contexts.specs.PortRecord.{PortFits};
@@ -11,10 +11,10 @@ ghost use Rattle.pol_genfs.specs.GenfsRecord.{PathFits, GenfsFits};
 ghost use Rattle.pol_laws.specs.RecordShapes.{shape_of_context, shape_of_sid, shape_of_named, shape_of_port, shape_of_address, shape_of_fsuse, shape_of_ibpkey, shape_of_ibendport, shape_of_path, shape_of_genfs};
 
 use crate::fitting::{Fitting, first_wrong, look_at_bytes, wrong_in};
-use pol_context::ContextRec;
 use pol_contexts::{AddressRec, FsUseRec, IbEndPortRec, IbPkeyRec, NamedRec, PortRec, SidRec};
 use pol_fields::Field;
 use pol_genfs::{GenfsPathRec, GenfsRec};
+use pol_mls::ContextRec;
 
 impl Fitting for ContextRec {
     ghost shape = { λ version context. shape_of_context context };

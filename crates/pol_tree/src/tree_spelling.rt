@@ -3,7 +3,7 @@ use crate::counted::{Counted, SymbolRecords};
 use crate::tree::Tree;
 use pol_contexts::has_infiniband;
 use pol_cursor::Written;
-use pol_header::HeaderRec;
+use pol_file::HeaderRec;
 use pol_trans::has_groups;
 use std::alloc::AllocError;
 

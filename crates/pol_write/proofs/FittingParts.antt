@@ -9,8 +9,8 @@ use Rattle.pol_cursor.specs.References.{values_of}
 use Rattle.pol_cursor.proofs.Laws.{Reads-as}
 use Rattle.pol_bitmap.specs.Bitmap.{bitmap_at, BitmapFits}
 use Rattle.pol_bitmap.proofs.Laws.{bitmap_spelled}
-use Rattle.pol_header.specs.HeaderRecord.{header_at, HeaderFits}
-use Rattle.pol_header.proofs.HeaderLaws.{header_spelled}
+use Rattle.pol_file.specs.HeaderRecord.{header_at, HeaderFits}
+use Rattle.pol_file.proofs.HeaderLaws.{header_spelled}
 use Rattle.pol_symtab.specs.SymbolTables.{bare, TableFits}
 use Rattle.pol_commons.specs.CommonRecord.{CommonFits}
 use Rattle.pol_datums.specs.RoleRecord.{RoleFits}

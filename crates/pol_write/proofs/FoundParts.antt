@@ -6,8 +6,8 @@ use Rattle.pol_cursor.specs.Parts.{spell_counted, CountedFits}
 use Rattle.pol_cursor.specs.References.{values_of}
 use Rattle.pol_bitmap.specs.Bitmap.{bitmap_at, spell_bitmap, BitmapFits}
 use Rattle.pol_bitmap.proofs.Laws.{bitmap_spelled, bitmap_again}
-use Rattle.pol_header.specs.HeaderRecord.{header_at, spell_header, HeaderFits}
-use Rattle.pol_header.proofs.HeaderLaws.{header_spelled, header_again}
+use Rattle.pol_file.specs.HeaderRecord.{header_at, spell_header, HeaderFits}
+use Rattle.pol_file.proofs.HeaderLaws.{header_spelled, header_again}
 use Rattle.pol_symtab.specs.SymbolTables.{bare, spell_table}
 use Rattle.pol_commons.specs.CommonRecord.{spell_common}
 use Rattle.pol_datums.specs.RoleRecord.{spell_role}

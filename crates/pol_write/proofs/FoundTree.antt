@@ -10,7 +10,7 @@ use Rattle.pol_fields.specs.declared.fields.TheConstants.{BITMAP_UNIT, NAMETRANS
 use Rattle.pol_cursor.specs.Outcome.{Outcome, Got, Bad}
 use Rattle.pol_cursor.specs.Parts.{end_at}
 use Rattle.pol_cursor.specs.References.{values_of}
-use Rattle.pol_header.specs.declared.HeaderRec.{HeaderRec}
+use Rattle.pol_file.specs.declared.HeaderRec.{HeaderRec}
 use Rattle.pol_symtab.specs.SymbolTables.{Table, BareTable, bare}
 use Rattle.pol_symbols.specs.PolicySymbols.{symbols_at}
 use Rattle.pol_trans.specs.NameTransitions.{has_groups}

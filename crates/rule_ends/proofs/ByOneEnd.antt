@@ -10,8 +10,8 @@ use Rattle.std.proofs.lemmas.List.Elements.{All-get_or, All-nil, All-push, All-w
 use Rattle.std.proofs.lemmas.List.Sorted.{Contains-permutation, IsPermutation-map, IsPermutation-sym}
 use Rattle.pol_bitmap.proofs.Elements.{kept, keeps, range_holds}
 use Rattle.pol_file.specs.declared.Parts.{Parts}
-use Rattle.pol_rules.specs.declared.RuleEnds.{RuleEnds}
-use Rattle.pol_rules.specs.StoredRules.{StoredRule, ends_of, stored_rules}
+use Rattle.pol_read.specs.declared.RuleEnds.{RuleEnds}
+use Rattle.pol_read.specs.StoredRules.{StoredRule, ends_of, stored_rules}
 use Rattle.value_groups.specs.Among.{is_among}
 use Rattle.value_groups.specs.Inner.Marking.{AreApart, with_value}
 use Rattle.value_groups.specs.Inner.Grouping.{group_of, places_of}

@@ -16,9 +16,9 @@ use Rattle.pol_bitmap.proofs.Elements.{kept, keeps}
 use Rattle.pol_file.specs.Acceptance.{accept}
 use Rattle.pol_file.specs.declared.Parts.{Parts}
 use Rattle.pol_file.proofs.Acceptances.{accepted_has_type_values}
-use Rattle.pol_rules.specs.declared.RuleEnds.{RuleEnds}
-use Rattle.pol_rules.specs.StoredRules.{StoredRule, ends_of, stored_rules}
-use Rattle.pol_rules.proofs.RulesDeclared.{rule_is_declared}
+use Rattle.pol_read.specs.declared.RuleEnds.{RuleEnds}
+use Rattle.pol_read.specs.StoredRules.{StoredRule, ends_of, stored_rules}
+use Rattle.pol_read.proofs.RulesDeclared.{rule_is_declared}
 use Rattle.pol_expand.proofs.Values.{same_tests}
 use Rattle.value_groups.specs.Among.{is_among}
 use Rattle.value_groups.specs.Inner.Marking.{AreApart}

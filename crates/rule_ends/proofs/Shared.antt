@@ -16,7 +16,7 @@ use Rattle.pol_expand.specs.Flavours.{is_flavour}
 use Rattle.pol_expand.specs.PolicyMap.{IsPolicyMap, expand, has_flavour, values_of_flavour}
 use Rattle.pol_expand.proofs.Values.{same_tests}
 use Rattle.pol_file.specs.declared.Parts.{Parts}
-use Rattle.pol_rules.specs.StoredRules.{StoredRule, stored_rules}
+use Rattle.pol_read.specs.StoredRules.{StoredRule, stored_rules}
 use Rattle.value_groups.specs.Among.{is_among}
 use Rattle.value_groups.specs.Inner.Grouping.{group_of}
 use Rattle.rule_ends.specs.ChosenRules.{any_joins, common_sources, holds_type, is_rule_from_to, joins, passes, sources_to_any}

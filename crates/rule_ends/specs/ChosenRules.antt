@@ -3,9 +3,9 @@ use Rattle.std.specs.Prelude.{ℕ, Bool, false, true, ◌&&◌, Option, Some, No
 use Rattle.std.specs.List.{filter, list_any, range_with_len}
 use Rattle.std.specs.List.Sorted.{IsPermutation}
 use Rattle.pol_file.specs.declared.Parts.{Parts}
-use Rattle.pol_rules.specs.declared.RuleKind.{RuleKind}
-use Rattle.pol_rules.specs.declared.RuleKind.TheVariants.{RoleAllow, RoleTransition}
-use Rattle.pol_rules.specs.StoredRules.{StoredRule, stored_rules}
+use Rattle.pol_read.specs.declared.RuleKind.{RuleKind}
+use Rattle.pol_read.specs.declared.RuleKind.TheVariants.{RoleAllow, RoleTransition}
+use Rattle.pol_read.specs.StoredRules.{StoredRule, stored_rules}
 use Rattle.pol_expand.specs.PolicyMap.{expand}
 use Rattle.value_groups.specs.Among.{is_among}
 use Rattle.rule_order.specs.ListedOrder.{in_rule_order}

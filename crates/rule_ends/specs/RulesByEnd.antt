@@ -3,8 +3,8 @@ use Rattle.std.specs.Prelude.{◌≡◌, ℕ, ◌+◌, ◌≤◌, ◌==◌, true
 use Rattle.std.specs.List.{All, filter}
 use Rattle.std.specs.List.Sorted.{IsPermutation}
 use Rattle.pol_file.specs.declared.Parts.{Parts}
-use Rattle.pol_rules.specs.declared.RuleEnds.{RuleEnds}
-use Rattle.pol_rules.specs.StoredRules.{StoredRule, ends_of, stored_rules}
+use Rattle.pol_read.specs.declared.RuleEnds.{RuleEnds}
+use Rattle.pol_read.specs.StoredRules.{StoredRule, ends_of, stored_rules}
 use Rattle.rule_ends.specs.declared.end_row.EndRow.{EndRow}
 use Rattle.rule_ends.specs.declared.rule_end.RuleEnd.{RuleEnd}
 use Rattle.rule_ends.specs.declared.rule_end.RuleEnd.TheVariants.{Source, Target}

@@ -2,7 +2,7 @@
 ghost use Rattle.std.specs.Prelude.{◌≡◌, ◌<◌, ◌≤◌, ◌&&◌, length};
 ghost use Rattle.pol_bitmap.specs.Nodes.{has_bit};
 ghost use Rattle.pol_expand.specs.PolicyMap.{row_in};
-ghost use Rattle.pol_rules.specs.StoredRules.{stored, stored_rules};
+ghost use Rattle.pol_read.specs.StoredRules.{stored, stored_rules};
 ghost use Rattle.rule_ends.specs.PlainTypes.{is_type_value};
 ghost use Rattle.rule_ends.specs.ChosenRules.{begins_at, holds_type, is_rule_from_to};
 

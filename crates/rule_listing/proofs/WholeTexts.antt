@@ -3,8 +3,8 @@ use Rattle.std.proofs.Common.{◌≡◌, ◌∙◌, ℕ, List, ◌++◌, Some, N
 use Rattle.pol_cursor.specs.References.{Placed}
 use Rattle.pol_avtab.specs.declared.AvRec.{AvRec}
 use Rattle.pol_file.specs.declared.Parts.{Parts}
-use Rattle.pol_rules.specs.StoredRules.{StoredRule, av_rule, ends_of, stored_rules}
-use Rattle.pol_rules.proofs.RuleSums.{table_first}
+use Rattle.pol_read.specs.StoredRules.{StoredRule, av_rule, ends_of, stored_rules}
+use Rattle.pol_read.proofs.RuleSums.{table_first}
 use Rattle.pol_symbols.specs.PolicySymbols.{name_in}
 use Rattle.rule_text.specs.ConditionTexts.{condition_text}
 use Rattle.rule_text.specs.Inner.RuleFrames.{given_text}

@@ -2,8 +2,8 @@
 
 ghost use Rattle.std.specs.Prelude.{◌≡◌, ◌<◌, ◌++◌, [], OnOk, IfOk, IfSome};
 ghost use Rattle.pol_symbols.specs.PolicySymbols.{name_in};
-ghost use Rattle.pol_rules.specs.DeclaredRules.{StandsUnder};
-ghost use Rattle.pol_rules.specs.StoredRules.{stored};
+ghost use Rattle.pol_read.specs.DeclaredRules.{StandsUnder};
+ghost use Rattle.pol_read.specs.StoredRules.{stored};
 ghost use Rattle.pol_file.specs.declared.Parts.{Parts};
 ghost use Rattle.rule_text.specs.ConditionTexts.{condition_text};
 ghost use Rattle.rule_listing.specs.Inner.KeptTexts.{AreKept, IsKept, ended_text, text_of};

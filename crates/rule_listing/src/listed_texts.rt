@@ -1,9 +1,9 @@
 //! The texts of whole rules in the order in which rules are listed.
 
 ghost use Rattle.std.specs.Prelude.{◌≡◌, ◌<◌, ◌++◌, None, OnOk, IfOk, length};
-ghost use Rattle.pol_rules.specs.StoredRules.{av_rule, stored, stored_rules};
-ghost use Rattle.pol_rules.specs.DeclaredRules.{StandsUnder};
-ghost use Rattle.pol_rules.specs.declared.rule.RulePart.TheVariants.{Default};
+ghost use Rattle.pol_read.specs.StoredRules.{av_rule, stored, stored_rules};
+ghost use Rattle.pol_read.specs.DeclaredRules.{StandsUnder};
+ghost use Rattle.pol_read.specs.declared.rule.RulePart.TheVariants.{Default};
 ghost use Rattle.rule_listing.specs.Inner.KeptTexts.{begun_text, ended_with};
 ghost use Rattle.rule_text.specs.RuleTexts.{rule_text, text_of_rule};
 

@@ -1,7 +1,7 @@
 //! Rules of a policy that are looked at some at a time, each before it is asked for.
 
 ghost use Rattle.std.specs.Prelude.{◌≡◌, ◌<◌, ◌≤◌, [], All, MatchOption, length, map, take};
-ghost use Rattle.pol_rules.specs.StoredRules.{stored_rules};
+ghost use Rattle.pol_read.specs.StoredRules.{stored_rules};
 ghost use Rattle.rule_listing.specs.Inner.ReadRules.{IsOfFirst, PassesNumber, is_plain};
 
 use crate::listed_rule::{ListedRule, is_plain};

@@ -7,9 +7,9 @@ use Rattle.pol_cursor.specs.References.{Placed}
 use Rattle.pol_conditionals.specs.declared.CondNodeRec.{CondNodeRec}
 use Rattle.pol_conditionals.specs.CondNodeRecord.{branch_rules}
 use Rattle.pol_file.specs.declared.Parts.{Parts}
-use Rattle.pol_rules.specs.DeclaredRules.{IsDeclaredRule}
-use Rattle.pol_rules.specs.StoredRules.{StoredRule, av_rule, rules_of_branch, rules_of_node, stored_rules}
-use Rattle.pol_rules.proofs.RuleSums.{get_left, get_right}
+use Rattle.pol_read.specs.DeclaredRules.{IsDeclaredRule}
+use Rattle.pol_read.specs.StoredRules.{StoredRule, av_rule, rules_of_branch, rules_of_node, stored_rules}
+use Rattle.pol_read.proofs.RuleSums.{get_left, get_right}
 use Rattle.rule_order.specs.declared.keys.Key.{Key}
 use Rattle.rule_order.specs.Inner.Keys.{AreGathered}
 use Rattle.rule_query.specs.declared.query.Query.{Query}

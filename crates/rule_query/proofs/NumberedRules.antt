@@ -4,10 +4,10 @@ use Rattle.std.specs.Option.{option_map}
 use Rattle.std.proofs.lemmas.Option.{same_Some, slice_get-get_or, slice_get_within}
 use Rattle.pol_file.specs.declared.Parts.{Parts}
 use Rattle.pol_file.specs.Acceptance.{accept}
-use Rattle.pol_rules.specs.declared.rule.RuleEnds.{RuleEnds}
-use Rattle.pol_rules.specs.DeclaredRules.{IsDeclaredRule}
-use Rattle.pol_rules.specs.StoredRules.{ends_of, stored_rules}
-use Rattle.pol_rules.proofs.RulesDeclared.{rule_is_declared, rule_with_ends}
+use Rattle.pol_read.specs.declared.rule.RuleEnds.{RuleEnds}
+use Rattle.pol_read.specs.DeclaredRules.{IsDeclaredRule}
+use Rattle.pol_read.specs.StoredRules.{ends_of, stored_rules}
+use Rattle.pol_read.proofs.RulesDeclared.{rule_is_declared, rule_with_ends}
 use Rattle.rule_query.specs.Inner.NumberedRules.{IsRuleAt, no_rule, rule_at}
 
 pub is_there : (policy : Parts) (number : ℕ) → number < length (stored_rules policy) → slice_get (stored_rules policy) number ≡ Some (rule_at policy number)

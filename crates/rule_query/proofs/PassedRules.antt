@@ -13,10 +13,10 @@ use Rattle.pol_file.specs.declared.Parts.{Parts}
 use Rattle.pol_file.specs.Acceptance.{accept}
 use Rattle.pol_fields.specs.declared.TableKind.{TableKind}
 use Rattle.pol_fields.specs.declared.TableKind.TheVariants.{Types}
-use Rattle.pol_rules.specs.RuleOrder.{source_table, target_table}
-use Rattle.pol_rules.specs.StoredRules.{StoredRule, av_rule, stored_rules}
-use Rattle.pol_rules.proofs.RuleSums.{section_sizes, table_first}
-use Rattle.pol_rules.proofs.RulesDeclared.{rule_is_declared, source_of, target_of}
+use Rattle.pol_read.specs.RuleOrder.{source_table, target_table}
+use Rattle.pol_read.specs.StoredRules.{StoredRule, av_rule, stored_rules}
+use Rattle.pol_read.proofs.RuleSums.{section_sizes, table_first}
+use Rattle.pol_read.proofs.RulesDeclared.{rule_is_declared, source_of, target_of}
 use Rattle.pol_symbols.specs.declared.Symbols.{Symbols}
 use Rattle.rule_order.specs.declared.keys.Key.{Key}
 use Rattle.rule_tests.specs.AskedKinds.{is_kind_asked}

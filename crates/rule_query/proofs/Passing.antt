@@ -5,8 +5,8 @@ use Rattle.std.specs.List.{find, filter, list_all, range_with_len}
 use Rattle.std.proofs.lemmas.List.Folds.{list_all-append}
 use Rattle.pol_cursor.proofs.Ranges.{filter_range_one}
 use Rattle.pol_file.specs.declared.Parts.{Parts}
-use Rattle.pol_rules.specs.DeclaredRules.{IsDeclaredRule}
-use Rattle.pol_rules.specs.StoredRules.{StoredRule, stored_rules}
+use Rattle.pol_read.specs.DeclaredRules.{IsDeclaredRule}
+use Rattle.pol_read.specs.StoredRules.{StoredRule, stored_rules}
 use Rattle.rule_criteria.specs.declared.Criteria.{Criteria}
 use Rattle.rule_query.specs.declared.tests.Test.{Test}
 use Rattle.rule_query.specs.declared.query.Query.{Query}

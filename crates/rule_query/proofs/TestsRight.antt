@@ -5,7 +5,7 @@ use Rattle.pol_bitmap.specs.declared.Node.{Node}
 use Rattle.pol_bitmap.specs.Nodes.{has_bit}
 use Rattle.pol_symbols.specs.declared.Symbols.{Symbols}
 use Rattle.pol_file.specs.declared.Parts.{Parts}
-use Rattle.pol_rules.specs.DeclaredRules.{IsDeclaredIn}
+use Rattle.pol_read.specs.DeclaredRules.{IsDeclaredIn}
 use Rattle.rule_criteria.specs.declared.Criterion.{Criterion}
 use Rattle.rule_tests.specs.declared.PermissionTest.{PermissionTest}
 use Rattle.rule_tests.specs.Inner.Tests.{IsPermissionTest}

@@ -16,8 +16,8 @@ use Rattle.pol_file.specs.declared.Parts.{Parts}
 use Rattle.pol_file.specs.Acceptance.{accept}
 use Rattle.pol_file.specs.TypeValues.{IsTypeValue}
 use Rattle.pol_file.proofs.Acceptances.{accepted_has_type_values}
-use Rattle.pol_rules.specs.DeclaredRules.{IsDeclaredIn}
-use Rattle.pol_rules.proofs.DeclaredTypes.{declared_type_has_flavour, declared_type_is_value}
+use Rattle.pol_read.specs.DeclaredRules.{IsDeclaredIn}
+use Rattle.pol_read.proofs.DeclaredTypes.{declared_type_has_flavour, declared_type_is_value}
 use Rattle.pol_expand.specs.Expansion.{Expansions, IsDeclared, IsTouching, expansion}
 use Rattle.pol_expand.specs.PolicyMap.{IsPolicyMap, expand}
 use Rattle.pol_expand.proofs.PolicyMaps.{declared_in}

@@ -4,7 +4,7 @@ ghost use Rattle.pol_fields.specs.declared.TableKind.TheVariants.{Types};
 ghost use Rattle.pol_bitmap.specs.Nodes.{bits_of, has_bit};
 ghost use Rattle.pol_file.specs.TypeValues.{IsTypeValue};
 ghost use Rattle.pol_expand.specs.PolicyMap.{IsPolicyMap, expand};
-ghost use Rattle.pol_rules.specs.DeclaredRules.{IsDeclaredIn};
+ghost use Rattle.pol_read.specs.DeclaredRules.{IsDeclaredIn};
 ghost use Rattle.rule_query.specs.Ends.{is_meant, meets_type, expands_to};
 ghost use Rattle.rule_query.specs.Inner.Tests.{AreEnds, AreMeant, HasPattern, IsMapIfMade, is_asked_name, is_asked_type};
 

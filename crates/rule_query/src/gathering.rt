@@ -1,6 +1,6 @@
 // The rules that meet a query, gathered section by section, where they stand.
 ghost use Rattle.std.specs.Prelude.{◌≡◌, ◌+◌, ◌<◌, ◌≤◌, [], Some, IfOk, OnOk, length, option_map, slice_get};
-ghost use Rattle.pol_rules.specs.StoredRules.{av_rule, ends_of, rules_of_branch, rules_of_node, stored_rules};
+ghost use Rattle.pol_read.specs.StoredRules.{av_rule, ends_of, rules_of_branch, rules_of_node, stored_rules};
 ghost use Rattle.rule_order.specs.Inner.Keys.{AreGathered};
 ghost use Rattle.rule_query.specs.Inner.Gathering.{HasMet, PassesOver, StandFrom};
 ghost use Rattle.rule_query.specs.Inner.MarkedSets.{AreMarksOfSome};
@@ -101,7 +101,7 @@ impl Query {
     }
 
     // Adds the rule of that number, which stands in the table, if it meets the criteria.
-    #[tactic(auto, using(pol_rules::proofs::RuleSums::table_first))]
+    #[tactic(auto, using(pol_read::proofs::RuleSums::table_first))]
     #[inline(always)]
     fn add_vector(
         &self,

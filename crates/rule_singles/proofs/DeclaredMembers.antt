@@ -12,7 +12,7 @@ use Rattle.pol_datums.specs.declared.Flavour.TheVariants.{Plain, Attribute}
 use Rattle.pol_symbols.specs.PolicySymbols.{flavour_found}
 use Rattle.pol_symbols.specs.declared.Symbols.{Symbols}
 use Rattle.pol_file.specs.declared.Parts.{Parts}
-use Rattle.pol_rules.specs.DeclaredRules.{IsDeclaredIn}
+use Rattle.pol_read.specs.DeclaredRules.{IsDeclaredIn}
 use Rattle.pol_expand.specs.Expansion.{expansion}
 use Rattle.pol_expand.specs.Flavours.{is_flavour}
 use Rattle.pol_expand.specs.PolicyMap.{expand, has_flavour, row_in}

@@ -9,12 +9,12 @@ use Rattle.pol_fields.specs.declared.TableKind.TheVariants as tables
 use Rattle.pol_bitmap.specs.declared.Node.{Node}
 use Rattle.pol_file.specs.declared.Parts.{Parts}
 use Rattle.pol_expand.specs.PolicyMap.{expand}
-use Rattle.pol_places.specs.declared.Entry.{Entry}
-use Rattle.pol_places.specs.Members.{AreNumbers, HasNumbers, Product, bits_at, product_of, products_of}
-use Rattle.pol_rules.specs.declared.rule.RuleEnds.{RuleEnds}
-use Rattle.pol_rules.specs.DeclaredRules.{AreDeclaredEnds, IsDeclaredIn}
-use Rattle.pol_rules.specs.RuleOrder.{source_table, target_table}
-use Rattle.pol_rules.specs.StoredRules.{StoredRule, ends_of, stored_rules}
+use Rattle.set_products.specs.declared.Entry.{Entry}
+use Rattle.set_products.specs.Members.{AreNumbers, HasNumbers, Product, bits_at, product_of, products_of}
+use Rattle.pol_read.specs.declared.rule.RuleEnds.{RuleEnds}
+use Rattle.pol_read.specs.DeclaredRules.{AreDeclaredEnds, IsDeclaredIn}
+use Rattle.pol_read.specs.RuleOrder.{source_table, target_table}
+use Rattle.pol_read.specs.StoredRules.{StoredRule, ends_of, stored_rules}
 use Rattle.rule_criteria.specs.declared.Criteria.{Criteria}
 use Rattle.rule_criteria.specs.declared.Criterion.{Criterion}
 use Rattle.rule_singles.specs.Inner.EndSets.{AreAsked, AreSetsOf, Grows, IsEntryOf, IsNumberIn, ends_left, leaves}

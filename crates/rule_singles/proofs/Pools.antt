@@ -13,7 +13,7 @@ use Rattle.pol_bitmap.specs.Nodes.{bits_of}
 use Rattle.pol_bitmap.specs.Kept.{IsNumberOf}
 use Rattle.pol_file.specs.declared.Parts.{Parts}
 use Rattle.pol_expand.specs.PolicyMap.{expand}
-use Rattle.pol_places.specs.Members.{bits_at}
+use Rattle.set_products.specs.Members.{bits_at}
 use Rattle.rule_singles.specs.Inner.EndSets.{AreSetsOf, Grows, IsNumberIn, ends_left, leaves}
 
 -- ---- pools

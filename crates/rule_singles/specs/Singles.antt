@@ -6,10 +6,10 @@ use Rattle.pol_fields.specs.declared.TableKind.{TableKind}
 use Rattle.pol_fields.specs.declared.TableKind.TheVariants.{Types}
 use Rattle.pol_file.specs.declared.Parts.{Parts}
 use Rattle.pol_expand.specs.PolicyMap.{expand}
-use Rattle.pol_places.specs.declared.Single.{Single}
-use Rattle.pol_places.specs.Members.{Product, members}
-use Rattle.pol_rules.specs.RuleOrder.{source_table, target_table}
-use Rattle.pol_rules.specs.StoredRules.{StoredRule, stored_rules}
+use Rattle.set_products.specs.declared.Single.{Single}
+use Rattle.set_products.specs.Members.{Product, members}
+use Rattle.pol_read.specs.RuleOrder.{source_table, target_table}
+use Rattle.pol_read.specs.StoredRules.{StoredRule, stored_rules}
 use Rattle.rule_criteria.specs.declared.Criteria.{Criteria}
 use Rattle.rule_criteria.specs.declared.Criterion.{Criterion}
 use Rattle.rule_criteria.specs.Modes.{is_direct}

@@ -4,7 +4,7 @@ ghost use Rattle.std.specs.List.{filter};
 ghost use Rattle.pol_fields.specs.declared.TableKind.TheVariants.{Types};
 ghost use Rattle.pol_bitmap.specs.Nodes.{bits_of};
 ghost use Rattle.pol_expand.specs.PolicyMap.{IsPolicyMap, expand};
-ghost use Rattle.pol_rules.specs.DeclaredRules.{IsDeclaredIn};
+ghost use Rattle.pol_read.specs.DeclaredRules.{IsDeclaredIn};
 ghost use Rattle.rule_query.specs.Inner.Resolved.{AreTypesOf};
 ghost use Rattle.rule_singles.specs.Inner.EndSets.{AreAsked, AreSetsOf, Grows, IsNumberIn, ends_left, leaves};
 

@@ -1,6 +1,6 @@
 ghost use Rattle.std.specs.Prelude.{◌≡◌, ◌+◌, ◌<◌, ◌≤◌, IfOk, length, map};
 ghost use Rattle.pol_expand.specs.PolicyMap.{IsPolicyMap};
-ghost use Rattle.pol_rules.specs.StoredRules.{stored_rules};
+ghost use Rattle.pol_read.specs.StoredRules.{stored_rules};
 ghost use Rattle.rule_order.specs.ListedOrder.{AreRules};
 ghost use Rattle.rule_criteria.specs.declared.Criteria.{Criteria};
 ghost use Rattle.rule_query.specs.Inner.Resolved.{IsQueryOf};
@@ -10,7 +10,7 @@ ghost use Rattle.rule_singles.specs.Singles.{ends_of_rule};
 use crate::end_sets::EndSets;
 use pol_bitmap::Pool;
 use pol_expand::TypeMap;
-use pol_places::{CountedSets, Entry, Places};
+use set_products::{CountedSets, Entry, Places};
 use pol_read::Policy;
 use rule_criteria::Criteria;
 use rule_query::Query;
@@ -33,7 +33,7 @@ impl Drop for SingleRules {
 
 impl Model for SingleRules {
     ghost use Rattle.std.specs.Prelude.{List};
-    ghost use Rattle.pol_places.specs.Members.{AreNumbers, Product, products_of};
+    ghost use Rattle.set_products.specs.Members.{AreNumbers, Product, products_of};
 
     ghost Value = { List Product };
 

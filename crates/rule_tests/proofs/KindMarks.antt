@@ -5,8 +5,8 @@ use Rattle.std.proofs.lemmas.Bool.{cases_lt, ne_eqb, or_right, or_left}
 use Rattle.std.proofs.lemmas.Grind.{and_numeral}
 use Rattle.std.proofs.lemmas.List.FromFn.{get_or-map-range_with_len}
 use Rattle.pol_avtab.specs.AvKeys.{kind_of}
-use Rattle.pol_rules.specs.declared.RuleKind.TheVariants.{AllowXperm, AuditallowXperm, DontauditXperm}
-use Rattle.pol_rules.specs.StoredRules.{rule_kind}
+use Rattle.pol_read.specs.declared.RuleKind.TheVariants.{AllowXperm, AuditallowXperm, DontauditXperm}
+use Rattle.pol_read.specs.StoredRules.{rule_kind}
 use Rattle.rule_tests.specs.AskedKinds.{is_kind_asked}
 use Rattle.rule_tests.specs.Inner.AskedVectors.{extended_kinds, is_any_asked, is_low_asked, low_marks}
 

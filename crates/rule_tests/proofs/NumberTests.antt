@@ -1,7 +1,7 @@
 -- Tests of numbers.
 use Rattle.std.proofs.Common.{◌≡◌, refl}
-use Rattle.pol_rules.specs.declared.RulePart.{RulePart}
-use Rattle.pol_rules.specs.declared.RulePart.TheVariants as parts
+use Rattle.pol_read.specs.declared.RulePart.{RulePart}
+use Rattle.pol_read.specs.declared.RulePart.TheVariants as parts
 use Rattle.rule_criteria.specs.declared.Criterion.{Criterion}
 use Rattle.rule_tests.specs.declared.number_test.NumberTest.{NumberTest}
 use Rattle.rule_tests.specs.Numbers.{meets_numbers}

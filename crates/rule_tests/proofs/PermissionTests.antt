@@ -10,8 +10,8 @@ use Rattle.pol_classes.specs.declared.ClassRec.{ClassRec}
 use Rattle.pol_symbols.proofs.SymbolSearch.{primary_found, primary_is_within, primary_missing}
 use Rattle.pol_symbols.specs.PolicySymbols.{index_in, permissions_of, permissions_found}
 use Rattle.pol_symbols.specs.declared.Symbols.{Symbols}
-use Rattle.pol_rules.specs.declared.RulePart.{RulePart}
-use Rattle.pol_rules.specs.declared.RulePart.TheVariants as parts
+use Rattle.pol_read.specs.declared.RulePart.{RulePart}
+use Rattle.pol_read.specs.declared.RulePart.TheVariants as parts
 use Rattle.rule_criteria.specs.Elements.{elements_of, is_comma}
 use Rattle.rule_criteria.specs.declared.Criterion.{Criterion}
 use Rattle.rule_criteria.specs.declared.Mode.{Mode}

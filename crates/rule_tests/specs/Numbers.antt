@@ -2,8 +2,8 @@
 use Rattle.std.specs.Prelude.{ℕ, ◌+◌, ◌-◌, ◌*◌, ◌==◌, nat_le, Bool, false, ◌&&◌, ◌||◌, Option, Some, None, List, [], ◌∷◌, is_some, unwrap_or, take, drop, if◌then◌else◌}
 use Rattle.std.specs.List.{filter_map, list_any, list_all, position_from, range_with_len}
 use Rattle.pol_avtab.specs.XPerms.{Numbers as NumbersOf, numbers_of, holds}
-use Rattle.pol_rules.specs.declared.RulePart.{RulePart}
-use Rattle.pol_rules.specs.declared.RulePart.TheVariants.{Numbers}
+use Rattle.pol_read.specs.declared.RulePart.{RulePart}
+use Rattle.pol_read.specs.declared.RulePart.TheVariants.{Numbers}
 use Rattle.rule_criteria.specs.Elements.{elements_of}
 use Rattle.rule_criteria.specs.declared.Criterion.{Criterion}
 use Rattle.rule_criteria.specs.declared.Mode.{Mode}

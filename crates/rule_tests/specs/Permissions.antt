@@ -5,8 +5,8 @@ use Rattle.std.specs.List.{filter, list_any, list_all}
 use Rattle.pol_commons.specs.Permissions.{has_permission}
 use Rattle.pol_symbols.specs.PolicySymbols.{permissions_in_class}
 use Rattle.pol_symbols.specs.declared.Symbols.{Symbols}
-use Rattle.pol_rules.specs.declared.RulePart.{RulePart}
-use Rattle.pol_rules.specs.declared.RulePart.TheVariants.{Perms, Numbers}
+use Rattle.pol_read.specs.declared.RulePart.{RulePart}
+use Rattle.pol_read.specs.declared.RulePart.TheVariants.{Perms, Numbers}
 use Rattle.rule_criteria.specs.Elements.{elements_of}
 use Rattle.rule_criteria.specs.declared.Criterion.{Criterion}
 use Rattle.rule_criteria.specs.declared.Mode.{Mode}

@@ -7,7 +7,7 @@ use Rattle.pol_expr.specs.Infix.{tree_text}
 use Rattle.pol_expr.specs.Trees.{trees_after}
 use Rattle.pol_expr.specs.ConditionMeaning.{condition_symbols, condition_words}
 use Rattle.pol_conditionals.specs.declared.CondNodeRec.{CondNodeRec}
-use Rattle.pol_rules.specs.declared.rule.Condition.{Condition}
+use Rattle.pol_read.specs.declared.rule.Condition.{Condition}
 
 -- The items of a condition leave one tree, and this is its text.
 unfoldable pub expression_text : Named → List ConditionItem → List ℕ

@@ -8,13 +8,13 @@ use Rattle.pol_symbols.specs.PolicySymbols.{name_in, permissions_in_class}
 use Rattle.pol_symbols.specs.declared.Symbols.{Symbols}
 use Rattle.pol_texts.specs.NameTexts.{name_text}
 use Rattle.pol_file.specs.declared.Parts.{Parts}
-use Rattle.pol_rules.specs.declared.rule.RuleKind.{RuleKind}
-use Rattle.pol_rules.specs.declared.rule.RuleKind.TheVariants.{Allow, Auditallow, Dontaudit, AllowXperm, AuditallowXperm, DontauditXperm, TypeTransition, TypeChange, TypeMember, RoleAllow, RoleTransition, RangeTransition}
-use Rattle.pol_rules.specs.declared.rule.RulePart.{RulePart}
-use Rattle.pol_rules.specs.declared.rule.RulePart.TheVariants.{Perms, Numbers, Default, Range, Nothing}
-use Rattle.pol_rules.specs.StoredRules.{StoredRule, stored_rules}
-use Rattle.pol_rules.specs.RuleOrder.{source_table, target_table}
-use Rattle.pol_rules.specs.DeclaredRules.{default_table}
+use Rattle.pol_read.specs.declared.rule.RuleKind.{RuleKind}
+use Rattle.pol_read.specs.declared.rule.RuleKind.TheVariants.{Allow, Auditallow, Dontaudit, AllowXperm, AuditallowXperm, DontauditXperm, TypeTransition, TypeChange, TypeMember, RoleAllow, RoleTransition, RangeTransition}
+use Rattle.pol_read.specs.declared.rule.RulePart.{RulePart}
+use Rattle.pol_read.specs.declared.rule.RulePart.TheVariants.{Perms, Numbers, Default, Range, Nothing}
+use Rattle.pol_read.specs.StoredRules.{StoredRule, stored_rules}
+use Rattle.pol_read.specs.RuleOrder.{source_table, target_table}
+use Rattle.pol_read.specs.DeclaredRules.{default_table}
 use Rattle.info_lines.specs.PermissionSets.{permissions_text}
 use Rattle.rule_text.specs.IoctlTexts.{ioctl_text}
 use Rattle.rule_text.specs.ConditionTexts.{condition_text}

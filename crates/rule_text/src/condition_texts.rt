@@ -2,7 +2,7 @@
 
 ghost use Rattle.std.specs.Prelude.{◌≡◌, ◌++◌, IfOk, OnOk};
 ghost use Rattle.pol_symbols.specs.PolicySymbols.{name_in};
-ghost use Rattle.pol_rules.specs.DeclaredRules.{StandsUnder};
+ghost use Rattle.pol_read.specs.DeclaredRules.{StandsUnder};
 ghost use Rattle.rule_text.specs.ConditionTexts.{branch_text, condition_text, expression_text};
 
 use pol_expr::ConditionView;

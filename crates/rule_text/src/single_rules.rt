@@ -2,7 +2,7 @@
 
 ghost use Rattle.std.specs.Prelude.{◌≡◌, ◌<◌, ◌++◌, OnOk, IfOk, length};
 ghost use Rattle.pol_symbols.specs.PolicySymbols.{permissions_in_class};
-ghost use Rattle.pol_rules.specs.StoredRules.{stored_rules};
+ghost use Rattle.pol_read.specs.StoredRules.{stored_rules};
 ghost use Rattle.rule_text.specs.Inner.ClassPermissions.{AreByName, ShowsPart};
 ghost use Rattle.rule_text.specs.RuleTexts.{text_of_rule, single_text};
 

@@ -2,8 +2,8 @@
 
 ghost use Rattle.std.specs.Prelude.{◌≡◌, ◌++◌, OnOk, codes};
 ghost use Rattle.pol_symbols.specs.PolicySymbols.{permissions_in_class};
-ghost use Rattle.pol_rules.specs.StoredRules.{stored};
-ghost use Rattle.pol_rules.specs.DeclaredRules.{StandsUnder};
+ghost use Rattle.pol_read.specs.StoredRules.{stored};
+ghost use Rattle.pol_read.specs.DeclaredRules.{StandsUnder};
 ghost use Rattle.rule_text.specs.Inner.ClassPermissions.{ShowsPart};
 ghost use Rattle.rule_text.specs.Inner.RuleFrames.{end_text, given_text};
 ghost use Rattle.rule_text.specs.RuleTexts.{between, ends_text, keyword, rest_text, rule_text};

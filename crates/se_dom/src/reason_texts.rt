@@ -1,7 +1,7 @@
 // The texts of the rules behind a transition.
 ghost use Rattle.std.specs.Prelude.{◌≡◌, ◌<◌, ◌++◌, OnOk, All, length};
 ghost use Rattle.std.specs.List.{flat_map};
-ghost use Rattle.pol_rules.specs.StoredRules.{stored_rules};
+ghost use Rattle.pol_read.specs.StoredRules.{stored_rules};
 ghost use Rattle.rule_order.specs.ListedOrder.{AreRules};
 ghost use Rattle.se_dom.specs.Inner.ReasonRules.{AreEntryRules, AreReasonRules};
 ghost use Rattle.se_dom.specs.DomTexts.{entry_text, reason_line, reason_lines, reasons_text};

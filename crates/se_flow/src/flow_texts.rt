@@ -1,7 +1,7 @@
 // How seinfoflow writes flows.
 ghost use Rattle.std.specs.Prelude.{◌≡◌, ◌<◌, ◌++◌, OnOk, length};
 ghost use Rattle.std.specs.List.{flat_map};
-ghost use Rattle.pol_rules.specs.StoredRules.{stored_rules};
+ghost use Rattle.pol_read.specs.StoredRules.{stored_rules};
 ghost use Rattle.rule_order.specs.ListedOrder.{AreRules};
 ghost use Rattle.perm_map.specs.PermissionMap.{weights_of};
 ghost use Rattle.se_flow.specs.FlowTexts.{flow_text, rule_line};

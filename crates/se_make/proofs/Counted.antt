@@ -13,9 +13,9 @@ use Rattle.pol_datums.specs.declared.Flavour.TheVariants.{Plain, Attribute}
 use Rattle.pol_expand.specs.Expansion.{expansion}
 use Rattle.pol_expand.specs.PolicyMap.{expand, has_flavour, row_in}
 use Rattle.pol_file.specs.declared.Parts.{Parts}
-use Rattle.pol_places.specs.declared.Single.{Single}
-use Rattle.pol_places.proofs.Products.{length_members_of}
-use Rattle.pol_rules.specs.StoredRules.{StoredRule, stored_rules}
+use Rattle.set_products.specs.declared.Single.{Single}
+use Rattle.set_products.proofs.Products.{length_members_of}
+use Rattle.pol_read.specs.StoredRules.{StoredRule, stored_rules}
 use Rattle.se_make.specs.Singles.{expansions_of, pairs_of, singles_of, types_of_end}
 
 -- the rules between single types of a rule, by its number and what its ends stand for

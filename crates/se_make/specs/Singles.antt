@@ -4,10 +4,10 @@ use Rattle.pol_fields.specs.declared.TableKind.{TableKind}
 use Rattle.pol_fields.specs.declared.TableKind.TheVariants.{Types}
 use Rattle.pol_file.specs.declared.Parts.{Parts}
 use Rattle.pol_expand.specs.PolicyMap.{expand}
-use Rattle.pol_places.specs.declared.Single.{Single}
-use Rattle.pol_places.specs.Members.{single_rules}
-use Rattle.pol_rules.specs.RuleOrder.{source_table, target_table}
-use Rattle.pol_rules.specs.StoredRules.{StoredRule, stored_rules}
+use Rattle.set_products.specs.declared.Single.{Single}
+use Rattle.set_products.specs.Members.{single_rules}
+use Rattle.pol_read.specs.RuleOrder.{source_table, target_table}
+use Rattle.pol_read.specs.StoredRules.{StoredRule, stored_rules}
 
 -- what an end of a table stands for: a type or an attribute for the types that it expands to, and a role for itself
 abbrev pub types_of_end : Parts → TableKind → ℕ → List ℕ

@@ -2,8 +2,8 @@
 ghost use Rattle.std.specs.Prelude.{◌≡◌, ◌≤◌, IfOk, length};
 ghost use Rattle.pol_fields.specs.declared.TableKind.TheVariants.{Types};
 ghost use Rattle.pol_expand.specs.PolicyMap.{IsPolicyMap, expand};
-ghost use Rattle.pol_rules.specs.DeclaredRules.{IsDeclaredIn, IsDeclaredRule};
-ghost use Rattle.pol_rules.specs.StoredRules.{stored};
+ghost use Rattle.pol_read.specs.DeclaredRules.{IsDeclaredIn, IsDeclaredRule};
+ghost use Rattle.pol_read.specs.StoredRules.{stored};
 ghost use Rattle.se_make.specs.Singles.{pairs_of, singles_of, types_of_end};
 
 use pol_expand::{TypeMap, type_map};

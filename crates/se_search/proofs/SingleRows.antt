@@ -7,13 +7,13 @@ use Rattle.std.proofs.lemmas.List.{drop-take, drop_min, length-map, length-take-
 use Rattle.std.proofs.lemmas.Option.{slice_get_within, get_or_from_slice_get}
 use Rattle.std.proofs.lemmas.List.Elements.{All-append, All-contains, All-cons, All-head, All-nil, All-tail}
 use Rattle.pol_file.specs.declared.Parts.{Parts}
-use Rattle.pol_places.specs.declared.Place.{Place}
-use Rattle.pol_places.specs.declared.Row.{Row}
-use Rattle.pol_places.specs.declared.Single.{Single}
-use Rattle.pol_places.specs.Members.{Product, members, members_of}
-use Rattle.pol_places.specs.Standing.{IsRowAt, RowGives, StandsAt, member_in}
-use Rattle.pol_places.proofs.Products.{get_dropped}
-use Rattle.pol_rules.specs.StoredRules.{stored_rules}
+use Rattle.set_products.specs.declared.Place.{Place}
+use Rattle.set_products.specs.declared.Row.{Row}
+use Rattle.set_products.specs.declared.Single.{Single}
+use Rattle.set_products.specs.Members.{Product, members, members_of}
+use Rattle.set_products.specs.Standing.{IsRowAt, RowGives, StandsAt, member_in}
+use Rattle.set_products.proofs.Products.{get_dropped}
+use Rattle.pol_read.specs.StoredRules.{stored_rules}
 use Rattle.rule_text.specs.Inner.RuleFrames.{frame_target}
 use Rattle.se_items.specs.Paging.{limited, most_items, page}
 use Rattle.se_search.specs.declared.row_lines.RowLines.{RowLines}

@@ -3,7 +3,7 @@
 use Rattle.std.specs.Prelude.{ℕ, List, ◌++◌, codes, map, Option, Some, None, if◌then◌else◌}
 use Rattle.std.specs.List.{concat}
 use Rattle.pol_file.specs.declared.Parts.{Parts}
-use Rattle.pol_places.specs.declared.Single.{Single}
+use Rattle.set_products.specs.declared.Single.{Single}
 use Rattle.rule_order.specs.ListedOrder.{in_rule_order}
 use Rattle.rule_query.specs.declared.Refusal.{Refusal}
 use Rattle.rule_query.specs.declared.Refusal.TheVariants.{NotThere, NoNumber}

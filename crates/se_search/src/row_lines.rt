@@ -1,12 +1,12 @@
 // The lines of rows: of a rule between one source and its targets.
 ghost use Rattle.std.specs.Prelude.{◌≡◌, ◌++◌, ◌<◌, ℕ, IfOk, length};
 ghost use Rattle.pol_file.specs.declared.Parts.{Parts};
-ghost use Rattle.pol_rules.specs.StoredRules.{stored_rules};
+ghost use Rattle.pol_read.specs.StoredRules.{stored_rules};
 ghost use Rattle.rule_text.specs.Inner.RuleFrames.{frame_target};
 ghost use Rattle.se_search.specs.Inner.RowLines.{IsFrameOf, IsHeadOf, IsLast, PushesTargets};
 
 use pol_bitmap::SetBits;
-use pol_places::Row;
+use set_products::Row;
 use rule_text::{RuleFrame, RuleTexts};
 use std::alloc::{AllocError, Global};
 

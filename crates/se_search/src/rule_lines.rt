@@ -1,7 +1,7 @@
 // The lines of rules, as items that are written one after the other.
 ghost use Rattle.std.specs.Prelude.{◌≡◌, ◌<◌, ◌++◌, OnOk, length, map};
 ghost use Rattle.rule_order.specs.ListedOrder.{AreRules};
-ghost use Rattle.pol_rules.specs.StoredRules.{stored_rules};
+ghost use Rattle.pol_read.specs.StoredRules.{stored_rules};
 ghost use Rattle.se_search.specs.SearchAnswer.{rule_line};
 
 use rule_listing::{ListedRule, ListedTexts, RulesAhead};

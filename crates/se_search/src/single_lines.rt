@@ -1,13 +1,13 @@
 // The lines of rules between single types, some of a row at a time.
 ghost use Rattle.std.specs.Prelude.{◌≡◌, ◌<◌, IfOk, length, map, min};
-ghost use Rattle.pol_places.specs.Members.{members};
+ghost use Rattle.set_products.specs.Members.{members};
 ghost use Rattle.se_items.specs.Paging.{most_items, page};
 ghost use Rattle.se_search.specs.Inner.RowLines.{IsLast};
 ghost use Rattle.se_search.specs.SearchAnswer.{single_line};
 ghost use Rattle.se_search.specs.Inner.SingleLines.{AreOfRules, BeginsRow, CanBegin, StandsIn, Steps, end_of, lines_left};
 
 use crate::row_lines::{RowLines, SourceFrame, frame_between, push_targets};
-use pol_places::{Place, Places, Row};
+use set_products::{Place, Places, Row};
 use rule_text::RuleTexts;
 use std::alloc::{AllocError, Global};
 

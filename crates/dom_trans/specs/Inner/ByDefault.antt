@@ -1,9 +1,9 @@
 -- Rules that are grouped by their default. It serves the code alone.
 use Rattle.std.specs.Prelude.{ℕ, nat_le, Option, Some, None, List, map, slice_get, if◌then◌else◌}
 use Rattle.pol_file.specs.declared.Parts.{Parts}
-use Rattle.pol_rules.specs.declared.RulePart.{RulePart}
-use Rattle.pol_rules.specs.declared.RulePart.TheVariants.{Default}
-use Rattle.pol_rules.specs.StoredRules.{StoredRule, stored_rules}
+use Rattle.pol_read.specs.declared.RulePart.{RulePart}
+use Rattle.pol_read.specs.declared.RulePart.TheVariants.{Default}
+use Rattle.pol_read.specs.StoredRules.{StoredRule, stored_rules}
 use Rattle.value_groups.specs.Inner.Grouping.{AreGroupsOf}
 
 -- the default of a part where it is at most that value, and else 0

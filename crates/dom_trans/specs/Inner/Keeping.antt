@@ -5,7 +5,7 @@ use Rattle.pol_fields.specs.declared.TableKind.TheVariants.{Classes}
 use Rattle.pol_symbols.specs.declared.Symbols.{Symbols}
 use Rattle.pol_symbols.specs.PolicySymbols.{value_in}
 use Rattle.pol_file.specs.declared.Parts.{Parts}
-use Rattle.pol_rules.specs.StoredRules.{StoredRule}
+use Rattle.pol_read.specs.StoredRules.{StoredRule}
 use Rattle.rule_ends.specs.declared.RulesWithEnds.{RulesWithEnds}
 use Rattle.rule_ends.specs.ChosenRules.{rule_passes}
 use Rattle.rule_ends.specs.Inner.EndTables.{AreEndsOf}

@@ -3,9 +3,9 @@ use Rattle.std.specs.Prelude.{◌≡◌, ◌≤◌, ℕ, Bool, true, false, not,
 use Rattle.std.specs.List.{All, Contains, filter, list_any, range_with_len}
 use Rattle.pol_bitmap.specs.Nodes.{has_bit}
 use Rattle.pol_file.specs.declared.Parts.{Parts}
-use Rattle.pol_rules.specs.declared.RulePart.{RulePart}
-use Rattle.pol_rules.specs.declared.RulePart.TheVariants.{Default}
-use Rattle.pol_rules.specs.StoredRules.{stored_rules}
+use Rattle.pol_read.specs.declared.RulePart.{RulePart}
+use Rattle.pol_read.specs.declared.RulePart.TheVariants.{Default}
+use Rattle.pol_read.specs.StoredRules.{stored_rules}
 use Rattle.rule_ends.specs.ChosenRules.{ends_at}
 use Rattle.rule_ends.specs.PlainTypes.{are_two_types, is_type_value}
 use Rattle.dom_trans.specs.Grants.{grants, has_default, file, entrypoint}

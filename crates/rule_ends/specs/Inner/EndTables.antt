@@ -5,7 +5,7 @@ use Rattle.pol_datums.specs.declared.Flavour.TheVariants.{Attribute}
 use Rattle.pol_symbols.specs.PolicySymbols.{flavour_in}
 use Rattle.pol_file.specs.declared.Parts.{Parts}
 use Rattle.pol_file.specs.TypeValues.{IsTypeValue}
-use Rattle.pol_rules.specs.StoredRules.{StoredRule}
+use Rattle.pol_read.specs.StoredRules.{StoredRule}
 use Rattle.pol_expand.specs.PolicyMap.{has_flavour}
 use Rattle.value_groups.specs.Among.{is_among}
 use Rattle.value_groups.specs.Inner.Grouping.{AreGroupsOf, group_of}

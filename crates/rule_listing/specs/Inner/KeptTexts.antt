@@ -4,11 +4,11 @@ use Rattle.std.specs.List.{All}
 use Rattle.pol_symbols.specs.PolicySymbols.{name_in}
 use Rattle.pol_symbols.specs.declared.Symbols.{Symbols}
 use Rattle.pol_file.specs.declared.Parts.{Parts}
-use Rattle.pol_rules.specs.StoredRules.{StoredRule}
-use Rattle.pol_rules.specs.declared.rule.RuleEnds.{RuleEnds}
-use Rattle.pol_rules.specs.declared.rule.RuleKind.{RuleKind}
-use Rattle.pol_rules.specs.declared.rule.RulePart.{RulePart}
-use Rattle.pol_rules.specs.declared.rule.RulePart.TheVariants as parts
+use Rattle.pol_read.specs.StoredRules.{StoredRule}
+use Rattle.pol_read.specs.declared.rule.RuleEnds.{RuleEnds}
+use Rattle.pol_read.specs.declared.rule.RuleKind.{RuleKind}
+use Rattle.pol_read.specs.declared.rule.RulePart.{RulePart}
+use Rattle.pol_read.specs.declared.rule.RulePart.TheVariants as parts
 use Rattle.rule_listing.specs.declared.kept_head.HeadKey.{HeadKey}
 use Rattle.rule_listing.specs.declared.kept_head.KeptHead.{KeptHead}
 use Rattle.rule_listing.specs.declared.kept_texts.KeptText.{KeptText}

@@ -5,7 +5,7 @@ use Rattle.pol_cursor.specs.References.{Placed}
 use Rattle.pol_avtab.specs.declared.AvRec.{AvRec}
 use Rattle.pol_avtab.specs.XPerms.{mask_of}
 use Rattle.pol_file.specs.declared.Parts.{Parts}
-use Rattle.pol_rules.specs.StoredRules.{stored_rules}
+use Rattle.pol_read.specs.StoredRules.{stored_rules}
 use Rattle.rule_listing.specs.declared.listed_rule.ListedRule.{ListedRule}
 
 -- the rules of a policy that are left, by their numbers

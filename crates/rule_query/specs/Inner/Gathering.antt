@@ -5,8 +5,8 @@ use Rattle.pol_cursor.specs.References.{Placed}
 use Rattle.pol_avtab.specs.declared.AvRec.{AvRec}
 use Rattle.pol_symbols.specs.declared.Symbols.{Symbols}
 use Rattle.pol_file.specs.declared.Parts.{Parts}
-use Rattle.pol_rules.specs.declared.Condition.{Condition}
-use Rattle.pol_rules.specs.StoredRules.{StoredRule, av_rule, stored_rules}
+use Rattle.pol_read.specs.declared.Condition.{Condition}
+use Rattle.pol_read.specs.StoredRules.{StoredRule, av_rule, stored_rules}
 use Rattle.rule_criteria.specs.declared.Criteria.{Criteria}
 use Rattle.rule_order.specs.declared.keys.Key.{Key}
 use Rattle.rule_order.specs.Inner.Keys.{AreGathered}

@@ -1,10 +1,10 @@
 -- The stored rule of a number, as a record where there is none too, and its ends. It serves the code alone.
 use Rattle.std.specs.Prelude.{◌≡◌, ◌<◌, ℕ, None, length, slice_index_or}
 use Rattle.pol_file.specs.declared.Parts.{Parts}
-use Rattle.pol_rules.specs.declared.RuleKind.TheVariants.{Allow}
-use Rattle.pol_rules.specs.declared.rule.RuleEnds.{RuleEnds}
-use Rattle.pol_rules.specs.declared.RulePart.TheVariants.{Nothing}
-use Rattle.pol_rules.specs.StoredRules.{StoredRule, ends_of, stored_rules}
+use Rattle.pol_read.specs.declared.RuleKind.TheVariants.{Allow}
+use Rattle.pol_read.specs.declared.rule.RuleEnds.{RuleEnds}
+use Rattle.pol_read.specs.declared.RulePart.TheVariants.{Nothing}
+use Rattle.pol_read.specs.StoredRules.{StoredRule, ends_of, stored_rules}
 
 -- a rule that names nothing
 abbrev pub no_rule : StoredRule

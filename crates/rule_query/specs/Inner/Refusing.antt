@@ -4,9 +4,9 @@ use Rattle.std.specs.List.{list_all, list_any}
 use Rattle.pol_fields.specs.declared.TableKind.{TableKind}
 use Rattle.pol_fields.specs.declared.TableKind.TheVariants as tables
 use Rattle.pol_symbols.specs.declared.Symbols.{Symbols}
-use Rattle.pol_rules.specs.declared.RuleKind.{RuleKind}
-use Rattle.pol_rules.specs.DeclaredRules.{default_table}
-use Rattle.pol_rules.specs.RuleOrder.{source_table, target_table}
+use Rattle.pol_read.specs.declared.RuleKind.{RuleKind}
+use Rattle.pol_read.specs.DeclaredRules.{default_table}
+use Rattle.pol_read.specs.RuleOrder.{source_table, target_table}
 use Rattle.rule_query.specs.declared.given.Aspect.{Aspect}
 use Rattle.rule_query.specs.declared.given.Aspect.TheVariants.{Source, Target, Permissions, Numbers, Booleans}
 use Rattle.rule_query.specs.declared.refusing.Refusal.{Refusal}

@@ -5,8 +5,8 @@ use Rattle.pol_fields.specs.declared.TableKind.TheVariants.{Types}
 use Rattle.pol_bitmap.specs.declared.Node.{Node}
 use Rattle.pol_bitmap.specs.Nodes.{has_bit}
 use Rattle.pol_file.specs.declared.Parts.{Parts}
-use Rattle.pol_rules.specs.DeclaredRules.{IsDeclaredIn, IsDeclaredRule}
-use Rattle.pol_rules.specs.StoredRules.{StoredRule}
+use Rattle.pol_read.specs.DeclaredRules.{IsDeclaredIn, IsDeclaredRule}
+use Rattle.pol_read.specs.StoredRules.{StoredRule}
 use Rattle.rule_criteria.specs.declared.Criteria.{Criteria}
 use Rattle.rule_criteria.specs.declared.Criterion.{Criterion}
 use Rattle.rule_query.specs.declared.tests.Test.{Test}

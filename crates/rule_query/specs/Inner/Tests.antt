@@ -11,14 +11,14 @@ use Rattle.pol_symbols.specs.declared.Symbols.{Symbols}
 use Rattle.pol_file.specs.declared.Parts.{Parts}
 use Rattle.pol_expand.specs.Expansion.{Expansions}
 use Rattle.pol_expand.specs.PolicyMap.{IsPolicyMap, expand}
-use Rattle.pol_rules.specs.declared.RuleKind.{RuleKind}
-use Rattle.pol_rules.specs.declared.RuleKind.TheVariants.{RoleAllow}
-use Rattle.pol_rules.specs.declared.RulePart.{RulePart}
-use Rattle.pol_rules.specs.declared.RulePart.TheVariants as parts
-use Rattle.pol_rules.specs.declared.Condition.{Condition}
-use Rattle.pol_rules.specs.DeclaredRules.{IsDeclaredIn, default_table}
-use Rattle.pol_rules.specs.RuleOrder.{source_table, target_table}
-use Rattle.pol_rules.specs.StoredRules.{StoredRule}
+use Rattle.pol_read.specs.declared.RuleKind.{RuleKind}
+use Rattle.pol_read.specs.declared.RuleKind.TheVariants.{RoleAllow}
+use Rattle.pol_read.specs.declared.RulePart.{RulePart}
+use Rattle.pol_read.specs.declared.RulePart.TheVariants as parts
+use Rattle.pol_read.specs.declared.Condition.{Condition}
+use Rattle.pol_read.specs.DeclaredRules.{IsDeclaredIn, default_table}
+use Rattle.pol_read.specs.RuleOrder.{source_table, target_table}
+use Rattle.pol_read.specs.StoredRules.{StoredRule}
 use Rattle.regex.specs.declared.string.regex.Regex.{Regex}
 use Rattle.se_outside.specs.Patterns.{IsBuiltFrom}
 use Rattle.named_values.specs.Found.{is_found}

@@ -7,9 +7,9 @@ use Rattle.pol_bitmap.specs.declared.Node.{Node}
 use Rattle.pol_bitmap.specs.Nodes.{has_bit}
 use Rattle.pol_file.specs.declared.Parts.{Parts}
 use Rattle.pol_expand.specs.PolicyMap.{expand}
-use Rattle.pol_places.specs.declared.Entry.{Entry}
-use Rattle.pol_places.specs.Members.{HasNumbers, bits_at, product_of}
-use Rattle.pol_rules.specs.DeclaredRules.{IsDeclaredIn}
+use Rattle.set_products.specs.declared.Entry.{Entry}
+use Rattle.set_products.specs.Members.{HasNumbers, bits_at, product_of}
+use Rattle.pol_read.specs.DeclaredRules.{IsDeclaredIn}
 use Rattle.rule_criteria.specs.Modes.{is_direct}
 use Rattle.rule_criteria.specs.declared.Criteria.{Criteria}
 use Rattle.rule_criteria.specs.declared.Criterion.{Criterion}

@@ -9,8 +9,8 @@ use Rattle.pol_commons.specs.Permissions.{bit_of}
 use Rattle.pol_classes.specs.declared.ClassRec.{ClassRec}
 use Rattle.pol_symbols.specs.PolicySymbols.{index_in, permissions_of}
 use Rattle.pol_symbols.specs.declared.Symbols.{Symbols}
-use Rattle.pol_rules.specs.declared.RulePart.{RulePart}
-use Rattle.pol_rules.specs.declared.RulePart.TheVariants as parts
+use Rattle.pol_read.specs.declared.RulePart.{RulePart}
+use Rattle.pol_read.specs.declared.RulePart.TheVariants as parts
 use Rattle.rule_criteria.specs.Elements.{elements_of}
 use Rattle.rule_criteria.specs.declared.Criterion.{Criterion}
 use Rattle.rule_criteria.specs.declared.Mode.{Mode}

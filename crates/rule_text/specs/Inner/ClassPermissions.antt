@@ -8,8 +8,8 @@ use Rattle.pol_classes.specs.declared.ClassRec.{ClassRec}
 use Rattle.pol_symbols.specs.declared.Symbols.{Symbols}
 use Rattle.pol_symbols.specs.PolicySymbols.{permissions_of}
 use Rattle.pol_texts.specs.SetTexts.{set_text}
-use Rattle.pol_rules.specs.declared.rule.RulePart.{RulePart}
-use Rattle.pol_rules.specs.declared.rule.RulePart.TheVariants.{Perms}
+use Rattle.pol_read.specs.declared.rule.RulePart.{RulePart}
+use Rattle.pol_read.specs.declared.rule.RulePart.TheVariants.{Perms}
 use Rattle.info_lines.specs.PermissionSets.{permissions_text}
 
 -- the names of those of these permissions whose bits are set, as a set in the order in which they stand

@@ -3,10 +3,10 @@ use Rattle.std.specs.Prelude.{ℕ, List, ◌++◌, codes}
 use Rattle.pol_cursor.specs.References.{name_of}
 use Rattle.pol_symbols.specs.PolicySymbols.{name_in}
 use Rattle.pol_symbols.specs.declared.Symbols.{Symbols}
-use Rattle.pol_rules.specs.RuleOrder.{source_table, target_table}
-use Rattle.pol_rules.specs.declared.rule.RuleKind.{RuleKind}
-use Rattle.pol_rules.specs.declared.rule.RulePart.{RulePart}
-use Rattle.pol_rules.specs.StoredRules.{StoredRule}
+use Rattle.pol_read.specs.RuleOrder.{source_table, target_table}
+use Rattle.pol_read.specs.declared.rule.RuleKind.{RuleKind}
+use Rattle.pol_read.specs.declared.rule.RulePart.{RulePart}
+use Rattle.pol_read.specs.StoredRules.{StoredRule}
 use Rattle.rule_text.specs.declared.rule_frame.RuleFrame.{RuleFrame}
 use Rattle.rule_text.specs.RuleTexts.{keyword, class_text, part_text, file_name_text}
 

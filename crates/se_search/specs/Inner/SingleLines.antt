@@ -2,10 +2,10 @@
 use Rattle.std.specs.Prelude.{◌≡◌, ◌<◌, ◌≤◌, ◌+◌, ◌*◌, ◌-◌, ◌++◌, ℕ, Bool, true, false, List, [], ◌∷◌, Option, Some, None, length, map, min, slice_get, take, drop}
 use Rattle.std.specs.List.{All, concat}
 use Rattle.pol_file.specs.declared.Parts.{Parts}
-use Rattle.pol_places.specs.declared.Place.{Place}
-use Rattle.pol_places.specs.Members.{Product, members}
-use Rattle.pol_places.specs.Standing.{StandsAt, member_in}
-use Rattle.pol_rules.specs.StoredRules.{stored_rules}
+use Rattle.set_products.specs.declared.Place.{Place}
+use Rattle.set_products.specs.Members.{Product, members}
+use Rattle.set_products.specs.Standing.{StandsAt, member_in}
+use Rattle.pol_read.specs.StoredRules.{stored_rules}
 use Rattle.se_search.specs.declared.row_lines.RowLines.{RowLines}
 use Rattle.se_search.specs.declared.single_lines.SingleLines.{SingleLines}
 use Rattle.se_search.specs.Inner.RowLines.{IsFrameOf, IsHeadOf}

@@ -1,8 +1,8 @@
 use Rattle.std.proofs.Common.{◌≡◌, ℕ, sym, ap, ◌∙◌, refl}
 use Rattle.std.specs.Prelude.{nat_le, if◌then◌else◌}
-use Rattle.pol_rules.specs.declared.RulePart.{RulePart}
-use Rattle.pol_rules.specs.declared.RulePart.TheVariants.{Default}
-use Rattle.pol_rules.specs.StoredRules.{stored}
+use Rattle.pol_read.specs.declared.RulePart.{RulePart}
+use Rattle.pol_read.specs.declared.RulePart.TheVariants.{Default}
+use Rattle.pol_read.specs.StoredRules.{stored}
 use Rattle.dom_trans.specs.Inner.ByDefault.{part_default}
 use Rattle.dom_trans.proofs.Grouped.{value_of}
 use Rattle.dom_trans.proofs.by_default.default_of.Goals as goal

@@ -1,5 +1,5 @@
 use Rattle.std.proofs.Common.{length}
-use Rattle.pol_rules.specs.StoredRules.{stored_rules}
+use Rattle.pol_read.specs.StoredRules.{stored_rules}
 use Rattle.dom_trans.specs.Grants.{gives, sets_default}
 use Rattle.dom_trans.specs.Inner.Keeping.{wanted_in}
 use Rattle.dom_trans.proofs.Chosen.{one_more}

@@ -1,5 +1,5 @@
 use Rattle.std.proofs.Common.{sym, ◌∙◌}
-use Rattle.pol_rules.specs.StoredRules.{stored}
+use Rattle.pol_read.specs.StoredRules.{stored}
 use Rattle.dom_trans.specs.Grants.{gives}
 use Rattle.dom_trans.proofs.Keeps.{kept_more, gives_types, on_both}
 use Rattle.dom_trans.proofs.keeping.add_giving.Goals as goal

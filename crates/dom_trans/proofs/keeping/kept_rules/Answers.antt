@@ -1,5 +1,5 @@
 use Rattle.std.proofs.Common.{◌≡◌, ◌+◌, ℕ, arith, length, sym, ap, subst, ◌∙◌}
-use Rattle.pol_rules.specs.StoredRules.{stored_rules}
+use Rattle.pol_read.specs.StoredRules.{stored_rules}
 use Rattle.dom_trans.specs.declared.keeping.Wanted.{Wanted}
 use Rattle.dom_trans.specs.Inner.Keeping.{wanted_in, is_asked_class, AreKept}
 use Rattle.dom_trans.proofs.Keeps.{kept_past}

@@ -1,4 +1,4 @@
-use Rattle.pol_rules.specs.StoredRules.{stored}
+use Rattle.pol_read.specs.StoredRules.{stored}
 use Rattle.perm_map.specs.PermissionMap.{weights_of}
 use Rattle.flow_search.specs.FlowWeights.{inwards, outwards}
 use Rattle.flow_search.proofs.Weighing.{by_test, reached_more}

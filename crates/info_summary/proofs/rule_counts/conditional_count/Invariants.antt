@@ -1,5 +1,5 @@
 use Rattle.std.proofs.Common.{◌≡◌, ◌+◌, length}
-use Rattle.pol_rules.specs.StoredRules.{rules_of_nodes}
+use Rattle.pol_read.specs.StoredRules.{rules_of_nodes}
 use Rattle.info_summary.proofs.RuleCounting.{rules_from}
 use Rattle.info_summary.proofs.rule_counts.conditional_count.Given as goal
 

@@ -1,9 +1,9 @@
 use Rattle.std.proofs.Common.{◌+◌, get_or, refl, slice_set, sym, take, ap, ◌∙◌}
-use Rattle.pol_rules.specs.declared.rule.RuleKind.{RuleKind}
-use Rattle.pol_rules.specs.declared.rule.RuleEnds.{RuleEnds}
-use Rattle.pol_rules.specs.RuleOrder.{kind_number}
-use Rattle.pol_rules.specs.StoredRules.{stored_rules}
-use Rattle.pol_rules.proofs.RulesDeclared.{rule_with_ends}
+use Rattle.pol_read.specs.declared.rule.RuleKind.{RuleKind}
+use Rattle.pol_read.specs.declared.rule.RuleEnds.{RuleEnds}
+use Rattle.pol_read.specs.RuleOrder.{kind_number}
+use Rattle.pol_read.specs.StoredRules.{stored_rules}
+use Rattle.pol_read.proofs.RulesDeclared.{rule_with_ends}
 use Rattle.info_summary.specs.RuleCounts.{kind_counts}
 use Rattle.info_summary.proofs.RuleCounting.{one_counted}
 use Rattle.info_summary.proofs.rule_counts.count_first.Goals as goal

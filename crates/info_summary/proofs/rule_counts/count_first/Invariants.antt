@@ -1,5 +1,5 @@
 use Rattle.std.proofs.Common.{◌≡◌, take}
-use Rattle.pol_rules.specs.StoredRules.{stored_rules}
+use Rattle.pol_read.specs.StoredRules.{stored_rules}
 use Rattle.info_summary.specs.RuleCounts.{kind_counts}
 use Rattle.info_summary.proofs.rule_counts.count_first.Given as goal
 

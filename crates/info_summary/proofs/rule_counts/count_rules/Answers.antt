@@ -1,6 +1,6 @@
 use Rattle.std.proofs.Common.{◌≡◌, ◌+◌, length, ◌∙◌, ap, sym, refl}
 use Rattle.std.proofs.lemmas.List.{length-map}
-use Rattle.pol_rules.specs.StoredRules.{rules_of_nodes}
+use Rattle.pol_read.specs.StoredRules.{rules_of_nodes}
 use Rattle.info_summary.proofs.RuleCounting.{Sizes, sizes_are, roles, allows, ranges, first_fits, after_one, after_two, after_three, all_counted}
 use Rattle.info_summary.proofs.rule_counts.count_rules.Goals as goal
 

@@ -2,8 +2,8 @@ use Rattle.std.proofs.Common.{◌≡◌, ℕ, Option, Some, None, slice_get, sym
 use Rattle.std.specs.Prelude.{option_map}
 use Rattle.std.proofs.lemmas.Option.{none-some}
 use Rattle.pol_file.specs.declared.Parts.{Parts}
-use Rattle.pol_rules.specs.declared.RuleEnds.{RuleEnds}
-use Rattle.pol_rules.specs.StoredRules.{StoredRule, ends_of, stored_rules}
+use Rattle.pol_read.specs.declared.RuleEnds.{RuleEnds}
+use Rattle.pol_read.specs.StoredRules.{StoredRule, ends_of, stored_rules}
 use Rattle.rule_ends.specs.ChosenRules.{begins_at, holds_type, passes}
 use Rattle.rule_ends.proofs.joining.rule_begins_at.Goals as goal
 

@@ -1,6 +1,6 @@
 use Rattle.std.proofs.Common.{ℕ, ◌<◌, length}
 use Rattle.std.proofs.lemmas.List.Sorted.{All-permutation, IsPermutation-sym}
-use Rattle.pol_rules.specs.StoredRules.{stored_rules}
+use Rattle.pol_read.specs.StoredRules.{stored_rules}
 use Rattle.rule_order.proofs.SortedNumbers.{are_declared, rearranged}
 use Rattle.rule_order.proofs.laws.rules_have_one_order.Goals as goal
 

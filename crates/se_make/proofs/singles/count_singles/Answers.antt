@@ -1,5 +1,5 @@
 use Rattle.std.proofs.Common.{arith}
-use Rattle.pol_rules.specs.StoredRules.{stored}
+use Rattle.pol_read.specs.StoredRules.{stored}
 use Rattle.se_make.proofs.Counted.{all_counted, counted_more}
 use Rattle.se_make.proofs.singles.count_singles.Goals as goal
 

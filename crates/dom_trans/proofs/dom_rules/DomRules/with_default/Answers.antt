@@ -3,7 +3,7 @@ use Rattle.std.specs.List.{filter}
 use Rattle.std.proofs.lemmas.Bool.{cond-true, cond-false}
 use Rattle.std.proofs.lemmas.List.Elements.{filter_more}
 use Rattle.pol_file.specs.declared.Parts.{Parts}
-use Rattle.pol_rules.specs.StoredRules.{stored}
+use Rattle.pol_read.specs.StoredRules.{stored}
 use Rattle.dom_trans.specs.Grants.{has_default}
 use Rattle.dom_trans.proofs.Defaults.{default_of}
 use Rattle.dom_trans.proofs.dom_rules.DomRules.with_default.Goals as goal

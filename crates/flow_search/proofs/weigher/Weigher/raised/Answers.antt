@@ -1,5 +1,5 @@
 use Rattle.std.proofs.Common.{◌≡◌, Some, slice_get, subst, arith}
-use Rattle.pol_rules.specs.StoredRules.{stored, stored_rules}
+use Rattle.pol_read.specs.StoredRules.{stored, stored_rules}
 use Rattle.perm_map.specs.PermissionMap.{weights_of}
 use Rattle.flow_search.specs.Inner.WeightTables.{Weighing}
 use Rattle.flow_search.proofs.Weighing.{nothing_raised}

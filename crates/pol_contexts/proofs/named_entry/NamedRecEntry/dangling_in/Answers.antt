@@ -1,7 +1,7 @@
 use Rattle.std.proofs.Common.{◌≡◌, Some, sym, subst}
 use Rattle.pol_cursor.specs.References.{Placed, dangling_of}
-use Rattle.pol_context.specs.declared.context_rec.ContextRec.{ContextRec}
-use Rattle.pol_context.specs.ContextRecord.{context_references}
+use Rattle.pol_mls.specs.declared.context_rec.ContextRec.{ContextRec}
+use Rattle.pol_mls.specs.ContextRecord.{context_references}
 use Rattle.pol_contexts.specs.NamedRecord.{context_place, second_place}
 use Rattle.pol_cursor.proofs.DanglingLists.{undeclared_first}
 use Rattle.pol_contexts.proofs.named_entry.NamedRecEntry.dangling_in.Goals as goal

@@ -1,5 +1,5 @@
 use Rattle.std.proofs.Common.{◌+◌, sym}
-use Rattle.pol_context.specs.ContextRecord.{context_references}
+use Rattle.pol_mls.specs.ContextRecord.{context_references}
 use Rattle.pol_genfs.specs.GenfsRecord.{class_place, class_references}
 use Rattle.pol_cursor.proofs.DanglingLists.{undeclared_first}
 use Rattle.pol_genfs.proofs.genfs_path_view.GenfsPathView.dangling.Goals as goal

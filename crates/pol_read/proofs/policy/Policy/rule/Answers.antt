@@ -1,5 +1,5 @@
-use Rattle.pol_rules.specs.StoredRules.{stored}
-use Rattle.pol_rules.proofs.RulesDeclared.{rule_is_declared}
+use Rattle.pol_read.specs.StoredRules.{stored}
+use Rattle.pol_read.proofs.RulesDeclared.{rule_is_declared}
 use Rattle.pol_read.proofs.policy.Policy.rule.Goals as goal
 
 pub returns-clause-declared : goal.returns-clause-declared

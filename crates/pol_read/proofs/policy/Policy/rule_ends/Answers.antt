@@ -1,4 +1,4 @@
-use Rattle.pol_rules.proofs.RulesDeclared.{ends_are_declared}
+use Rattle.pol_read.proofs.RulesDeclared.{ends_are_declared}
 use Rattle.pol_read.proofs.policy.Policy.rule_ends.Goals as goal
 
 pub returns-clause-declared : goal.returns-clause-declared

@@ -1,7 +1,7 @@
 use Rattle.std.proofs.Common.{rules}
 use Rattle.std.proofs.lemmas.Fn.{always_returns_same}
-use Rattle.pol_rules.specs.RuleOrder.{rank_key_of}
-use Rattle.pol_rules.proofs.RuleRanks.{in_rule_order}
+use Rattle.pol_read.specs.RuleOrder.{rank_key_of}
+use Rattle.pol_read.proofs.RuleRanks.{in_rule_order}
 use Rattle.pol_read.proofs.policy.Policy.sort_rules.Goals as goal
 
 pub returns-clause-rise : goal.returns-clause-rise

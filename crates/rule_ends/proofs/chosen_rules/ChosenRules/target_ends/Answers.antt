@@ -1,7 +1,7 @@
 use Rattle.std.proofs.Common.{◌<◌, ◌+◌, get_or, take, ap, sym, subst, ◌∙◌, length, arith}
 use Rattle.std.specs.List.{Contains}
 use Rattle.std.proofs.lemmas.List.Elements.{All-contains, All-get_or}
-use Rattle.pol_rules.specs.StoredRules.{stored_rules}
+use Rattle.pol_read.specs.StoredRules.{stored_rules}
 use Rattle.value_groups.specs.Inner.Marking.{MarkedValues}
 use Rattle.rule_ends.specs.ChosenRules.{ChosenRules}
 use Rattle.rule_ends.specs.Inner.EndTables.{AreTargetsOf}

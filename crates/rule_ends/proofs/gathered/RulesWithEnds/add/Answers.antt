@@ -1,5 +1,5 @@
 use Rattle.pol_file.proofs.Acceptances.{accepted_has_type_values}
-use Rattle.pol_rules.specs.StoredRules.{stored}
+use Rattle.pol_read.specs.StoredRules.{stored}
 use Rattle.rule_ends.proofs.Ends.{gathered_more}
 use Rattle.rule_ends.proofs.gathered.RulesWithEnds.add.Goals as goal
 

@@ -1,8 +1,8 @@
 use Rattle.std.proofs.Common.{◌≡◌, ◌∙◌, ◌++◌, ℕ, List, Option, None, OnOk, option_map, refl, sym, ap, subst}
-use Rattle.pol_rules.specs.StoredRules.{StoredRule, av_rule, ends_of}
-use Rattle.pol_rules.specs.declared.rule.RuleEnds.{RuleEnds}
-use Rattle.pol_rules.specs.declared.rule.RulePart.{RulePart}
-use Rattle.pol_rules.specs.declared.rule.RulePart.TheVariants.{Default}
+use Rattle.pol_read.specs.StoredRules.{StoredRule, av_rule, ends_of}
+use Rattle.pol_read.specs.declared.rule.RuleEnds.{RuleEnds}
+use Rattle.pol_read.specs.declared.rule.RulePart.{RulePart}
+use Rattle.pol_read.specs.declared.rule.RulePart.TheVariants.{Default}
 use Rattle.rule_listing.specs.Inner.KeptTexts.{begun_text, ended_text, ended_with}
 use Rattle.rule_listing.proofs.WholeTexts.{ended_added}
 use Rattle.rule_listing.proofs.listed_texts.ListedTexts.push_vector.Goals as goal

@@ -1,6 +1,6 @@
 use Rattle.std.proofs.Common.{◌≡◌, ◌∙◌, ◌++◌, ℕ, List, OnOk, ap, subst}
 use Rattle.pol_file.specs.declared.Parts.{Parts}
-use Rattle.pol_rules.specs.StoredRules.{ends_of, stored}
+use Rattle.pol_read.specs.StoredRules.{ends_of, stored}
 use Rattle.pol_symbols.specs.PolicySymbols.{name_in}
 use Rattle.rule_text.specs.ConditionTexts.{condition_text}
 use Rattle.rule_listing.specs.Inner.KeptTexts.{begun_text, ended_text}

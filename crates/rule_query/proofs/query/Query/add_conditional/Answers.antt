@@ -1,6 +1,6 @@
 use Rattle.std.proofs.Common.{Some, sym, ◌∙◌}
-use Rattle.pol_rules.specs.StoredRules.{av_rule}
-use Rattle.pol_rules.proofs.RulesDeclared.{rule_is_declared}
+use Rattle.pol_read.specs.StoredRules.{av_rule}
+use Rattle.pol_read.proofs.RulesDeclared.{rule_is_declared}
 use Rattle.rule_query.proofs.MetRules.{met_failing}
 use Rattle.rule_query.proofs.query.Query.add_conditional.Goals as goal
 

@@ -1,7 +1,7 @@
 use Rattle.std.proofs.Common.{◌≡◌, ◌+◌, Some, List, ap, length, map, ◌∙◌, arith}
 use Rattle.pol_cursor.specs.References.{Placed}
 use Rattle.pol_avtab.specs.declared.AvRec.{AvRec}
-use Rattle.pol_rules.specs.StoredRules.{StoredRule, av_rule, rules_of_branch}
+use Rattle.pol_read.specs.StoredRules.{StoredRule, av_rule, rules_of_branch}
 use Rattle.rule_query.proofs.MetRules.{branch_there, stand_behind, stand_first}
 use Rattle.rule_query.proofs.query.Query.add_of_branch.Goals as goal
 

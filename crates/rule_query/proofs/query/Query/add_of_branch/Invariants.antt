@@ -1,5 +1,5 @@
 use Rattle.std.proofs.Common.{◌≡◌, ◌+◌, Some, length, map}
-use Rattle.pol_rules.specs.StoredRules.{av_rule, rules_of_branch}
+use Rattle.pol_read.specs.StoredRules.{av_rule, rules_of_branch}
 use Rattle.rule_query.specs.Inner.Gathering.{HasMet, StandFrom}
 use Rattle.rule_query.proofs.query.Query.add_of_branch.Given as goal
 

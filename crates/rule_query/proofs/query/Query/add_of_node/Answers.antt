@@ -1,5 +1,5 @@
 use Rattle.std.proofs.Common.{false, true}
-use Rattle.pol_rules.specs.StoredRules.{rules_of_branch}
+use Rattle.pol_read.specs.StoredRules.{rules_of_branch}
 use Rattle.rule_query.proofs.MetRules.{stand_right}
 use Rattle.rule_query.proofs.query.Query.add_of_node.Goals as goal
 

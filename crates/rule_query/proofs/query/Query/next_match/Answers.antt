@@ -1,5 +1,5 @@
 use Rattle.std.proofs.Common.{◌∙◌, length, sym, arith}
-use Rattle.pol_rules.specs.StoredRules.{stored_rules}
+use Rattle.pol_read.specs.StoredRules.{stored_rules}
 use Rattle.rule_query.specs.Meeting.{meets}
 use Rattle.rule_query.proofs.Passing.{first_here, first_later, none_left}
 use Rattle.rule_query.proofs.query.Query.next_match.Goals as goal

@@ -1,5 +1,5 @@
 use Rattle.std.proofs.Common.{arith, refl}
-use Rattle.pol_places.specs.Standing.{IsRowAt}
+use Rattle.set_products.specs.Standing.{IsRowAt}
 use Rattle.se_search.proofs.SingleRows.{no_turn, row_begun, row_rule, row_there}
 use Rattle.se_search.proofs.single_lines.SingleLines.begin_row.Goals as goal
 

@@ -1,8 +1,0 @@
-use Rattle.pol_context.proofs.ContextLaws.{context_spelled, context_again}
-use Rattle.pol_context.proofs.record_laws.contexts_have_laws.Goals as goal
-
-pub returns-clause-again : goal.returns-clause-again
-returns-clause-again c = context_again
-
-pub returns-clause-spelled : goal.returns-clause-spelled
-returns-clause-spelled c = context_spelled

@@ -1,2 +1,0 @@
-pub mod ContextRecord
-pub mod ContextText

@@ -1,5 +1,0 @@
-use Rattle.pol_places.proofs.Ruling.{members_ruled}
-use Rattle.pol_places.proofs.place_laws.members_are_single_rules.Goals as goal
-
-pub returns : goal.returns
-returns c = members_ruled
