@@ -1,5 +1,6 @@
 -- Record 16: an access vector, which is one rule (libsepol's avtab_read_item).
 use Rattle.std.specs.Prelude.{◌≡◌, ℕ, ◌+◌, ◌^◌, ◌<◌, ◌≤◌, Bool, true, false, not, ◌==◌, ◌&&◌, ◌||◌, Option, Some, None, List, [], ◌∷◌, ◌++◌, length, take, drop, bit_and, nat_le, option_map, if◌then◌else◌}
+use Rattle.pol_fields.specs.declared.limits.TheConstants.{MAX_POLICY_BYTES}
 use Rattle.pol_fields.specs.declared.fault.Cause.{Cause}
 use Rattle.pol_fields.specs.declared.fault.Cause.TheVariants.{BadSpecified, BadExtendedKind, ExtendedInCondition, DuplicateRule}
 use Rattle.pol_fields.specs.declared.table_kind.TableKind.TheVariants.{Types, Classes}
@@ -132,7 +133,7 @@ av_end bytes place = place + av_length (specified_in bytes place)
 
 -- an access vector stands there, in a buffer of a policy's size
 abbrev pub HasAv : List ℕ → ℕ → Type 0
-HasAv bytes place = (av_end bytes place ≤ length bytes) × (length bytes ≤ 67108864)
+HasAv bytes place = (av_end bytes place ≤ length bytes) × (length bytes ≤ MAX_POLICY_BYTES)
 
 -- ---- what it names
 

@@ -1,6 +1,7 @@
 //! Rules that take twelve bytes each, one behind the other, and so are found by their numbers alone.
 
 ghost use Rattle.std.specs.Prelude.{◌≡◌, ◌<◌, ◌≤◌, ◌+◌, ◌*◌, ◌==◌, ℕ, Bool, Some, true, false, length, option_map};
+ghost use Rattle.pol_fields.specs.declared.limits.TheConstants.{MAX_POLICY_BYTES};
 ghost use Rattle.std.specs.List.{IsDistinct};
 ghost use Rattle.pol_avtab.specs.Inner.EvenRules.{even_rules, HasEven};
 ghost use Rattle.pol_avtab.specs.Inner.DuplicateKeys.{rules_behind, words_of, IsRead};
@@ -37,7 +38,7 @@ pub(crate) fn read_even_rules<'a>(
 // the order of tables that libsepol wrote.
 fn look_over(bytes: &[u8], place: u32, n: u32) -> Option<bool>
     requires long { place + n * 12 ≤ length bytes.now }
-    requires small { length bytes.now ≤ 67108864 }
+    requires small { length bytes.now ≤ MAX_POLICY_BYTES }
     ensures plain { (rising : Bool) → result ≡ Some rising → HasEven bytes.now place n }
     ensures rising { result ≡ Some true → IsDistinct ◌==◌ (words_of (even_rules bytes.now place n)) }
 {

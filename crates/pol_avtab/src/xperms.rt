@@ -1,4 +1,5 @@
 ghost use Rattle.std.specs.Prelude.{◌≡◌, ◌+◌, ◌≤◌, ◌<◌, ℕ, false, IfSome, IfNone, length};
+ghost use Rattle.pol_fields.specs.declared.limits.TheConstants.{MAX_POLICY_BYTES};
 ghost use Rattle.std.specs.List.{All};
 ghost use Rattle.pol_bitmap.specs.Nodes.{IsLeastFrom};
 ghost use Rattle.pol_avtab.specs.XPerms.{xperms_in, has_xbit, holds, numbers_of, shown_mask, IsNextBit};
@@ -18,6 +19,7 @@ pub struct XPerms<'a> {
 }
 
 impl<'a> Model for XPerms<'a> {
+    ghost use Rattle.pol_fields.specs.declared.limits.TheConstants.{MAX_POLICY_BYTES};
     ghost use Rattle.std.specs.Prelude.{◌+◌, ◌≤◌, length};
     ghost use Rattle.pol_avtab.specs.XPerms.{Numbers, xperms_in};
 
@@ -25,14 +27,14 @@ impl<'a> Model for XPerms<'a> {
 
     ghost view = { λ x. xperms_in x.bytes.now x.place };
 
-    ghost invariant = { λ x. (x.place + 34 ≤ length x.bytes.now) × (length x.bytes.now ≤ 67108864) };
+    ghost invariant = { λ x. (x.place + 34 ≤ length x.bytes.now) × (length x.bytes.now ≤ MAX_POLICY_BYTES) };
 }
 
 impl<'a> XPerms<'a> {
     /// The numbers of the extended part at a place that has one.
     pub(crate) fn at(bytes: &'a [u8], place: u32) -> XPerms<'a>
         requires long { place + 34 ≤ length bytes.now }
-        requires size { length bytes.now ≤ 67108864 }
+        requires size { length bytes.now ≤ MAX_POLICY_BYTES }
         ensures { result ≡ xperms_in bytes.now place }
     {
         XPerms { bytes, place }

@@ -1,5 +1,6 @@
 -- A bitmap by where it stands, and its bits.
 use Rattle.std.specs.Prelude.{◌≡◌, ℕ, zero, suc, ◌+◌, ◌*◌, ◌-◌, ◌%◌, ◌≤◌, ◌<◌, Bool, ◌&&◌, List, [], ◌∷◌, length, nat_le, nat_lt, ◌==◌}
+use Rattle.pol_fields.specs.declared.limits.TheConstants.{MAX_POLICY_BYTES}
 use Rattle.std.specs.List.{All, Contains, list_any, filter, flat_map, range_with_len}
 use Rattle.std.specs.Int.{bit_at}
 use Rattle.pol_cursor.specs.Parts.{num}
@@ -28,7 +29,7 @@ IsRisingFrom least (n ∷ ns) = (least ≤ n.start) × (n.start % 64 ≡ 0) × (
 
 -- a bitmap stands there, in a buffer of a policy's size
 abbrev pub HasBitmap : List ℕ → ℕ → Type 0
-HasBitmap bytes place = (place + 12 + 12 * num bytes (place + 8) 4 ≤ length bytes) × (length bytes ≤ 67108864) × IsRisingFrom 0 (bitmap_in bytes place)
+HasBitmap bytes place = (place + 12 + 12 * num bytes (place + 8) 4 ≤ length bytes) × (length bytes ≤ MAX_POLICY_BYTES) × IsRisingFrom 0 (bitmap_in bytes place)
 
 -- the bits of a node, rising: those of the 64 from its start on that its map has (libsepol's ebitmap)
 unfoldable pub node_bits : Node → List ℕ

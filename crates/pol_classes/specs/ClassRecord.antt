@@ -1,5 +1,6 @@
 -- Record 6: a class of objects, with the permissions on them and the constraints on these (libsepol's class_read).
 use Rattle.std.specs.Prelude.{ℕ, ◌+◌, ◌^◌, ◌<◌, ◌≤◌, ◌==◌, ◌||◌, nat_le, is_some, Option, Some, true, false, List, ◌++◌, length, take, drop}
+use Rattle.pol_fields.specs.declared.limits.TheConstants.{MAX_POLICY_BYTES}
 use Rattle.std.specs.List.{flat_map, AllByRecursion}
 use Rattle.pol_fields.specs.declared.fault.Cause.{Cause}
 use Rattle.pol_fields.specs.declared.fault.Cause.TheVariants.{UnknownCommon, BadDefault}
@@ -187,7 +188,7 @@ class_in version bytes place = record {
 
 -- a head stands there, in a buffer of a policy's size
 abbrev pub HasHead : List ℕ → ℕ → Type 0
-HasHead bytes place = (head_end bytes place ≤ length bytes) × (length bytes ≤ 67108864)
+HasHead bytes place = (head_end bytes place ≤ length bytes) × (length bytes ≤ MAX_POLICY_BYTES)
 
 -- a class stands there, in a buffer of a policy's size
 pub record HasClass (version : ℕ) (bytes : List ℕ) (place : ℕ) : Type 0 where

@@ -1,4 +1,5 @@
 ghost use Rattle.std.specs.Prelude.{◌≡◌, ◌≤◌, ◌+◌, IfOk, OnOk, length};
+ghost use Rattle.pol_fields.specs.declared.limits.TheConstants.{MAX_POLICY_BYTES};
 ghost use Rattle.pol_cursor.specs.Outcome.{Answers};
 ghost use Rattle.pol_cursor.specs.Parts.{num};
 ghost use Rattle.pol_classes.specs.ClassRecord.{default_at, class_at, class_in, constraints_place, validatetrans_place, defaults_place, HasClass};
@@ -172,7 +173,7 @@ fn constraints_place(bytes: &[u8], place: u32, version: u32) -> u32
 fn validatetrans_place(bytes: &[u8], place: u32, version: u32) -> u32
     requires { HasClass version bytes.now place }
     ensures exact { result ≡ validatetrans_place version bytes.now place }
-    ensures within { (result + 4 ≤ length bytes.now) × (length bytes.now ≤ 67108864) }
+    ensures within { (result + 4 ≤ length bytes.now) × (length bytes.now ≤ MAX_POLICY_BYTES) }
 {
     let constraints = constraints_place(bytes, place, version);
     let count = HeadView::at(bytes, place).ncons();
@@ -184,7 +185,7 @@ fn validatetrans_place(bytes: &[u8], place: u32, version: u32) -> u32
 fn defaults_place(bytes: &[u8], place: u32, version: u32) -> u32
     requires { HasClass version bytes.now place }
     ensures exact { result ≡ defaults_place version bytes.now place }
-    ensures within { (result + 16 ≤ length bytes.now) × (length bytes.now ≤ 67108864) }
+    ensures within { (result + 16 ≤ length bytes.now) × (length bytes.now ≤ MAX_POLICY_BYTES) }
 {
     let place = validatetrans_place(bytes, place, version);
     let count = u32_in(bytes, place as usize);

@@ -1,5 +1,6 @@
 -- Record 5: a common, which is permissions that classes inherit (libsepol's common_read).
 use Rattle.std.specs.Prelude.{ℕ, ◌+◌, ◌^◌, ◌<◌, ◌≤◌, nat_le, Option, Some, List, [], ◌++◌, length, take, drop}
+use Rattle.pol_fields.specs.declared.limits.TheConstants.{MAX_POLICY_BYTES}
 use Rattle.std.specs.List.{flat_map, AllByRecursion}
 use Rattle.pol_fields.specs.declared.fault.Cause.{Cause}
 use Rattle.pol_fields.specs.declared.fault.Cause.TheVariants.{TableTooLarge}
@@ -63,4 +64,4 @@ common_in bytes place = record {
 -- a common stands there, in a buffer of a policy's size
 abbrev pub HasCommon : List ℕ → ℕ → Type 0
 HasCommon bytes place =
-    (common_permissions bytes place ≤ length bytes) × (length bytes ≤ 67108864) × HavePermissions bytes (common_permissions bytes place) (num bytes (place + 12) 4)
+    (common_permissions bytes place ≤ length bytes) × (length bytes ≤ MAX_POLICY_BYTES) × HavePermissions bytes (common_permissions bytes place) (num bytes (place + 12) 4)

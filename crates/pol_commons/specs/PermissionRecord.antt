@@ -1,5 +1,6 @@
 -- Record 4: a permission of a class or of a common (libsepol's perm_read).
 use Rattle.std.specs.Prelude.{ℕ, ◌+◌, ◌^◌, ◌<◌, ◌≤◌, List, ◌++◌, length, map, take, drop}
+use Rattle.pol_fields.specs.declared.limits.TheConstants.{MAX_POLICY_BYTES}
 use Rattle.pol_fields.specs.declared.fields.TheConstants.{PERMISSION_LEN, PERMISSION_VALUE, PERMISSION_NAME}
 use Rattle.pol_cursor.specs.Outcome.{Reader, ◌>>=◌, done}
 use Rattle.pol_cursor.specs.Parts.{num, number_if}
@@ -56,4 +57,4 @@ permission_end bytes place = place + 8 + num bytes place 4
 -- a permission stands there, in a buffer of a policy's size
 abbrev pub HasPermission : List ℕ → ℕ → Type 0
 HasPermission bytes place =
-    (permission_end bytes place ≤ length bytes) × (length bytes ≤ 67108864) × (1 ≤ num bytes (place + 4) 4) × (num bytes (place + 4) 4 ≤ permission_limit)
+    (permission_end bytes place ≤ length bytes) × (length bytes ≤ MAX_POLICY_BYTES) × (1 ≤ num bytes (place + 4) 4) × (num bytes (place + 4) 4 ≤ permission_limit)

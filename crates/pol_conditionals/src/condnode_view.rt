@@ -1,4 +1,5 @@
 ghost use Rattle.std.specs.Prelude.{◌≡◌, ◌+◌, ◌≤◌, true, false, IfOk, OnOk, length};
+ghost use Rattle.pol_fields.specs.declared.limits.TheConstants.{MAX_POLICY_BYTES};
 ghost use Rattle.std.specs.List.{flat_map};
 ghost use Rattle.pol_cursor.specs.Outcome.{Answers};
 ghost use Rattle.pol_cursor.specs.References.{dangling_of, values_of};
@@ -147,7 +148,7 @@ fn false_count_place(bytes: &[u8], place: u32) -> u32
 // The rules behind their number, which stands at a place.
 fn rules_at<'a>(bytes: &'a [u8], place: u32) -> Run<'a, Av>
     requires stand { HasRules bytes.now place }
-    requires size { length bytes.now ≤ 67108864 }
+    requires size { length bytes.now ≤ MAX_POLICY_BYTES }
     ensures { result ≡ rules_in bytes.now place }
 {
     Run::at(bytes, place + 4, u32_in(bytes, place as usize))

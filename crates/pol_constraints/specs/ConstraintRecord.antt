@@ -1,5 +1,6 @@
 -- The expression of a constraint: record 7 (libsepol's read_cons_helper).
 use Rattle.std.specs.Prelude.{◌≡◌, ℕ, zero, suc, ◌+◌, ◌^◌, ◌<◌, ◌≤◌, Bool, true, ◌&&◌, ◌||◌, ◌==◌, nat_eq, nat_le, if◌then◌else◌, Option, Some, None, List, [], ◌∷◌, ◌++◌, length}
+use Rattle.pol_fields.specs.declared.limits.TheConstants.{MAX_POLICY_BYTES}
 use Rattle.std.specs.List.{flat_map, list_any, AllByRecursion}
 use Rattle.pol_fields.specs.declared.fault.Cause.{Cause}
 use Rattle.pol_fields.specs.declared.fault.Cause.TheVariants.{BadKind, BadAttr, BadOp}
@@ -194,5 +195,5 @@ IsExpression items = IsPostfix item_operands constraint_limit 0 items
 -- a constraint stands there, in a buffer of a policy's size
 abbrev pub HasConstraint : ℕ → List ℕ → ℕ → Type 0
 HasConstraint version bytes place =
-    (place + 8 ≤ length bytes) × (length bytes ≤ 67108864) × HasItems version bytes (place + 8) (num bytes (place + 4) 4)
+    (place + 8 ≤ length bytes) × (length bytes ≤ MAX_POLICY_BYTES) × HasItems version bytes (place + 8) (num bytes (place + 4) 4)
     × IsExpression (items_in version bytes (place + 8) (num bytes (place + 4) 4))

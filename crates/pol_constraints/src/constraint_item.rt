@@ -1,4 +1,5 @@
 ghost use Rattle.std.specs.Prelude.{◌≡◌, ◌≤◌, IfOk, length};
+ghost use Rattle.pol_fields.specs.declared.limits.TheConstants.{MAX_POLICY_BYTES};
 ghost use Rattle.std.specs.Iterator.{YieldsFirst, item_count};
 ghost use Rattle.pol_constraints.specs.ConstraintRecord.{item_in, items_in, HasItem, HasItems};
 
@@ -20,6 +21,7 @@ pub struct ConstraintItemView<'a> {
 }
 
 impl<'a> Model for ConstraintItemView<'a> {
+    ghost use Rattle.pol_fields.specs.declared.limits.TheConstants.{MAX_POLICY_BYTES};
     ghost use Rattle.std.specs.Prelude.{◌≤◌, length};
     ghost use Rattle.pol_constraints.specs.declared.constraint_rec.ConstraintItem.{ConstraintItem};
     ghost use Rattle.pol_constraints.specs.ConstraintRecord.{item_in, HasItem};
@@ -28,14 +30,14 @@ impl<'a> Model for ConstraintItemView<'a> {
 
     ghost view = { λ v. item_in v.version v.bytes.now v.place };
 
-    ghost invariant = { λ v. HasItem v.version v.bytes.now v.place × (length v.bytes.now ≤ 67108864) };
+    ghost invariant = { λ v. HasItem v.version v.bytes.now v.place × (length v.bytes.now ≤ MAX_POLICY_BYTES) };
 }
 
 impl<'a> ConstraintItemView<'a> {
     /// The item of a policy of that version at a place that has one.
     pub fn at(bytes: &'a [u8], place: u32, version: u32) -> ConstraintItemView<'a>
         requires item { HasItem version bytes.now place }
-        requires small { length bytes.now ≤ 67108864 }
+        requires small { length bytes.now ≤ MAX_POLICY_BYTES }
         ensures { result ≡ item_in version bytes.now place }
     {
         ConstraintItemView {
@@ -124,6 +126,7 @@ pub struct ConstraintItems<'a> {
 }
 
 impl<'a> Model for ConstraintItems<'a> {
+    ghost use Rattle.pol_fields.specs.declared.limits.TheConstants.{MAX_POLICY_BYTES};
     ghost use Rattle.std.specs.Prelude.{◌≤◌, List, length};
     ghost use Rattle.pol_constraints.specs.declared.constraint_rec.ConstraintItem.{ConstraintItem};
     ghost use Rattle.pol_constraints.specs.ConstraintRecord.{items_in, HasItems};
@@ -132,14 +135,14 @@ impl<'a> Model for ConstraintItems<'a> {
 
     ghost view = { λ v. items_in v.version v.bytes.now v.place v.left };
 
-    ghost invariant = { λ v. HasItems v.version v.bytes.now v.place v.left × (length v.bytes.now ≤ 67108864) };
+    ghost invariant = { λ v. HasItems v.version v.bytes.now v.place v.left × (length v.bytes.now ≤ MAX_POLICY_BYTES) };
 }
 
 impl<'a> ConstraintItems<'a> {
     /// So many items from a place on that has them.
     pub fn at(bytes: &'a [u8], place: u32, version: u32, count: u32) -> ConstraintItems<'a>
         requires items { HasItems version bytes.now place count }
-        requires small { length bytes.now ≤ 67108864 }
+        requires small { length bytes.now ≤ MAX_POLICY_BYTES }
         ensures { result ≡ items_in version bytes.now place count }
     {
         ConstraintItems {

@@ -1,6 +1,7 @@
 //! Where a constraint ends, and where its items and their parts do.
 
 ghost use Rattle.std.specs.Prelude.{◌≡◌, ◌≤◌, ◌+◌, length};
+ghost use Rattle.pol_fields.specs.declared.limits.TheConstants.{MAX_POLICY_BYTES};
 ghost use Rattle.pol_bitmap.specs.Nodes.{bitmap_size, HasBitmap};
 ghost use Rattle.pol_constraints.specs.ConstraintRecord.{flags_place, type_set_end, item_end, constraint_end, HasTypeSet, HasItem, HasConstraint};
 
@@ -25,7 +26,7 @@ pub fn constraint_end(bytes: &[u8], place: u32, version: u32) -> u32
 #[tactic(auto, unfolding(crate::specs::ConstraintRecord::names_end, crate::specs::ConstraintRecord::sets_end, crate::specs::ConstraintRecord::HasSets))]
 pub fn item_end(bytes: &[u8], place: u32, version: u32) -> u32
     requires item { HasItem version bytes.now place }
-    requires small { length bytes.now ≤ 67108864 }
+    requires small { length bytes.now ≤ MAX_POLICY_BYTES }
     ensures { result ≡ item_end version bytes.now place }
 {
     if u32_in(bytes, place as usize) != 5 {
@@ -53,7 +54,7 @@ pub fn flags_place(bytes: &[u8], place: u32) -> u32
     requires { HasTypeSet bytes.now place }
     ensures exact { result ≡ flags_place bytes.now place }
     ensures within { result + 4 ≤ length bytes.now }
-    ensures small { length bytes.now ≤ 67108864 }
+    ensures small { length bytes.now ≤ MAX_POLICY_BYTES }
 {
     bitmap_end(bytes, bitmap_end(bytes, place))
 }

@@ -1,4 +1,5 @@
 ghost use Rattle.std.specs.Prelude.{◌≡◌, ◌≤◌, ◌<◌, ◌^◌, length, ◌+◌, OnErr, IfOk};
+ghost use Rattle.pol_fields.specs.declared.limits.TheConstants.{MAX_POLICY_BYTES};
 ghost use Rattle.pol_cursor.specs.Outcome.{Answers, fault};
 ghost use Rattle.pol_cursor.specs.Parts.{number, string, end_at};
 
@@ -14,6 +15,7 @@ pub struct Cursor<'a> {
 }
 
 impl<'a> Model for Cursor<'a> {
+    ghost use Rattle.pol_fields.specs.declared.limits.TheConstants.{MAX_POLICY_BYTES};
     ghost use Rattle.std.specs.Prelude.{◌≤◌, length};
     ghost use Rattle.pol_cursor.specs.Outcome.{Position};
 
@@ -21,13 +23,13 @@ impl<'a> Model for Cursor<'a> {
 
     ghost view = { λ c. record { bytes = c.bytes.now; place = c.place } };
 
-    ghost invariant = { λ c. (c.place ≤ length c.bytes.now) × (length c.bytes.now ≤ 67108864) };
+    ghost invariant = { λ c. (c.place ≤ length c.bytes.now) × (length c.bytes.now ≤ MAX_POLICY_BYTES) };
 }
 
 impl<'a> Cursor<'a> {
     /// The first place.
     pub fn new(bytes: &'a [u8]) -> Cursor<'a>
-        requires { length bytes.now ≤ 67108864 }
+        requires { length bytes.now ≤ MAX_POLICY_BYTES }
         ensures { result ≡ record { bytes = bytes.now; place = 0 } }
     {
         Cursor { bytes, place: 0 }
@@ -35,7 +37,7 @@ impl<'a> Cursor<'a> {
 
     /// That place.
     pub fn at(bytes: &'a [u8], place: u32) -> Cursor<'a>
-        requires size { length bytes.now ≤ 67108864 }
+        requires size { length bytes.now ≤ MAX_POLICY_BYTES }
         requires place { place ≤ length bytes.now }
         ensures { result ≡ record { bytes = bytes.now; place = place } }
     {
@@ -45,7 +47,7 @@ impl<'a> Cursor<'a> {
     /// All the bytes.
     pub fn bytes(&self) -> &'a [u8]
         ensures all { result.now ≡ self.now.bytes }
-        ensures small { length self.now.bytes ≤ 67108864 }
+        ensures small { length self.now.bytes ≤ MAX_POLICY_BYTES }
     {
         self.bytes
     }

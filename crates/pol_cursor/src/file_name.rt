@@ -1,5 +1,6 @@
 //! Names of files, file systems, interfaces and devices.
 ghost use Rattle.std.specs.Prelude.{◌≡◌, ◌≤◌, ◌+◌, OnOk, IfOk, length, take, drop};
+ghost use Rattle.pol_fields.specs.declared.limits.TheConstants.{MAX_POLICY_BYTES};
 ghost use Rattle.std.specs.List.{list_all};
 ghost use Rattle.pol_cursor.specs.FileNames.{name_length_test, is_name_byte, name_test, name_length_at, name_bytes_at, name_at, spell_name, name_in, name_end};
 ghost use Rattle.pol_cursor.specs.Outcome.{Answers};
@@ -85,7 +86,7 @@ pub fn read_name<'a>(
 /// The name that stands at a place.
 pub fn name_standing(bytes: &[u8], place: u32) -> &[u8]
     requires place { name_end bytes.now place ≤ length bytes.now }
-    requires size { length bytes.now ≤ 67108864 }
+    requires size { length bytes.now ≤ MAX_POLICY_BYTES }
     ensures { result.now ≡ name_in bytes.now place }
 {
     let len = u32_in(bytes, place as usize);
@@ -95,7 +96,7 @@ pub fn name_standing(bytes: &[u8], place: u32) -> &[u8]
 /// The place behind the name at a place.
 pub fn name_end(bytes: &[u8], place: u32) -> u32
     requires place { name_end bytes.now place ≤ length bytes.now }
-    requires size { length bytes.now ≤ 67108864 }
+    requires size { length bytes.now ≤ MAX_POLICY_BYTES }
     ensures { result ≡ name_end bytes.now place }
 {
     place + 4 + u32_in(bytes, place as usize)

@@ -1,5 +1,6 @@
 -- Record 11: a boolean (libsepol's cond_read_bool).
 use Rattle.std.specs.Prelude.{ℕ, ◌+◌, ◌≤◌, ◌<◌, ◌^◌, List, ◌++◌, length, take, drop}
+use Rattle.pol_fields.specs.declared.limits.TheConstants.{MAX_POLICY_BYTES}
 use Rattle.pol_fields.specs.declared.fields.TheConstants.{BOOLEAN_VALUE, BOOLEAN_STATE, BOOLEAN_LEN, BOOLEAN_NAME}
 use Rattle.pol_cursor.specs.Outcome.{Reader, ◌>>=◌, done}
 use Rattle.pol_cursor.specs.Parts.{num}
@@ -41,4 +42,4 @@ boolean_in bytes place = record {
 
 -- a boolean stands there, in a buffer of a policy's size
 abbrev pub HasBoolean : List ℕ → ℕ → Type 0
-HasBoolean bytes place = (place + 12 + num bytes (place + 8) 4 ≤ length bytes) × (length bytes ≤ 67108864)
+HasBoolean bytes place = (place + 12 + num bytes (place + 8) 4 ≤ length bytes) × (length bytes ≤ MAX_POLICY_BYTES)

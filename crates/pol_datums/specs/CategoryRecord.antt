@@ -1,5 +1,6 @@
 -- Record 13: a category, or an alias of one (libsepol's cat_read).
 use Rattle.std.specs.Prelude.{ℕ, ◌+◌, ◌≤◌, ◌<◌, ◌^◌, Option, Some, List, ◌++◌, length, take, drop, nat_le, if◌then◌else◌}
+use Rattle.pol_fields.specs.declared.limits.TheConstants.{MAX_POLICY_BYTES}
 use Rattle.pol_fields.specs.declared.fault.Cause.{Cause}
 use Rattle.pol_fields.specs.declared.fault.Cause.TheVariants.{BadFlag}
 use Rattle.pol_fields.specs.declared.table_kind.TableKind.TheVariants.{Categories}
@@ -49,7 +50,7 @@ category_in bytes place = record {
 
 -- a category stands there, in a buffer of a policy's size
 abbrev pub HasCategory : List ℕ → ℕ → Type 0
-HasCategory bytes place = (place + 12 + num bytes place 4 ≤ length bytes) × (length bytes ≤ 67108864)
+HasCategory bytes place = (place + 12 + num bytes place 4 ≤ length bytes) × (length bytes ≤ MAX_POLICY_BYTES)
 
 -- ---- what it names
 

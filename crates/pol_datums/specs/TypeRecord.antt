@@ -1,5 +1,6 @@
 -- Record 9: a type, an attribute or an alias of a type (libsepol's type_read).
 use Rattle.std.specs.Prelude.{ℕ, ◌+◌, ◌≤◌, ◌<◌, ◌^◌, ◌%◌, ◌/◌, ◌==◌, Bool, ◌||◌, Option, Some, None, List, ◌++◌, length, take, drop, if◌then◌else◌}
+use Rattle.pol_fields.specs.declared.limits.TheConstants.{MAX_POLICY_BYTES}
 use Rattle.pol_fields.specs.declared.fault.Cause.{Cause}
 use Rattle.pol_fields.specs.declared.table_kind.TableKind.TheVariants.{Types}
 use Rattle.pol_fields.specs.declared.fields.TheConstants.{TYPE_LEN, TYPE_VALUE, TYPE_PROPERTIES, TYPE_BOUNDS, TYPE_NAME}
@@ -65,7 +66,7 @@ type_in bytes place = record {
 
 -- a type stands there, in a buffer of a policy's size
 abbrev pub HasType : List ℕ → ℕ → Type 0
-HasType bytes place = (place + 16 + num bytes place 4 ≤ length bytes) × (length bytes ≤ 67108864)
+HasType bytes place = (place + 16 + num bytes place 4 ≤ length bytes) × (length bytes ≤ MAX_POLICY_BYTES)
 
 -- ---- what it names
 

@@ -1,5 +1,6 @@
 -- The expression of a conditional node: record 19 up to its items (libsepol's cond_read_node).
 use Rattle.std.specs.Prelude.{ℕ, zero, suc, ◌+◌, ◌*◌, ◌^◌, ◌<◌, ◌≤◌, ◌&&◌, ◌==◌, nat_le, if◌then◌else◌, Option, Some, List, [], ◌∷◌, ◌++◌, length}
+use Rattle.pol_fields.specs.declared.limits.TheConstants.{MAX_POLICY_BYTES}
 use Rattle.std.specs.List.{flat_map, AllByRecursion}
 use Rattle.pol_fields.specs.declared.fault.Cause.{Cause}
 use Rattle.pol_fields.specs.declared.fault.Cause.TheVariants.{BadKind}
@@ -91,7 +92,7 @@ IsExpression items = IsPostfix item_operands condition_limit 0 items
 
 -- a condition stands there, in a buffer of a policy's size
 abbrev pub HasCondition : List ℕ → ℕ → Type 0
-HasCondition bytes place = (place + condition_size bytes place ≤ length bytes) × (length bytes ≤ 67108864) × IsExpression (items_in bytes (place + 8) (num bytes (place + 4) 4))
+HasCondition bytes place = (place + condition_size bytes place ≤ length bytes) × (length bytes ≤ MAX_POLICY_BYTES) × IsExpression (items_in bytes (place + 8) (num bytes (place + 4) 4))
 
 -- ---- its references
 

@@ -1,4 +1,5 @@
 ghost use Rattle.std.specs.Prelude.{◌≡◌, ◌<◌, ◌≤◌, ◌+◌, ◌*◌, ◌^◌, IfOk, OnOk, Some, length, slice_get, option_map};
+ghost use Rattle.pol_fields.specs.declared.limits.TheConstants.{MAX_POLICY_BYTES};
 ghost use Rattle.pol_cursor.specs.Outcome.{Answers};
 ghost use Rattle.pol_cursor.specs.References.{dangling_of};
 ghost use Rattle.pol_expr.specs.ConditionRecord.{condition_at, condition_in, condition_size, condition_references, item_reference, HasCondition, IsExpression};
@@ -128,7 +129,7 @@ impl<'a> ConditionView<'a> {
     fn item_place(&self, i: u32) -> u32
         requires { i < length self.now.value.items }
         ensures exact { result ≡ self.now.place + 8 + 8 * i }
-        ensures small { result < 67108864 }
+        ensures small { result < MAX_POLICY_BYTES }
     {
         self.place + 8 + 8 * i
     }

@@ -4,6 +4,7 @@
 mod fault;
 mod field;
 pub mod fields;
+pub mod limits;
 mod table_kind;
 
 pub use fault::{Cause, Fault};

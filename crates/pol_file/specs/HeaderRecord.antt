@@ -1,5 +1,6 @@
 -- The header of a policy (libsepol's policydb_read, for a kernel policy with MLS).
 use Rattle.std.specs.Prelude.{ℕ, ◌+◌, ◌^◌, ◌<◌, ◌≤◌, ◌%◌, ◌/◌, ◌==◌, ◌&&◌, Option, Some, None, List, ◌++◌, length, codes, bytes_eq, nat_le, if◌then◌else◌}
+use Rattle.pol_fields.specs.declared.limits.TheConstants.{MAX_POLICY_BYTES}
 use Rattle.pol_fields.specs.declared.Cause.{Cause}
 use Rattle.pol_fields.specs.declared.Cause.TheVariants.{BadMagic, BadIdentity, UnsupportedVersion, NotMls, BadUnknown, BadCounts}
 use Rattle.pol_fields.specs.declared.fields.TheConstants.{HEADER_MAGIC, HEADER_IDLEN, HEADER_ID, HEADER_VERSION, HEADER_CONFIG, HEADER_SYMTABS, HEADER_CONTEXTS}
@@ -90,4 +91,4 @@ header_in bytes place = record { version = num bytes (place + 16) 4; config = nu
 
 -- its 32 bytes stand there, in a buffer of a policy's size
 abbrev pub HasHeader : List ℕ → ℕ → Type 0
-HasHeader bytes place = (place + 32 ≤ length bytes) × (length bytes ≤ 67108864)
+HasHeader bytes place = (place + 32 ≤ length bytes) × (length bytes ≤ MAX_POLICY_BYTES)

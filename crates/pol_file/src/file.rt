@@ -1,5 +1,6 @@
 // Both steps: the parts of a file, and the check of their references.
 ghost use Rattle.std.specs.Prelude.{◌≤◌, length};
+ghost use Rattle.pol_fields.specs.declared.limits.TheConstants.{MAX_POLICY_BYTES};
 ghost use Rattle.pol_file.specs.Acceptance.{Accepts};
 
 use crate::dangling::check_references;
@@ -14,7 +15,7 @@ use std::alloc::Global;
 /// declares, as `Dangling`.
 #[tactic(auto, unfolding(crate::specs::Acceptance::accept))]
 pub fn read_file<'a>(alloc: Global, bytes: &'a [u8]) -> Result<Parts<'a>, ReadError>
-    requires { length bytes.now ≤ 67108864 }
+    requires { length bytes.now ≤ MAX_POLICY_BYTES }
     ensures { Accepts (λ parts. parts) result bytes.now }
 {
     let parts = read_parts(alloc, &mut Cursor::new(bytes))?;

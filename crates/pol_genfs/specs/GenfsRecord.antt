@@ -1,5 +1,6 @@
 -- Record 34: the contexts of the files of a file system that has no labels of its own, by their paths (libsepol's genfs_read).
 use Rattle.std.specs.Prelude.{ℕ, ◌+◌, ◌^◌, ◌<◌, ◌≤◌, ◌==◌, List, [], ◌∷◌, ◌++◌, length, if◌then◌else◌}
+use Rattle.pol_fields.specs.declared.limits.TheConstants.{MAX_POLICY_BYTES}
 use Rattle.std.specs.List.{flat_map}
 use Rattle.pol_fields.specs.declared.table_kind.TableKind.TheVariants.{Classes}
 use Rattle.pol_fields.specs.declared.fields.TheConstants.{GENFS_LEN, GENFS_FSTYPE, GENFS_NPATHS, GENFS_PATHLEN, GENFS_PATH, GENFS_CLASS}
@@ -103,7 +104,7 @@ genfs_in bytes place = record {
 
 -- a file system stands there, in a buffer of a policy's size
 abbrev pub HasGenfs : List ℕ → ℕ → Type 0
-HasGenfs bytes place = (paths_place bytes place ≤ length bytes) × (length bytes ≤ 67108864) × HasRun HasPath path_end bytes (paths_place bytes place) (path_count bytes place)
+HasGenfs bytes place = (paths_place bytes place ≤ length bytes) × (length bytes ≤ MAX_POLICY_BYTES) × HasRun HasPath path_end bytes (paths_place bytes place) (path_count bytes place)
 
 -- its paths, each with its place
 abbrev pub paths_of : Placed GenfsRec → List (Placed GenfsPathRec)

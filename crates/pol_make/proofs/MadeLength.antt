@@ -1,5 +1,6 @@
 -- A policy that is made has fewer bytes than a reader takes.
 use Rattle.std.proofs.Common.{◌≡◌, ℕ, ◌+◌, ◌*◌, ◌<◌, ◌≤◌, List, [], ◌∷◌, ◌++◌, length, refl, sym, subst, arith}
+use Rattle.pol_fields.specs.declared.limits.TheConstants.{MAX_POLICY_BYTES}
 use Rattle.std.specs.Prelude.{codes, decimal, map}
 use Rattle.std.specs.List.{range_with_len, AllByRecursion}
 use Rattle.std.proofs.lemmas.Fmt.{length-decimal-le}
@@ -184,6 +185,6 @@ labels-take n many most =
 
 -- ---- the whole
 
-pub made-takes : (n : ℕ) → 20 ≤ n → n ≤ 5000 → length (spell (made n)) ≤ 67108864
+pub made-takes : (n : ℕ) → 20 ≤ n → n ≤ 5000 → length (spell (made n)) ≤ MAX_POLICY_BYTES
 unfolding spell
 made-takes n many most = (takes-less (front-takes n ⊕ symbols-take n most ⊕ rules-take n many most ⊕ labels-take n many most) (omega arith)).few

@@ -1,5 +1,6 @@
 -- A policy that is made is sound.
 use Rattle.std.proofs.Common.{◌≡◌, ℕ, ◌+◌, ◌≤◌, None, [], ◌++◌, length, refl, sym, ap, subst, append_assoc, arith}
+use Rattle.pol_fields.specs.declared.limits.TheConstants.{MAX_POLICY_BYTES}
 use Rattle.std.proofs.lemmas.List.{append-nil}
 use Rattle.std.proofs.lemmas.Bool.{le-leb}
 use Rattle.pol_fields.specs.declared.fields.TheConstants.{END_END}
@@ -71,5 +72,5 @@ made-sound n allowed =
     let many : 20 ≤ n = omega (arith, allowed.least) in
     record {
       fits = made-fits n many allowed.most;
-      accepted = rw (made-shaped n many, le-leb (length (spell (made n))) 67108864 (made-takes n many allowed.most)) (made-accepted n allowed);
+      accepted = rw (made-shaped n many, le-leb (length (spell (made n))) MAX_POLICY_BYTES (made-takes n many allowed.most)) (made-accepted n allowed);
     }

@@ -1,5 +1,6 @@
 -- Where a context ends.
 use Rattle.std.proofs.Common.{◌≡◌, ℕ, ◌+◌, ◌*◌, ◌≤◌, Bool, true, false, Some, None, List, length, refl, arith}
+use Rattle.pol_fields.specs.declared.limits.TheConstants.{MAX_POLICY_BYTES}
 use Rattle.std.specs.Prelude.{if◌then◌else◌}
 use Rattle.pol_cursor.specs.Parts.{num}
 use Rattle.pol_bitmap.specs.Nodes.{bitmap_in, bitmap_size, HasBitmap}
@@ -20,7 +21,7 @@ range_ends_by false bytes place low e h k =
 range_ends : (bytes : List ℕ) (place : ℕ) → HasRange bytes place → (place + range_length (range_in bytes place) ≡ range_end bytes place) × (range_end bytes place ≤ length bytes)
 range_ends bytes place h = range_ends_by (has_high bytes place) bytes place (low_place bytes place) refl h.1 h.2
 
-pub context_ends : (bytes : List ℕ) (place : ℕ) → HasContext bytes place → (place + context_length (context_in bytes place) ≡ context_end bytes place) × (context_end bytes place ≤ length bytes) × (length bytes ≤ 67108864)
+pub context_ends : (bytes : List ℕ) (place : ℕ) → HasContext bytes place → (place + context_length (context_in bytes place) ≡ context_end bytes place) × (context_end bytes place ≤ length bytes) × (length bytes ≤ MAX_POLICY_BYTES)
 context_ends bytes place h =
     let ends = range_ends bytes (place + 12) h in
     (omega (arith, ends.0), ends.1, h.1.1)

@@ -1,5 +1,6 @@
 -- A policy of at most 64 MiB has at most 400,000,000 rules: its bytes have no room for more.
 use Rattle.std.proofs.Common.{◌≡◌, ℕ, suc, ◌+◌, ◌*◌, ◌≤◌, Bool, true, false, Option, Some, None, List, [], ◌∷◌, ◌++◌, length, map, slice_get, Ok, refl, ap, subst, ◌∙◌, arith}
+use Rattle.pol_fields.specs.declared.limits.TheConstants.{MAX_POLICY_BYTES}
 use Rattle.std.specs.Prelude.{if◌then◌else◌}
 use Rattle.std.specs.List.{flat_map, range_with_len}
 use Rattle.std.proofs.lemmas.List.{length-map, length-append, append_assoc}
@@ -334,7 +335,7 @@ policy-keeps size =
     keeps-then (keeps-any (end_at END_END)) λ ended known.
     keeps-done (AreFew size) _ (record { lists = few; ranges = few_ranges })
 
-pub accepted_has_few_rules : (bytes : List ℕ) (policy : Parts) → length bytes ≤ 67108864 → accept bytes ≡ Ok policy → length (stored_rules policy) ≤ 400000000
+pub accepted_has_few_rules : (bytes : List ℕ) (policy : Parts) → length bytes ≤ MAX_POLICY_BYTES → accept bytes ≡ Ok policy → length (stored_rules policy) ≤ 400000000
 accepted_has_few_rules bytes policy long e =
     let was = accepted_was_read bytes policy e in
     let few = (policy-keeps (length bytes)).each bytes 0 policy was.next refl was.read in

@@ -1,4 +1,5 @@
 ghost use Rattle.std.specs.Prelude.{◌≡◌, ◌<◌, ◌≤◌, ◌-◌, Ok, Some, None, IfOk, option_map, slice_get, length};
+ghost use Rattle.pol_fields.specs.declared.limits.TheConstants.{MAX_POLICY_BYTES};
 ghost use Rattle.pol_conditionals.specs.CondNodeRecord.{node_condition};
 ghost use Rattle.pol_file.specs.Acceptance.{accept, undeclared, Accepts};
 ghost use Rattle.pol_file.specs.TypeValues.{IsTypeValue, HasTypeValues};
@@ -195,7 +196,7 @@ impl<'a> Policy<'a> {
 /// The error is the first fault in file order; where there is none, it is the first reference whose value no primary record
 /// declares, as `Dangling`.
 pub fn read<'a>(alloc: Global, bytes: &'a [u8]) -> Result<Policy<'a>, ReadError>
-    requires { length bytes.now ≤ 67108864 }
+    requires { length bytes.now ≤ MAX_POLICY_BYTES }
     ensures { Accepts (λ policy. policy) result bytes.now }
 {
     let parts = read_file(alloc, bytes)?;
@@ -205,7 +206,7 @@ pub fn read<'a>(alloc: Global, bytes: &'a [u8]) -> Result<Policy<'a>, ReadError>
 // The policy of these parts of a file.
 #[tactic(auto, using(crate::proofs::RuleCounts::accepted_has_few_rules, pol_file::proofs::Acceptances::accepted_has_type_values))]
 fn indexed<'a>(alloc: Global, bytes: &'a [u8], parts: Parts<'a>) -> Result<Policy<'a>, AllocError>
-    requires size { length bytes.now ≤ 67108864 }
+    requires size { length bytes.now ≤ MAX_POLICY_BYTES }
     requires accepted { accept bytes.now ≡ Ok parts }
     ensures { IfOk result (λ policy. policy ≡ parts.entry) }
 {

@@ -1,6 +1,7 @@
 -- Record 23: a group of file-name transitions with one name, target and class, which version 33 brought. Each of its data has the
 -- sources and the default type that objects of theirs have (libsepol's filename_trans_read_one).
 use Rattle.std.specs.Prelude.{ℕ, ◌+◌, ◌*◌, ◌^◌, ◌<◌, ◌≤◌, None, List, ◌∷◌, ◌++◌, length, map}
+use Rattle.pol_fields.specs.declared.limits.TheConstants.{MAX_POLICY_BYTES}
 use Rattle.pol_fields.specs.declared.table_kind.TableKind.TheVariants.{Types, Classes}
 use Rattle.pol_fields.specs.declared.fields.TheConstants.{NAMEGROUP_LEN, NAMEGROUP_NAME, NAMEGROUP_TARGET, NAMEGROUP_CLASS, NAMEGROUP_NDATUM, NAMEGROUP_DEFAULT}
 use Rattle.pol_cursor.specs.Outcome.{Reader, ◌>>=◌, done}
@@ -84,7 +85,7 @@ name_group_in bytes place = record {
 
 -- a group stands there, in a buffer of a policy's size
 abbrev pub HasNameGroup : List ℕ → ℕ → Type 0
-HasNameGroup bytes place = (name_data_place bytes place ≤ length bytes) × (length bytes ≤ 67108864) × HasRun HasNameDatum name_datum_end bytes (name_data_place bytes place) (name_data_count bytes place)
+HasNameGroup bytes place = (name_data_place bytes place ≤ length bytes) × (length bytes ≤ MAX_POLICY_BYTES) × HasRun HasNameDatum name_datum_end bytes (name_data_place bytes place) (name_data_count bytes place)
 
 -- its data, each with its place
 abbrev pub name_data_of : Placed NameGroupRec → List (Placed NameDatumRec)

@@ -1,6 +1,7 @@
 -- Record 22: a file-name transition, by which an object of a class that a source makes under a name in an object of a target
 -- has the default type (libsepol's filename_trans_read_one_compat).
 use Rattle.std.specs.Prelude.{ℕ, ◌+◌, ◌^◌, ◌<◌, ◌≤◌, List, [], ◌∷◌, ◌++◌, length}
+use Rattle.pol_fields.specs.declared.limits.TheConstants.{MAX_POLICY_BYTES}
 use Rattle.pol_fields.specs.declared.table_kind.TableKind.TheVariants.{Types, Classes}
 use Rattle.pol_fields.specs.declared.fields.TheConstants.{NAMETRANS_LEN, NAMETRANS_NAME, NAMETRANS_SOURCE, NAMETRANS_TARGET, NAMETRANS_CLASS, NAMETRANS_DEFAULT}
 use Rattle.pol_cursor.specs.Outcome.{Reader, ◌>>=◌, done}
@@ -46,7 +47,7 @@ name_trans_in bytes place = record {
 
 -- a file-name transition stands there, in a buffer of a policy's size
 abbrev pub HasNameTrans : List ℕ → ℕ → Type 0
-HasNameTrans bytes place = (name_end bytes place + 16 ≤ length bytes) × (length bytes ≤ 67108864)
+HasNameTrans bytes place = (name_end bytes place + 16 ≤ length bytes) × (length bytes ≤ MAX_POLICY_BYTES)
 
 -- ---- what it names
 

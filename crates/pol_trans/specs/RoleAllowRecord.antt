@@ -1,5 +1,6 @@
 -- Record 21: a role allow, by which a process may change from one role to another (libsepol's role_allow_read).
 use Rattle.std.specs.Prelude.{ℕ, ◌+◌, ◌^◌, ◌<◌, ◌≤◌, List, [], ◌∷◌, ◌++◌, length}
+use Rattle.pol_fields.specs.declared.limits.TheConstants.{MAX_POLICY_BYTES}
 use Rattle.pol_fields.specs.declared.table_kind.TableKind.TheVariants.{Roles}
 use Rattle.pol_fields.specs.declared.fields.TheConstants.{ROLEALLOW_ROLE, ROLEALLOW_NEWROLE}
 use Rattle.pol_cursor.specs.Outcome.{Reader, ◌>>=◌, done}
@@ -31,7 +32,7 @@ role_allow_in bytes place = record { role = num bytes place 4; newrole = num byt
 
 -- a role allow stands there, in a buffer of a policy's size
 abbrev pub HasRoleAllow : List ℕ → ℕ → Type 0
-HasRoleAllow bytes place = (place + 8 ≤ length bytes) × (length bytes ≤ 67108864)
+HasRoleAllow bytes place = (place + 8 ≤ length bytes) × (length bytes ≤ MAX_POLICY_BYTES)
 
 -- ---- what it names
 

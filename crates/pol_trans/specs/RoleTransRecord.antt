@@ -1,6 +1,7 @@
 -- Record 20: a role transition, by which a process of a role that runs a file of a type changes to another role (libsepol's
 -- role_trans_read). Its class is that of the new object.
 use Rattle.std.specs.Prelude.{ℕ, ◌+◌, ◌^◌, ◌<◌, ◌≤◌, List, [], ◌∷◌, ◌++◌, length}
+use Rattle.pol_fields.specs.declared.limits.TheConstants.{MAX_POLICY_BYTES}
 use Rattle.pol_fields.specs.declared.table_kind.TableKind.TheVariants.{Roles, Types, Classes}
 use Rattle.pol_fields.specs.declared.fields.TheConstants.{ROLETRANS_ROLE, ROLETRANS_TYPE, ROLETRANS_NEWROLE, ROLETRANS_CLASS}
 use Rattle.pol_cursor.specs.Outcome.{Reader, ◌>>=◌, done}
@@ -41,7 +42,7 @@ role_trans_in bytes place = record {
 
 -- a role transition stands there, in a buffer of a policy's size
 abbrev pub HasRoleTrans : List ℕ → ℕ → Type 0
-HasRoleTrans bytes place = (place + 16 ≤ length bytes) × (length bytes ≤ 67108864)
+HasRoleTrans bytes place = (place + 16 ≤ length bytes) × (length bytes ≤ MAX_POLICY_BYTES)
 
 -- ---- what it names
 

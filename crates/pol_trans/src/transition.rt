@@ -1,6 +1,7 @@
 //! What transitions and role allows have in common: a view, the kind that their lists are made of, and a reader.
 
 ghost use Rattle.std.specs.Prelude.{◌≡◌, ◌≤◌, ℕ, List, IfOk, OnOk, length};
+ghost use Rattle.pol_fields.specs.declared.limits.TheConstants.{MAX_POLICY_BYTES};
 ghost use Rattle.pol_cursor.specs.Outcome.{Reader, Answers};
 ghost use Rattle.pol_cursor.specs.References.{Placed, Reference, dangling_of};
 
@@ -59,7 +60,7 @@ pub trait Transition: Stored {
 
     /// Passes over the record at the cursor, in a buffer of a policy's size, which then stands behind it. Takes no memory.
     fn pass(c: &mut Cursor<'_>) -> Result<(), Fault>
-        requires { length c.old.bytes ≤ 67108864 }
+        requires { length c.old.bytes ≤ MAX_POLICY_BYTES }
         ensures exact { Answers (λ _. Self.standing c.old.bytes c.old.place) result reads c.old c.new }
         ensures stands { OnOk result (Self.has c.old.bytes c.old.place) };
 

@@ -1,5 +1,6 @@
 // The optional parts of a tree, and that its numbers fit where none of them is wrong.
 ghost use Rattle.std.specs.Prelude.{◌≡◌, ℕ, ◌<◌, ◌≤◌, ◌^◌, None, length, slice_index};
+ghost use Rattle.pol_fields.specs.declared.limits.TheConstants.{MAX_POLICY_BYTES};
 ghost use Rattle.pol_bitmap.specs.Bitmap.{spell_bitmap, BitmapFits};
 ghost use Rattle.pol_tree.specs.Inner.Fitting.{IsFitting};
 ghost use Rattle.pol_tree.specs.Inner.FittingTree.{SymbolsFit, RulesFit, ContextsFit, LabelsFit};
@@ -20,7 +21,7 @@ use pol_trans::has_groups;
 /// to be. A tree that has none fits its fields, if its bytes are no more than those of a policy. It takes no memory.
 pub fn wrong_part_of(tree: &Tree) -> Option<Field>
     ensures shape { result ≡ shape tree.now }
-    ensures fits { shape tree.now ≡ None → length (spell tree.now) ≤ 67108864 → TreeFits tree.now }
+    ensures fits { shape tree.now ≡ None → length (spell tree.now) ≤ MAX_POLICY_BYTES → TreeFits tree.now }
 {
     look_at_nprims(&tree.nprims);
     first_wrong(&[

@@ -1,5 +1,6 @@
 -- The bytes of a sound tree are accepted as a policy of that tree.
 use Rattle.std.proofs.Common.{◌≡◌, ℕ, ◌+◌, ◌==◌, Bool, true, false, cond, not, Option, Some, None, Result, Ok, Err, List, [], ◌∷◌, ◌++◌, length, refl, sym, ap, subst, ◌∙◌, append_assoc, if◌then◌else◌, arith}
+use Rattle.pol_fields.specs.declared.limits.TheConstants.{MAX_POLICY_BYTES}
 use Rattle.std.specs.Prelude.{nat_le, slice_index}
 use Rattle.std.proofs.lemmas.List.{append-nil}
 use Rattle.std.proofs.lemmas.Bool.{eqb-true}
@@ -163,7 +164,7 @@ pub sound_is_accepted : (tree : Tree) → IsSound tree → (policy : Parts) × (
 unfolding unsound
 sound_is_accepted tree sound =
     let none = not-shapeless (shape tree) (unsound_bytes (spell tree)) sound.accepted in
-    let accepted = bytes-accepted (nat_le (length (spell tree)) 67108864) (accept (spell tree)) none.1 in
+    let accepted = bytes-accepted (nat_le (length (spell tree)) MAX_POLICY_BYTES) (accept (spell tree)) none.1 in
     let was = accepted_was_read (spell tree) accepted.0 accepted.1 in
     let found = (tree-found tree sound.fits none.0).finds [] [] in
     let whole : policy_at (spell tree ++ []) 0 ≡ Got accepted.0 was.next = rw append-nil was.read in

@@ -1,5 +1,6 @@
 -- The tree of a file that is accepted is sound, and is spelled by the bytes of the file.
 use Rattle.std.proofs.Common.{◌≡◌, ℕ, ◌≤◌, None, Ok, List, length, refl, ◌∙◌}
+use Rattle.pol_fields.specs.declared.limits.TheConstants.{MAX_POLICY_BYTES}
 use Rattle.std.proofs.lemmas.Bool.{le-leb}
 use Rattle.pol_cursor.specs.Spelling.{AreBytes}
 use Rattle.pol_file.specs.declared.Parts.{Parts}
@@ -23,10 +24,10 @@ accepted_tree_fits bytes policy are e =
     let was = accepted_was_read bytes policy e in
     (policy-fits.spelled bytes 0 policy was.next are was.read).holds
 
-accepted_bytes : (bytes : List ℕ) (policy : Parts) → length bytes ≤ 67108864 → accept bytes ≡ Ok policy → unsound_bytes bytes ≡ None
-accepted_bytes bytes policy few e = rw (le-leb (length bytes) 67108864 few, e) refl
+accepted_bytes : (bytes : List ℕ) (policy : Parts) → length bytes ≤ MAX_POLICY_BYTES → accept bytes ≡ Ok policy → unsound_bytes bytes ≡ None
+accepted_bytes bytes policy few e = rw (le-leb (length bytes) MAX_POLICY_BYTES few, e) refl
 
-pub accepted_tree_is_sound : (bytes : List ℕ) (policy : Parts) → AreBytes bytes → length bytes ≤ 67108864 → accept bytes ≡ Ok policy → IsSound (tree_of policy)
+pub accepted_tree_is_sound : (bytes : List ℕ) (policy : Parts) → AreBytes bytes → length bytes ≤ MAX_POLICY_BYTES → accept bytes ≡ Ok policy → IsSound (tree_of policy)
 unfolding unsound
 accepted_tree_is_sound bytes policy are few e = record {
   fits = accepted_tree_fits bytes policy are e;

@@ -1,5 +1,6 @@
 -- Which trees are policies, and why the others are not (this project's profile; what the bytes have to be is acceptance).
 use Rattle.std.specs.Prelude.{◌≡◌, ℕ, nat_le, Option, Some, None, Result, Ok, Err, List, length, if◌then◌else◌}
+use Rattle.pol_fields.specs.declared.limits.TheConstants.{MAX_POLICY_BYTES}
 use Rattle.pol_fields.specs.declared.Fault.{Fault}
 use Rattle.pol_fields.specs.declared.Field.{Field}
 use Rattle.pol_file.specs.declared.Parts.{Parts}
@@ -20,7 +21,7 @@ refusal_of (Err fault) = Some (reasons.Fault fault)
 
 -- why bytes are no policy: they are too many for a reader, or are refused by it
 abbrev pub unsound_bytes : List ℕ → Option Unsound
-unsound_bytes bytes = if nat_le (length bytes) 67108864 then refusal_of (accept bytes) else Some reasons.TooLong
+unsound_bytes bytes = if nat_le (length bytes) MAX_POLICY_BYTES then refusal_of (accept bytes) else Some reasons.TooLong
 
 -- a wrong optional part comes first
 abbrev pub unless_shapeless : Option Field → Option Unsound → Option Unsound

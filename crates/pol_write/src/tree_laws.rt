@@ -1,5 +1,6 @@
 // The two laws of whole trees, each claimed by a function that does nothing.
 ghost use Rattle.std.specs.Prelude.{◌≡◌, ◌≤◌, ℕ, List, Ok, length};
+ghost use Rattle.pol_fields.specs.declared.limits.TheConstants.{MAX_POLICY_BYTES};
 ghost use Rattle.pol_cursor.specs.Spelling.{AreBytes};
 ghost use Rattle.pol_file.specs.Acceptance.{accept};
 ghost use Rattle.pol_file.specs.declared.Parts.{Parts};
@@ -11,7 +12,7 @@ ghost use Rattle.pol_write.specs.Soundness.{IsSound};
 /// The tree of a file that is accepted is sound, and is spelled by the bytes of the file. So what was read is written as the same
 /// bytes.
 pub fn accepted_trees_have_law()
-    ensures sound { (bytes : List ℕ) (policy : Parts) → AreBytes bytes → length bytes ≤ 67108864 → accept bytes ≡ Ok policy → IsSound (tree_of policy) }
+    ensures sound { (bytes : List ℕ) (policy : Parts) → AreBytes bytes → length bytes ≤ MAX_POLICY_BYTES → accept bytes ≡ Ok policy → IsSound (tree_of policy) }
     ensures same { (bytes : List ℕ) (policy : Parts) → AreBytes bytes → accept bytes ≡ Ok policy → spell (tree_of policy) ≡ bytes }
 {}
 

@@ -4,12 +4,10 @@ ghost use Rattle.pol_write.specs.Soundness.{unsound, unsound_bytes, IsSound, Jud
 
 use crate::errors::{Unsound, WriteError};
 use pol_cursor::{ReadError, Written};
+use pol_fields::limits::MAX_POLICY_BYTES;
 use pol_file::read_file;
 use pol_tree::{Tree, wrong_part_of};
 use std::alloc::Global;
-
-// The greatest number of bytes of a policy: 64 MiB.
-const MOST_BYTES: usize = 67_108_864;
 
 /// Appends the bytes of a tree, which is sound then. The error is the first reason against it: a wrong optional part, too many bytes, or
 /// the fault by which a reader refuses them. Nothing is appended then, nor where memory does not suffice.
@@ -43,7 +41,7 @@ fn append(alloc: Global, tree: &Tree, out: &mut Vec<u8>) -> Result<(), WriteErro
 fn check(alloc: Global, bytes: &[u8]) -> Result<(), WriteError>
     ensures { Judges result (unsound_bytes bytes.now) }
 {
-    if bytes.len() > MOST_BYTES {
+    if bytes.len() > MAX_POLICY_BYTES {
         return Err(WriteError::NotSound(Unsound::TooLong));
     }
     match read_file(alloc, bytes) {

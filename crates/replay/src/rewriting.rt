@@ -3,13 +3,11 @@ ghost use Rattle.std.specs.Prelude.{◌≡◌, OnOk};
 ghost use Rattle.pol_tree.specs.TreeSpelling.{spell};
 
 use pol_cursor::ReadError;
+use pol_fields::limits::MAX_POLICY_BYTES;
 use pol_read::{Policy, read};
 use pol_tree::{Tree, tree_of};
 use pol_write::{WriteError, write};
 use std::alloc::{AllocError, Global};
-
-// No policy has more bytes.
-const MOST_BYTES: usize = 67_108_864;
 
 /// Why a policy is not written back as itself.
 #[derive(Clone, Copy, Debug, thiserror::Error)]
@@ -47,7 +45,7 @@ pub fn rewrite(alloc: Global, bytes: &[u8]) -> Result<(), RewriteError> {
 
 // The tree of the policy in bytes, if they are one.
 fn tree_in(alloc: Global, bytes: &[u8]) -> Result<Option<Tree>, RewriteError> {
-    if bytes.len() > MOST_BYTES {
+    if bytes.len() > MAX_POLICY_BYTES {
         return Ok(None);
     }
     match read(alloc, bytes) {

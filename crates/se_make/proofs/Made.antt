@@ -1,5 +1,6 @@
 -- The bytes of a policy that is made are accepted.
 use Rattle.std.proofs.Common.{◌≡◌, ◌∙◌, ◌≤◌, ℕ, Bool, true, false, Option, Some, None, Result, Ok, Err, List, length, refl, ap, arith}
+use Rattle.pol_fields.specs.declared.limits.TheConstants.{MAX_POLICY_BYTES}
 use Rattle.std.specs.Prelude.{nat_le, if◌then◌else◌}
 use Rattle.pol_fields.specs.declared.Fault.{Fault}
 use Rattle.pol_fields.specs.declared.Field.{Field}
@@ -19,15 +20,15 @@ no_reason : (field : Option Field) (reason : Option Unsound) → unless_shapeles
 no_reason None reason e = e
 no_reason (Some field) reason e = absurd (cc e)
 
-few_bytes : (few : Bool) (bytes : List ℕ) (reason : Option Unsound) → nat_le (length bytes) 67108864 ≡ few → (if few then reason else Some reasons.TooLong) ≡ None → length bytes ≤ 67108864
+few_bytes : (few : Bool) (bytes : List ℕ) (reason : Option Unsound) → nat_le (length bytes) MAX_POLICY_BYTES ≡ few → (if few then reason else Some reasons.TooLong) ≡ None → length bytes ≤ MAX_POLICY_BYTES
 few_bytes true bytes reason le e = grind (arith, le)
 few_bytes false bytes reason le e = absurd (cc e)
 
 -- A sound tree is spelled by few bytes.
-sound_few : (tree : Tree) (bytes : List ℕ) → IsSound tree → bytes ≡ spell tree → length bytes ≤ 67108864
+sound_few : (tree : Tree) (bytes : List ℕ) → IsSound tree → bytes ≡ spell tree → length bytes ≤ MAX_POLICY_BYTES
 unfolding unsound
 sound_few tree bytes sound is =
-    let few = few_bytes (nat_le (length (spell tree)) 67108864) (spell tree) (refusal_of (accept (spell tree))) refl (no_reason (shape tree) (unsound_bytes (spell tree)) sound.accepted) in
+    let few = few_bytes (nat_le (length (spell tree)) MAX_POLICY_BYTES) (spell tree) (refusal_of (accept (spell tree))) refl (no_reason (shape tree) (unsound_bytes (spell tree)) sound.accepted) in
     rw is few
 
 not_refused : (result : Result Parts Fault) (policy : Parts) (fault : Fault) → result ≡ Ok policy → result ≡ Err fault → ⊥
@@ -35,7 +36,7 @@ not_refused result policy fault ok err = cc (ok, err)
 
 -- ---- the policy of so many types
 
-pub made_few : (n : ℕ) (bytes : List ℕ) → Allowed n → bytes ≡ spell (made n) → length bytes ≤ 67108864
+pub made_few : (n : ℕ) (bytes : List ℕ) → Allowed n → bytes ≡ spell (made n) → length bytes ≤ MAX_POLICY_BYTES
 made_few n bytes allowed is = sound_few (made n) bytes (made-sound n allowed) is
 
 pub made_accepted : (n : ℕ) (bytes : List ℕ) (fault : Fault) → Allowed n → bytes ≡ spell (made n) → accept bytes ≡ Err fault → ⊥

@@ -1,5 +1,6 @@
 -- The answer of the program to the words about the contents of the files.
 use Rattle.std.specs.Prelude.{ℕ, List, [], length, Option, Some, None, option_map, Result, Ok, Err, nat_lt, if◌then◌else◌}
+use Rattle.pol_fields.specs.declared.limits.TheConstants.{MAX_POLICY_BYTES}
 use Rattle.pol_fields.specs.declared.Fault.{Fault}
 use Rattle.pol_file.specs.Acceptance.{accept}
 use Rattle.pol_file.specs.declared.Parts.{Parts}
@@ -22,7 +23,7 @@ Contents = Slot → Option (List ℕ)
 
 -- the most bytes of a slot's file: 64 MiB of a policy, 4 MiB of a permission map
 abbrev pub file_limit : Slot → ℕ
-file_limit Policy = 67108864
+file_limit Policy = MAX_POLICY_BYTES
 file_limit Map = 4194304
 
 -- an answer by the bytes of a slot's file, if it is there and they are not too many

@@ -15,6 +15,7 @@ ghost use Rattle.se_tools.specs.Runs.{Runs};
 use crate::info::answer_info;
 use crate::reading::{ReadEnd, read_whole};
 use pol_cursor::ReadError;
+use pol_fields::limits::MAX_POLICY_BYTES;
 use pol_read::{Policy, read};
 use se_dom::answer_dom;
 use se_flow::answer_flow;
@@ -25,9 +26,6 @@ use se_search::answer_search;
 use se_status::{Status, report};
 use se_words::{FlowRequest, Request, Words, WordsError, request_of};
 use std::alloc::Global;
-
-// The most bytes of a policy: 64 MiB.
-const POLICY_LIMIT: usize = 67_108_864;
 
 // The most bytes of a permission map: 4 MiB.
 const MAP_LIMIT: usize = 4_194_304;
@@ -119,7 +117,7 @@ fn answer_named<F: Files, P: Patterns, S: Sink>(
         (P.asked patterns.old) (P.asked patterns.new) (P.refusals patterns.old) (P.refusals patterns.new)
         (S.written out.old) (S.written out.new) (S.faults out.old) (S.faults out.new) result }
 {
-    let bytes = match read_whole(alloc, files, Slot::Policy, name, POLICY_LIMIT) {
+    let bytes = match read_whole(alloc, files, Slot::Policy, name, MAX_POLICY_BYTES) {
         Ok(bytes) => bytes,
         Err(ReadEnd::Fault) => return Status::ReadFault(Slot::Policy),
         Err(ReadEnd::TooLarge) => return Status::TooLarge(Slot::Policy),
