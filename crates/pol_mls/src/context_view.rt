@@ -100,7 +100,7 @@ impl<'a> ContextView<'a> {
 }
 
 /// The place behind the context at a place.
-#[tactic(auto, using(crate::proofs::Places::context_ends))]
+#[tactic(auto, using(crate::proofs::ContextPlaces::context_ends))]
 pub fn context_end(bytes: &[u8], place: u32) -> u32
     requires { HasContext bytes.now place }
     ensures { result ≡ context_end bytes.now place }
