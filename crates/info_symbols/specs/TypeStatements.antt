@@ -19,7 +19,7 @@ may_be_type symbols value = nat_lt 0 value && nat_le value symbols.types.nprim
 
 -- the row of the type map for a type value, which has one for each from 1 on
 abbrev pub type_row : Parts → ℕ → List Node
-type_row parts value = if may_be_type parts.symbols value then unwrap_or (option_map (λ row. row.value) (slice_get parts.labels.type_map (value - 1))) [] else []
+type_row parts value = if may_be_type parts.symbols value then unwrap_or (option_map (λ row. row.value) (slice_get parts.labels.type_rows (value - 1))) [] else []
 
 -- a value is declared as an attribute
 abbrev pub is_attribute : Symbols → ℕ → Bool

@@ -9,7 +9,7 @@ use crate::av_keys::AvKeys;
 use crate::av_rec::AvRec;
 use crate::av_view::{AvView, read_av};
 use pol_cursor::{
-    Copied, Cursor, Inner, Names, ReadAfter, ReadError, Record, RecordView, Referring,
+    Copied, Cursor, Names, NestedRecord, ReadAfter, ReadError, Record, RecordView, Referring,
 };
 use pol_fields::Fault;
 use std::alloc::{AllocError, Global};
@@ -90,8 +90,8 @@ impl<'a> ReadAfter<'a> for Av {
 }
 
 // Under a condition, in a policy of a version.
-impl Inner for Av {
-    type Given = u32;
+impl NestedRecord for Av {
+    type Setting = u32;
 
     ghost reads = { λ version. av_at version None };
 

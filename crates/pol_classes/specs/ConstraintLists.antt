@@ -3,7 +3,7 @@ use Rattle.std.specs.Prelude.{ℕ, nat_le, Bool, List}
 use Rattle.pol_cursor.specs.Outcome.{Reader}
 use Rattle.pol_cursor.specs.Parts.{records_at}
 use Rattle.pol_cursor.specs.References.{values_of}
-use Rattle.pol_cursor.specs.Runs.{run_in, run_end, HasRun}
+use Rattle.pol_cursor.specs.NestedRecords.{nested_in, nested_end, HasNested}
 use Rattle.pol_constraints.specs.declared.constraint_rec.ConstraintRec.{ConstraintRec}
 use Rattle.pol_constraints.specs.ConstraintRecord.{constraint_at, constraint_in, constraint_end, HasConstraint}
 
@@ -19,12 +19,12 @@ has_type_sets version = nat_le 29 version
 
 -- n of them
 abbrev pub constraints_in : ℕ → List ℕ → ℕ → ℕ → List ConstraintRec
-constraints_in version bytes place n = values_of (run_in (constraint_in version) (constraint_end version) bytes place n)
+constraints_in version bytes place n = values_of (nested_in (constraint_in version) (constraint_end version) bytes place n)
 
 -- the place behind them
 abbrev pub constraints_end : ℕ → List ℕ → ℕ → ℕ → ℕ
-constraints_end version = run_end (constraint_end version)
+constraints_end version = nested_end (constraint_end version)
 
 -- they stand there
 abbrev pub HaveConstraints : ℕ → List ℕ → ℕ → ℕ → Type 0
-HaveConstraints version = HasRun (HasConstraint version) (constraint_end version)
+HaveConstraints version = HasNested (HasConstraint version) (constraint_end version)

@@ -45,7 +45,7 @@ impl<'a> ConstraintList<'a> {
     }
 
     /// How many there are.
-    #[tactic(auto, using(pol_commons::proofs::RunValues::length_values_in))]
+    #[tactic(auto, using(pol_commons::proofs::NestedValues::length_values_in))]
     pub fn len(&self) -> u32
         ensures { result ≡ length self.now }
     {

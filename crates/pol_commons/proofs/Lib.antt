@@ -1,4 +1,4 @@
-pub mod RunValues
+pub mod NestedValues
 pub mod Claimed
 pub mod ListedPermissions
 pub mod CommonLaws

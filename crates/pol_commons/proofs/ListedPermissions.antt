@@ -2,13 +2,13 @@
 use Rattle.std.proofs.Common.{◌≡◌, ℕ, ◌+◌, ◌<◌, ◌≤◌, List, [], ◌∷◌, ◌++◌, refl, sym, ap, subst, ◌∙◌, arith}
 use Rattle.pol_fields.specs.declared.fault.Fault.{Fault}
 use Rattle.pol_cursor.specs.Outcome.{Position, Bad}
-use Rattle.pol_cursor.specs.Runs.{run_in, run_end, HasRun}
+use Rattle.pol_cursor.specs.NestedRecords.{nested_in, nested_end, HasNested}
 use Rattle.pol_cursor.proofs.Lists.{Gave, Going, Going-start, Going-next, Going-bad, Going-end}
-use Rattle.pol_cursor.proofs.RunLists.{run_end_next}
+use Rattle.pol_cursor.proofs.NestedLists.{nested_end_next}
 use Rattle.pol_commons.specs.declared.permission_rec.PermissionRec.{PermissionRec}
 use Rattle.pol_commons.specs.PermissionRecord.{permission_at, permission_in, permission_end, HasPermission}
 use Rattle.pol_commons.specs.Permissions.{with_permission, permissions_at, permissions_in, permissions_end, HavePermissions}
-use Rattle.pol_commons.proofs.RunValues.{values_next, run_has_next}
+use Rattle.pol_commons.proofs.NestedValues.{values_next, run_has_next}
 
 -- i permissions were read, and are those that stand there
 pub record Listed (inherited : List PermissionRec) (count : ℕ) (first : Position) (i : ℕ) (now : Position) : Type 0 where
@@ -18,7 +18,7 @@ pub record Listed (inherited : List PermissionRec) (count : ℕ) (first : Positi
 
 module _ (inherited : List PermissionRec) (count : ℕ) (first : Position) where
   pub Listed-start : Listed inherited count first 0 first
-  unfolding run_in run_end HasRun
+  unfolding nested_in nested_end HasNested
   Listed-start = record { going = Going-start (λ left listed. permission_at listed inherited) with_permission count [] first; ends = refl; have = tt }
 
   pub Listed-next : (i : ℕ) (now next : Position) → i < count → Gave (permission_at (permissions_in first.bytes first.place i) inherited) (permission_in now.bytes now.place) now next
@@ -30,7 +30,7 @@ module _ (inherited : List PermissionRec) (count : ℕ) (first : Position) where
       values_next permission_in permission_end first.bytes first.place i ∙ ap (λ (p : Position). permissions_in first.bytes first.place i ++ permission_in p.bytes p.place ∷ []) (sym here) in
       record {
         going = rw more one;
-        ends = behind ∙ ap (λ (p : Position). permission_end p.bytes p.place) here ∙ sym (run_end_next permission_end first.bytes first.place i);
+        ends = behind ∙ ap (λ (p : Position). permission_end p.bytes p.place) here ∙ sym (nested_end_next permission_end first.bytes first.place i);
         have = run_has_next HasPermission permission_end first.bytes first.place i h.have (subst (λ (p : Position). HasPermission p.bytes p.place) here has);
       }
 

@@ -6,7 +6,7 @@ use Rattle.std.specs.Str.{bytes_eq}
 use Rattle.pol_cursor.specs.Outcome.{Reader}
 use Rattle.pol_cursor.specs.Parts.{list_of}
 use Rattle.pol_cursor.specs.References.{values_of}
-use Rattle.pol_cursor.specs.Runs.{run_in, run_end, HasRun}
+use Rattle.pol_cursor.specs.NestedRecords.{nested_in, nested_end, HasNested}
 use Rattle.pol_commons.specs.declared.permission_rec.PermissionRec.{PermissionRec}
 use Rattle.pol_commons.specs.PermissionRecord.{permission_at, permission_in, permission_end, HasPermission}
 
@@ -23,15 +23,15 @@ permissions_at inherited n = list_of (λ left listed. permission_at listed inher
 
 -- n of them
 abbrev pub permissions_in : List ℕ → ℕ → ℕ → List PermissionRec
-permissions_in bytes place n = values_of (run_in permission_in permission_end bytes place n)
+permissions_in bytes place n = values_of (nested_in permission_in permission_end bytes place n)
 
 -- the place behind them
 abbrev pub permissions_end : List ℕ → ℕ → ℕ → ℕ
-permissions_end = run_end permission_end
+permissions_end = nested_end permission_end
 
 -- they stand there
 abbrev pub HavePermissions : List ℕ → ℕ → ℕ → Type 0
-HavePermissions = HasRun HasPermission permission_end
+HavePermissions = HasNested HasPermission permission_end
 
 -- ---- look-ups
 

@@ -34,7 +34,7 @@ impl<'a> Model for PermissionList<'a> {
 
 impl<'a> PermissionList<'a> {
     /// No permission.
-    #[tactic(auto, unfolding(pol_cursor::specs::Runs::run_in, pol_cursor::specs::Runs::HasRun))]
+    #[tactic(auto, unfolding(pol_cursor::specs::NestedRecords::nested_in, pol_cursor::specs::NestedRecords::HasNested))]
     pub fn empty() -> PermissionList<'a>
         ensures { result ≡ [] }
     {

@@ -3,8 +3,8 @@ use Rattle.std.proofs.Common.{◌≡◌, ℕ, zero, suc, ◌+◌, ◌<◌, ◌�
 use Rattle.std.specs.Prelude.{slice_get}
 use Rattle.std.proofs.lemmas.List.{drop_at, take_all, drop-append-le, take-append-le, length-drop, length-append, map_push}
 use Rattle.pol_cursor.specs.References.{Placed}
-use Rattle.pol_cursor.specs.Runs.{run_in, run_end, HasRun}
-use Rattle.pol_cursor.proofs.RunLists.{length_run_in, get_run_in, run_has}
+use Rattle.pol_cursor.specs.NestedRecords.{nested_in, nested_end, HasNested}
+use Rattle.pol_cursor.proofs.NestedLists.{length_nested_in, get_nested_in, nested_has}
 use Rattle.pol_avtab.specs.declared.AvRec.{AvRec}
 use Rattle.pol_conditionals.specs.declared.condnode_rec.CondNodeRec.{CondNodeRec}
 use Rattle.pol_cursor.specs.Parts.{num}
@@ -56,14 +56,14 @@ module _ (numbers more : List ℕ) (spans : List Span) (h : AreWithin numbers sp
 -- by the places of a run
 module _ (bytes : List ℕ) (place n j p : ℕ) where
   abbrev run : List (Placed AvRec)
-  run = run_in av_in av_end bytes place n
+  run = nested_in av_in av_end bytes place n
 
-  run_rule : HasRun HasAv av_end bytes place n → j < length run → p ≡ get_or (places_of run) j 0 → HasAv bytes p × (slice_get run j ≡ Some (record { place = p; value = av_in bytes p }))
+  run_rule : HasNested HasAv av_end bytes place n → j < length run → p ≡ get_or (places_of run) j 0 → HasAv bytes p × (slice_get run j ≡ Some (record { place = p; value = av_in bytes p }))
   run_rule h lt at =
-      let within : j < n = omega (arith, length_run_in av_in av_end bytes place n) in
-      let there = get_run_in av_in av_end bytes place n j within in
-      let is : p ≡ run_end av_end bytes place j = at ∙ place_of run j (run_end av_end bytes place j) (av_in bytes (run_end av_end bytes place j)) there in
-      (subst (HasAv bytes) (sym is) (run_has HasAv av_end bytes place n j within h), there ∙ ap (λ (i : ℕ). Some (record { place = i; value = av_in bytes i })) (sym is))
+      let within : j < n = omega (arith, length_nested_in av_in av_end bytes place n) in
+      let there = get_nested_in av_in av_end bytes place n j within in
+      let is : p ≡ nested_end av_end bytes place j = at ∙ place_of run j (nested_end av_end bytes place j) (av_in bytes (nested_end av_end bytes place j)) there in
+      (subst (HasAv bytes) (sym is) (nested_has HasAv av_end bytes place n j within h), there ∙ ap (λ (i : ℕ). Some (record { place = i; value = av_in bytes i })) (sym is))
     where
       place_of : (rules : List (Placed AvRec)) (j at : ℕ) (av : AvRec) → slice_get rules j ≡ Some (record { place = at; value = av }) → get_or (places_of rules) j 0 ≡ at
       place_of [] j at av e = absurd cc

@@ -6,7 +6,7 @@ use Rattle.pol_fields.specs.declared.fields.TheConstants.{CONDNODE_NTRUE, CONDNO
 use Rattle.pol_cursor.specs.Outcome.{Reader, ◌>>=◌, done}
 use Rattle.pol_cursor.specs.Parts.{num, counted, records_at, spell_counted, CountedFits}
 use Rattle.pol_cursor.specs.References.{Placed, Reference, values_of}
-use Rattle.pol_cursor.specs.Runs.{run_in, run_end, HasRun, placed_from, length_together}
+use Rattle.pol_cursor.specs.NestedRecords.{nested_in, nested_end, HasNested, placed_from, length_together}
 use Rattle.pol_expr.specs.declared.condition_rec.ConditionRec.{ConditionRec}
 use Rattle.pol_expr.specs.ConditionRecord.{condition_at, spell_condition, ConditionFits, condition_in, condition_size, HasCondition, condition_references}
 use Rattle.pol_avtab.specs.declared.AvRec.{AvRec}
@@ -39,14 +39,14 @@ pub record CondNodeFits (node : CondNodeRec) : Type 0 where
 
 -- the rules behind their count, which stands at a place
 abbrev pub rules_in : List ℕ → ℕ → List (Placed AvRec)
-rules_in bytes place = run_in av_in av_end bytes (place + 4) (num bytes place 4)
+rules_in bytes place = nested_in av_in av_end bytes (place + 4) (num bytes place 4)
 
 -- the place behind them
 abbrev pub rules_end : List ℕ → ℕ → ℕ
-rules_end bytes place = run_end av_end bytes (place + 4) (num bytes place 4)
+rules_end bytes place = nested_end av_end bytes (place + 4) (num bytes place 4)
 
 abbrev pub HasRules : List ℕ → ℕ → Type 0
-HasRules bytes place = (place + 4 ≤ length bytes) × HasRun HasAv av_end bytes (place + 4) (num bytes place 4)
+HasRules bytes place = (place + 4 ≤ length bytes) × HasNested HasAv av_end bytes (place + 4) (num bytes place 4)
 
 -- where the counts of the two lists stand
 abbrev pub true_count_place : List ℕ → ℕ → ℕ

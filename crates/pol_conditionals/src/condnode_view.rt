@@ -9,7 +9,7 @@ ghost use Rattle.pol_conditionals.specs.CondNodeRecord.{conditional_rules_at, co
 
 use crate::condnode_rec::CondNodeRec;
 use pol_avtab::Av;
-use pol_cursor::{Cursor, Names, Run, end_of_run, read_run, u32_in};
+use pol_cursor::{Cursor, Names, NestedRecords, end_of_nested, read_nested, u32_in};
 use pol_expr::{ConditionView, read_condition};
 use pol_fields::fields::{CONDNODE_NFALSE, CONDNODE_NTRUE};
 use pol_fields::{Fault, Field};
@@ -60,7 +60,7 @@ impl<'a> CondNodeView<'a> {
 
     /// The rules that hold where the condition is true, one behind the other.
     #[tactic(auto, using(crate::proofs::RulePlaces::true_rules_are))]
-    pub fn true_rules(&self) -> Run<'a, Av>
+    pub fn true_rules(&self) -> NestedRecords<'a, Av>
         ensures { result ≡ branch_rules self.now true }
     {
         rules_at(self.bytes, true_count_place(self.bytes, self.place))
@@ -68,14 +68,14 @@ impl<'a> CondNodeView<'a> {
 
     /// The rules that hold where the condition is false, one behind the other. It goes through the true ones.
     #[tactic(auto, using(crate::proofs::RulePlaces::false_rules_are))]
-    pub fn false_rules(&self) -> Run<'a, Av>
+    pub fn false_rules(&self) -> NestedRecords<'a, Av>
         ensures { result ≡ branch_rules self.now false }
     {
         rules_at(self.bytes, false_count_place(self.bytes, self.place))
     }
 
     /// The rules that hold where the condition is true, or where it is false.
-    pub fn rules(&self, branch: bool) -> Run<'a, Av>
+    pub fn rules(&self, branch: bool) -> NestedRecords<'a, Av>
         ensures { result ≡ branch_rules self.now branch }
     {
         if branch {
@@ -101,7 +101,7 @@ impl<'a> CondNodeView<'a> {
     }
 
     /// The node, owned.
-    #[tactic(auto, using(pol_cursor::proofs::PlacedRuns::values_placed))]
+    #[tactic(auto, using(pol_cursor::proofs::PlacedNested::values_placed))]
     pub fn rec(&self, alloc: Global) -> Result<CondNodeRec, AllocError>
         ensures { IfOk result (λ node. node ≡ self.now.value) }
     {
@@ -115,7 +115,7 @@ impl<'a> CondNodeView<'a> {
 
 // The first reference of rules that no record declares.
 #[tactic(auto, using(pol_cursor::proofs::DanglingLists::dangling_none, pol_cursor::proofs::DanglingLists::undeclared_first))]
-fn first_of_rules<N: Names>(rules: Run<'_, Av>, names: &N) -> Option<Fault>
+fn first_of_rules<N: Names>(rules: NestedRecords<'_, Av>, names: &N) -> Option<Fault>
     ensures { result ≡ dangling_of (N.named names.now) (flat_map av_references rules.entry) }
 {
     for rule in rules {
@@ -142,16 +142,16 @@ fn false_count_place(bytes: &[u8], place: u32) -> u32
     ensures { result ≡ false_count_place bytes.now place }
 {
     let count = true_count_place(bytes, place);
-    end_of_run::<Av>(bytes, count + 4, u32_in(bytes, count as usize))
+    end_of_nested::<Av>(bytes, count + 4, u32_in(bytes, count as usize))
 }
 
 // The rules behind their number, which stands at a place.
-fn rules_at<'a>(bytes: &'a [u8], place: u32) -> Run<'a, Av>
+fn rules_at<'a>(bytes: &'a [u8], place: u32) -> NestedRecords<'a, Av>
     requires stand { HasRules bytes.now place }
     requires size { length bytes.now ≤ MAX_POLICY_BYTES }
     ensures { result ≡ rules_in bytes.now place }
 {
-    Run::at(bytes, place + 4, u32_in(bytes, place as usize))
+    NestedRecords::at(bytes, place + 4, u32_in(bytes, place as usize))
 }
 
 /// The conditional node at the cursor, which then stands behind it. Takes no memory.
@@ -179,6 +179,6 @@ fn pass_rules(c: &mut Cursor<'_>, version: u32, count: Field) -> Result<(), Faul
     ensures next { OnOk result (c.new.place ≡ rules_end c.old.bytes c.old.place) }
 {
     let n = c.u32(count)?;
-    read_run::<Av>(c, n, &version)?;
+    read_nested::<Av>(c, n, &version)?;
     Ok(())
 }

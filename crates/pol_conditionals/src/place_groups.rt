@@ -2,7 +2,7 @@ ghost use Rattle.std.specs.Prelude.{◌≡◌, ◌<◌, ◌^◌, ◌∷◌, ◌+
 ghost use Rattle.pol_conditionals.specs.Inner.PlaceGroups.{places_of};
 
 use pol_avtab::Av;
-use pol_cursor::Run;
+use pol_cursor::NestedRecords;
 use std::alloc::{AllocError, Global};
 use std::marker::Model;
 
@@ -58,7 +58,7 @@ impl PlaceGroups {
     }
 
     /// Adds the list of the places of rules.
-    pub fn push(&mut self, rules: Run<'_, Av>) -> Result<(), AllocError>
+    pub fn push(&mut self, rules: NestedRecords<'_, Av>) -> Result<(), AllocError>
         ensures { OnOk result (self.new ≡ self.old ++ places_of rules.entry ∷ []) }
     {
         let first = self.places.len();
@@ -70,7 +70,7 @@ impl PlaceGroups {
 }
 
 // Appends the places of rules. Out of memory, a front of them may be there.
-fn push_places(places: &mut Vec<u32>, rules: Run<'_, Av>) -> Result<(), AllocError>
+fn push_places(places: &mut Vec<u32>, rules: NestedRecords<'_, Av>) -> Result<(), AllocError>
     ensures ok { OnOk result (places.new.items ≡ places.old.items ++ places_of rules.entry) }
     ensures kept { places.new.items ≡ places.old.items ++ drop (length places.old.items) places.new.items }
 {

@@ -4,12 +4,12 @@ pub mod Lists
 pub mod Ranges
 pub mod Facts
 pub mod NameLaws
-pub mod RunLists
+pub mod NestedLists
 pub mod ContextLists
 pub mod ReferenceLists
 pub mod Writings
 pub mod DanglingLists
-pub mod PlacedRuns
+pub mod PlacedNested
 pub mod Copies
 pub mod EvenPlaces
 pub mod BitPlaces

@@ -5,7 +5,7 @@ pub mod Laws
 pub mod References
 pub mod FileNames
 pub mod Mentions
-pub mod Runs
+pub mod NestedRecords
 pub mod Contexts
 pub mod Writing
 pub mod Inner

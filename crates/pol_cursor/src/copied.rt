@@ -2,7 +2,7 @@
 ghost use Rattle.std.specs.Prelude.{◌≡◌, IfOk};
 ghost use Rattle.pol_cursor.specs.References.{values_of};
 
-use crate::{Inner, OwnedList, RecordView, Records, Run};
+use crate::{NestedRecord, NestedRecords, OwnedList, RecordView, Records};
 use std::alloc::{AllocError, Global};
 
 /// A kind of record whose records can be copied out of the buffer.
@@ -31,7 +31,7 @@ where
     }
 }
 
-impl<'a, V: Copied<'a> + Inner + Drop> Run<'a, V>
+impl<'a, V: Copied<'a> + NestedRecord + Drop> NestedRecords<'a, V>
 where
     V::View: Drop,
     V::Owned: Drop,

@@ -8,13 +8,13 @@ mod even_places;
 mod file_name;
 mod mention;
 mod names;
+mod nested_records;
 mod owned_list;
 mod part;
 mod parts;
 mod read_error;
 mod record_laws;
 mod record_list;
-mod record_run;
 mod referring;
 
 pub use bit_places::{has_bit, set_bit};
@@ -25,6 +25,7 @@ pub use file_name::{
 };
 pub use mention::{Mention, first_dangling};
 pub use names::{Names, dangling, push_name};
+pub use nested_records::{NestedRecord, NestedRecords, end_of_nested, read_nested};
 pub use owned_list::{ByteList, NumberList, OwnedList};
 pub use part::{Part, Written, write_record};
 pub use parts::{array_in, push_number, refuse, string_in, u16_in, u32_in, u64_in};
@@ -37,5 +38,4 @@ pub use record_list::{
     ReadAfter, ReadAlone, Record, RecordView, Records, read_counted, read_records,
     read_records_after,
 };
-pub use record_run::{Inner, Run, end_of_run, read_run};
 pub use referring::{Referring, check_records};

@@ -35,11 +35,11 @@ row_got None row e = absurd (none-some row e)
 row_got (Some r) row e = same_Some r.value row e
 
 -- one row more
-pub row_added : (parts : Parts) (i : ℕ) (had has : List (List Node)) (row : List Node) → had ≡ map (row_in parts) (range_with_len 1 i) → option_map (λ row. row.value) (slice_get parts.labels.type_map (i + 1 - 1)) ≡ Some row
+pub row_added : (parts : Parts) (i : ℕ) (had has : List (List Node)) (row : List Node) → had ≡ map (row_in parts) (range_with_len 1 i) → option_map (λ row. row.value) (slice_get parts.labels.type_rows (i + 1 - 1)) ≡ Some row
     → has ≡ had ++ row ∷ [] → has ≡ map (row_in parts) (range_with_len 1 (i + 1))
 row_added parts i had has row so_far got added =
     added ∙ ap (λ (rows : List (List Node)). rows ++ row ∷ []) so_far
-    ∙ ap (λ (r : List Node). map (row_in parts) (range_with_len 1 i) ++ r ∷ []) (sym (row_got (slice_get parts.labels.type_map (i + 1 - 1)) row got))
+    ∙ ap (λ (r : List Node). map (row_in parts) (range_with_len 1 i) ++ r ∷ []) (sym (row_got (slice_get parts.labels.type_rows (i + 1 - 1)) row got))
     ∙ sym (map-range_with_len_more (row_in parts) 1 i (i + 1) (omega arith))
 
 -- ---- values

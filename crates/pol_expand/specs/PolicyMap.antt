@@ -20,7 +20,7 @@ row_found (Some row) = row.value
 
 -- the row of a type value
 abbrev pub row_in : Parts → ℕ → List Node
-row_in parts value = row_found (slice_get parts.labels.type_map (value - 1))
+row_in parts value = row_found (slice_get parts.labels.type_rows (value - 1))
 
 -- the rows of all type values, that of the value 1 first
 unfoldable pub rows_of : Parts → List (List Node)

@@ -25,7 +25,7 @@ use Rattle.pol_trans.specs.RangeTransRecord.{range_trans_at}
 use Rattle.pol_contexts.specs.ContextTables.{contexts_at}
 use Rattle.pol_genfs.specs.GenfsRecord.{genfs_at}
 use Rattle.pol_file.specs.declared.parts.Parts.{Parts}
-use Rattle.pol_file.specs.TypeMapRows.{type_map_at}
+use Rattle.pol_file.specs.TypeRows.{type_rows_at}
 use Rattle.pol_file.specs.TypeValues.{IsTypeValue, HasTypeValues}
 use Rattle.pol_file.specs.PolicyParts.{front_at, rule_lists_at, label_lists_at, policy_at}
 use Rattle.pol_file.proofs.ReadValues.{gives-others, gives-weaker, gives-records_after}
@@ -79,20 +79,20 @@ symbols_are_within version =
 -- ---- the type map
 
 -- it has a row for each of them
-pub type_map_long : (types : ℕ) → Gives (type_map_at types) (λ rows. length rows ≡ types)
-unfolding type_map_at
-type_map_long types =
+pub type_rows_long : (types : ℕ) → Gives (type_rows_at types) (λ rows. length rows ≡ types)
+unfolding type_rows_at
+type_rows_long types =
     gives-weaker
     (gives-records_after (λ nprim. bitmap_at (Some nprim)) (λ nprim row. nprim) (λ nprim. Unit {0}) (λ row. Unit {0}) (λ nprim known. Gives-any (bitmap_at (Some nprim))) (λ nprim row known. tt) types types tt)
     (λ rows are. are.count)
 
-labels_are_long : (version types : ℕ) → Gives (label_lists_at version types) (λ labels. length labels.type_map ≡ types)
+labels_are_long : (version types : ℕ) → Gives (label_lists_at version types) (λ labels. length labels.type_rows ≡ types)
 unfolding label_lists_at
 labels_are_long version types =
     gives-others (contexts_at version) λ contexts.
     gives-others (counted GENFS_COUNT (records_at (placed genfs_at))) λ genfs.
     gives-others (counted RANGETRANS_COUNT (records_at (placed range_trans_at))) λ range_trans.
-    Gives-part (type_map_long types) λ type_map long.
+    Gives-part (type_rows_long types) λ type_rows long.
     Gives-done _ _ long
 
 -- ---- a policy

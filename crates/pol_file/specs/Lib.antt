@@ -1,4 +1,4 @@
-pub mod TypeMapRows
+pub mod TypeRows
 pub mod PolicyParts
 pub mod PolicyReferences
 pub mod Acceptance

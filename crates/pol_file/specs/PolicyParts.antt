@@ -15,7 +15,7 @@ use Rattle.pol_trans.specs.RangeTransRecord.{range_trans_at}
 use Rattle.pol_trans.specs.NameTransitions.{name_transitions_at}
 use Rattle.pol_contexts.specs.ContextTables.{contexts_at}
 use Rattle.pol_genfs.specs.GenfsRecord.{genfs_at}
-use Rattle.pol_file.specs.TypeMapRows.{type_map_at}
+use Rattle.pol_file.specs.TypeRows.{type_rows_at}
 use Rattle.pol_file.specs.declared.parts.Front.{Front}
 use Rattle.pol_file.specs.declared.parts.RuleLists.{RuleLists}
 use Rattle.pol_file.specs.declared.parts.LabelLists.{LabelLists}
@@ -46,8 +46,8 @@ label_lists_at version types = do
   contexts ← contexts_at version
   genfs ← counted GENFS_COUNT (records_at (placed genfs_at))
   range_trans ← counted RANGETRANS_COUNT (records_at (placed range_trans_at))
-  type_map ← type_map_at types
-  done (record { contexts = contexts; genfs = genfs; range_trans = range_trans; type_map = type_map })
+  type_rows ← type_rows_at types
+  done (record { contexts = contexts; genfs = genfs; range_trans = range_trans; type_rows = type_rows })
 
 -- a whole policy, behind which the file ends
 unfoldable pub policy_at : Reader Parts

@@ -13,4 +13,4 @@ IsTypeValue symbols value = (1 ≤ value) × (value ≤ symbols.types.nprim)
 pub record HasTypeValues (policy : Parts) : Type 0 where
   pub few : policy.symbols.types.nprim ≤ 65535
   pub within : All (λ t. IsTypeValue policy.symbols t.value.value) policy.symbols.types.records
-  pub rows : length policy.labels.type_map ≡ policy.symbols.types.nprim
+  pub rows : length policy.labels.type_rows ≡ policy.symbols.types.nprim

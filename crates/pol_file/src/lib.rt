@@ -10,7 +10,7 @@ mod header_view;
 mod header_write;
 mod parts;
 mod reading;
-mod type_map;
+mod type_rows;
 
 pub use file::read_file;
 pub use header_laws::headers_have_laws;
@@ -18,4 +18,4 @@ pub use header_rec::HeaderRec;
 pub use header_view::{HeaderView, read_header};
 pub use header_write::write_header;
 pub use parts::{Front, LabelLists, Parts, RuleLists};
-pub use type_map::{TypeMap, TypeMapRow, row_of};
+pub use type_rows::{TypeRow, TypeRows, row_of};

@@ -1,6 +1,6 @@
 // The parts of a policy, in the order of the file.
 use crate::header_view::HeaderView;
-use crate::type_map::TypeMap;
+use crate::type_rows::TypeRows;
 use pol_avtab::AvTable;
 use pol_bitmap::BitmapView;
 use pol_conditionals::Conditionals;
@@ -46,7 +46,7 @@ pub struct LabelLists<'a> {
     pub contexts: Contexts<'a>,
     pub genfs: GenfsList<'a>,
     pub range_trans: RangeTransList<'a>,
-    pub type_map: TypeMap<'a>,
+    pub type_rows: TypeRows<'a>,
 }
 
 // Its parts go in one call, wherever it is dropped.
@@ -56,7 +56,7 @@ impl Drop for LabelLists<'_> {
             contexts,
             genfs,
             range_trans,
-            type_map,
+            type_rows,
         } = self;
     }
 }

@@ -5,7 +5,7 @@ ghost use Rattle.pol_file.specs.PolicyParts.{front_at, rule_lists_at, label_list
 
 use crate::header_view::read_header;
 use crate::parts::{Front, LabelLists, Parts, RuleLists};
-use crate::type_map::read_type_map;
+use crate::type_rows::read_type_rows;
 use pol_avtab::read_table;
 use pol_bitmap::BitmapView;
 use pol_conditionals::read_conditionals;
@@ -88,11 +88,11 @@ fn read_label_lists<'a>(
     let contexts = read_contexts(alloc, c, version)?;
     let genfs = read_genfs(alloc, c, version)?;
     let range_trans = read_range_trans(alloc, c, version)?;
-    let type_map = read_type_map(alloc, c, types)?;
+    let type_rows = read_type_rows(alloc, c, types)?;
     Ok(LabelLists {
         contexts,
         genfs,
         range_trans,
-        type_map,
+        type_rows,
     })
 }

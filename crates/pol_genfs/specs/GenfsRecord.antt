@@ -8,7 +8,7 @@ use Rattle.pol_cursor.specs.Outcome.{Reader, ◌>>=◌, done}
 use Rattle.pol_cursor.specs.Parts.{num, number, counted, records_at, spell_counted, CountedFits}
 use Rattle.pol_cursor.specs.FileNames.{name_at, spell_name, NameFits, name_in, name_end}
 use Rattle.pol_cursor.specs.References.{Placed, Reference, values_of}
-use Rattle.pol_cursor.specs.Runs.{run_in, HasRun, placed_from}
+use Rattle.pol_cursor.specs.NestedRecords.{nested_in, HasNested, placed_from}
 use Rattle.pol_cursor.specs.Spelling.{bytes_of}
 use Rattle.pol_mls.specs.ContextRecord.{context_at, spell_context, ContextFits, context_in, context_length, context_end, HasContext, context_references}
 use Rattle.pol_mls.specs.declared.context_rec.ContextRec.{ContextRec}
@@ -47,8 +47,8 @@ abbrev pub path_length : GenfsPathRec → ℕ
 path_length entry = 8 + length entry.path + context_length entry.context
 
 -- the place behind the one there
-abbrev pub path_end : List ℕ → ℕ → ℕ
-path_end bytes place = context_end bytes (name_end bytes place + 4)
+abbrev pub genfs_path_end : List ℕ → ℕ → ℕ
+genfs_path_end bytes place = context_end bytes (name_end bytes place + 4)
 
 abbrev pub HasPath : List ℕ → ℕ → Type 0
 HasPath bytes place = HasContext bytes (name_end bytes place + 4)
@@ -99,12 +99,12 @@ paths_place bytes place = name_end bytes place + 4
 abbrev pub genfs_in : List ℕ → ℕ → GenfsRec
 genfs_in bytes place = record {
   fstype = name_in bytes place;
-  paths = values_of (run_in path_in path_end bytes (paths_place bytes place) (path_count bytes place));
+  paths = values_of (nested_in path_in genfs_path_end bytes (paths_place bytes place) (path_count bytes place));
 }
 
 -- a file system stands there, in a buffer of a policy's size
 abbrev pub HasGenfs : List ℕ → ℕ → Type 0
-HasGenfs bytes place = (paths_place bytes place ≤ length bytes) × (length bytes ≤ MAX_POLICY_BYTES) × HasRun HasPath path_end bytes (paths_place bytes place) (path_count bytes place)
+HasGenfs bytes place = (paths_place bytes place ≤ length bytes) × (length bytes ≤ MAX_POLICY_BYTES) × HasNested HasPath genfs_path_end bytes (paths_place bytes place) (path_count bytes place)
 
 -- its paths, each with its place
 abbrev pub paths_of : Placed GenfsRec → List (Placed GenfsPathRec)

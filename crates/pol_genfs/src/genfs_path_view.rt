@@ -5,13 +5,13 @@ ghost use Rattle.pol_cursor.specs.References.{dangling_of};
 ghost use Rattle.pol_genfs.specs.GenfsRecord.{path_in, HasPath, class_place, class_references, context_of_path, path_references};
 
 use crate::genfs_rec::GenfsPathRec;
-use pol_mls::{ContextView, context_end, read_context};
 use pol_cursor::{
-    ByteList, Copied, Cursor, Inner, Names, Record, RecordView, dangling, name_end, name_standing,
-    read_name, u32_in,
+    ByteList, Copied, Cursor, Names, NestedRecord, Record, RecordView, dangling, name_end,
+    name_standing, read_name, u32_in,
 };
 use pol_fields::fields::{GENFS_CLASS, GENFS_PATH, GENFS_PATHLEN};
 use pol_fields::{Fault, TableKind};
+use pol_mls::{ContextView, context_end, read_context};
 use std::alloc::{AllocError, Global};
 use std::marker::Model;
 
@@ -105,14 +105,14 @@ impl Record for GenfsPath {
     ghost has = { HasPath };
 }
 
-impl Inner for GenfsPath {
-    ghost use Rattle.pol_genfs.specs.GenfsRecord.{path_at, path_end};
+impl NestedRecord for GenfsPath {
+    ghost use Rattle.pol_genfs.specs.GenfsRecord.{path_at, genfs_path_end};
 
-    type Given = ();
+    type Setting = ();
 
     ghost reads = { λ _. path_at };
 
-    ghost ends = { path_end };
+    ghost ends = { genfs_path_end };
 
     #[tactic(auto, using(pol_mls::proofs::ContextPlaces::context_ends))]
     fn end(bytes: &[u8], place: u32) -> u32 {
@@ -120,7 +120,7 @@ impl Inner for GenfsPath {
     }
 
     #[tactic(auto, unfolding(crate::specs::GenfsRecord::path_at))]
-    fn pass(c: &mut Cursor<'_>, _given: &()) -> Result<(), Fault> {
+    fn pass(c: &mut Cursor<'_>, _setting: &()) -> Result<(), Fault> {
         read_name(c, GENFS_PATHLEN, GENFS_PATH)?;
         read_class(c)?;
         read_context(c)?;

@@ -1,5 +1,5 @@
-use pol_mls::ContextRec;
 use pol_cursor::{ByteList, OwnedList};
+use pol_mls::ContextRec;
 
 /// The context of the files of a file system whose paths begin with a path, owned.
 #[derive(Drop)]

@@ -6,13 +6,13 @@ ghost use Rattle.pol_genfs.specs.GenfsRecord.{genfs_at, genfs_in, HasGenfs, path
 
 use crate::genfs_path_view::GenfsPath;
 use crate::genfs_rec::GenfsRec;
-use pol_mls::ContextView;
 use pol_cursor::{
-    ByteList, Copied, Cursor, Names, ReadAlone, Record, RecordView, Referring, Run, name_end,
-    name_standing, read_name, read_run, u32_in,
+    ByteList, Copied, Cursor, Names, NestedRecords, ReadAlone, Record, RecordView, Referring,
+    name_end, name_standing, read_name, read_nested, u32_in,
 };
 use pol_fields::Fault;
 use pol_fields::fields::{GENFS_FSTYPE, GENFS_LEN, GENFS_NPATHS};
+use pol_mls::ContextView;
 use std::alloc::{AllocError, Global};
 use std::marker::Model;
 
@@ -45,12 +45,12 @@ impl<'a> GenfsView<'a> {
 
     /// Its paths, in file order.
     #[tactic(auto, using(crate::proofs::Places::paths_placed, pol_cursor::proofs::Facts::length_part))]
-    pub fn paths(&self) -> Run<'a, GenfsPath>
+    pub fn paths(&self) -> NestedRecords<'a, GenfsPath>
         ensures placed { result ≡ paths_of self.now }
         ensures values { values_of result ≡ self.now.value.paths }
     {
         let place = name_end(self.bytes, self.place);
-        Run::at(self.bytes, place + 4, u32_in(self.bytes, place as usize))
+        NestedRecords::at(self.bytes, place + 4, u32_in(self.bytes, place as usize))
     }
 
     /// The number of paths.
@@ -105,7 +105,7 @@ impl<'a> GenfsView<'a> {
 
 // The first reference of paths whose value no primary record declares, as a fault at its field.
 #[tactic(auto, using(pol_cursor::proofs::DanglingLists::dangling_none, pol_cursor::proofs::DanglingLists::undeclared_first))]
-fn dangling_path<N: Names>(run: Run<'_, GenfsPath>, names: &N) -> Option<Fault>
+fn dangling_path<N: Names>(run: NestedRecords<'_, GenfsPath>, names: &N) -> Option<Fault>
     ensures { result ≡ dangling_of (N.named names.now) (flat_map path_references run.entry) }
 {
     for path in run {
@@ -173,6 +173,6 @@ pub fn read_genfs_entry<'a>(c: &mut Cursor<'a>) -> Result<GenfsView<'a>, Fault>
     let place = c.place();
     read_name(c, GENFS_LEN, GENFS_FSTYPE)?;
     let n = c.u32(GENFS_NPATHS)?;
-    read_run::<GenfsPath>(c, n, &())?;
+    read_nested::<GenfsPath>(c, n, &())?;
     Ok(GenfsView { bytes, place })
 }

@@ -6,7 +6,7 @@ use Rattle.pol_fields.specs.declared.Fault.{Fault}
 use Rattle.pol_fields.specs.declared.Cause.TheVariants.{Short}
 use Rattle.pol_cursor.specs.Outcome.{Outcome, fault}
 use Rattle.pol_file.specs.declared.Parts.{Parts}
-use Rattle.pol_file.specs.TypeMapRows.{type_map_at}
+use Rattle.pol_file.specs.TypeRows.{type_rows_at}
 use Rattle.pol_file.specs.PolicyParts.{front_at, rule_lists_at, label_lists_at, policy_at}
 use Rattle.pol_file.specs.Acceptance.{judged, accept}
 use Rattle.pol_laws.specs.CutFiles.{IsCutShort, IsGoodUpTo, CutField}
@@ -17,9 +17,9 @@ use Rattle.pol_laws.proofs.CutTables.{symbols_local, rule_table_local, condition
 
 -- ---- its readers look at no byte behind their values
 
-type_map_local : (nprim : ℕ) → IsLocal (type_map_at nprim)
-unfolding type_map_at
-type_map_local nprim = local-records_after _ _ (λ nprim. bitmap_local (Some nprim)) nprim nprim
+type_rows_local : (nprim : ℕ) → IsLocal (type_rows_at nprim)
+unfolding type_rows_at
+type_rows_local nprim = local-records_after _ _ (λ nprim. bitmap_local (Some nprim)) nprim nprim
 
 front_local : IsLocal front_at
 unfolding front_at
@@ -45,7 +45,7 @@ label_lists_local version types =
     local-then (contexts_local version) λ contexts.
     local-then (local-counted (local-placed genfs_local) _) λ genfs.
     local-then (local-counted (local-placed range_trans_local) _) λ range_trans.
-    local-then (type_map_local types) λ type_map.
+    local-then (type_rows_local types) λ type_rows.
     local-done _
 
 policy_local : IsLocal policy_at

@@ -13,7 +13,7 @@ use Rattle.pol_file.specs.declared.Parts.{Parts}
 use Rattle.pol_file.specs.PolicyParts.{front_at, rule_lists_at, label_lists_at, policy_at}
 use Rattle.pol_file.specs.Acceptance.{accept}
 use Rattle.pol_file.proofs.ReadValues.{gives-others}
-use Rattle.pol_file.proofs.PolicyTypes.{type_map_long}
+use Rattle.pol_file.proofs.PolicyTypes.{type_rows_long}
 use Rattle.pol_laws.specs.OptionalParts.{wrong_if}
 use Rattle.pol_laws.specs.PolicyShape.{shape_of_rule_lists, shape_of_label_lists, shape}
 use Rattle.pol_laws.proofs.AcceptedPolicies.{accepted_is_read}
@@ -43,8 +43,8 @@ label_lists_shaped version types =
     Gives-part (contexts_shaped version) λ contexts contexts-shaped.
     Gives-part (shaped-placed_list GENFS_COUNT genfs_shaped) λ genfs genfs-shaped.
     Gives-part (shaped-placed_list RANGETRANS_COUNT range_trans_shaped) λ range_trans range_trans-shaped.
-    Gives-part (type_map_long types) λ type_map long.
-    Gives-done _ _ (none-first _ _ contexts-shaped (none-first _ _ genfs-shaped (none-first _ _ range_trans-shaped (none-first _ _ (right_long (length type_map) types BITMAP_UNIT long) none-last))))
+    Gives-part (type_rows_long types) λ type_rows long.
+    Gives-done _ _ (none-first _ _ contexts-shaped (none-first _ _ genfs-shaped (none-first _ _ range_trans-shaped (none-first _ _ (right_long (length type_rows) types BITMAP_UNIT long) none-last))))
 
 policy_shaped : IsShaped policy_at shape
 unfolding policy_at shape

@@ -53,7 +53,7 @@ use Rattle.pol_contexts.specs.ContextTables.{has_infiniband, contexts_at}
 use Rattle.pol_contexts.proofs.ContextLaws.{sid_spelled, named_spelled, port_spelled, address_spelled, fsuse_spelled, ibpkey_spelled, ibendport_spelled}
 use Rattle.pol_genfs.proofs.GenfsLaws.{genfs_spelled}
 use Rattle.pol_file.specs.PolicyParts.{front_at, rule_lists_at, label_lists_at}
-use Rattle.pol_file.specs.TypeMapRows.{type_map_at}
+use Rattle.pol_file.specs.TypeRows.{type_rows_at}
 use Rattle.pol_laws.specs.PolicySpelling.{spell_list, spell_symbol_table, spell_front, spell_symbols, spell_name_transitions, spell_rule_lists, spell_contexts, spell_label_lists}
 use Rattle.pol_laws.proofs.SpelledLists.{IsSpelledBy, spelled_through, list_spelled, records_after_spelled, symbol_table_spelled, list_if_spelled}
 
@@ -185,10 +185,10 @@ contexts_spelled version =
     Reads-done _ (record { sid = sid; fs = fs; port = port; netif = netif; node = node; fsuse = fsuse; node6 = node6; ibpkey = ibpkey; ibendport = ibendport }) (record { same = simp (append_assoc, append-nil); fitting = tt })
 
 pub label_lists_spelled : (version types : ℕ) → IsSpelledBy (label_lists_at version types) (spell_label_lists version)
-unfolding label_lists_at type_map_at spell_label_lists
+unfolding label_lists_at type_rows_at spell_label_lists
 label_lists_spelled version types =
     Reads-part (contexts_spelled version) λ contexts contexts-fit.
     Reads-part (list_spelled GENFS_COUNT genfs_at spell_genfs GenfsFits genfs_spelled) λ genfs genfs-fits.
     Reads-part (list_spelled RANGETRANS_COUNT range_trans_at spell_range_trans RangeTransFits range_trans_spelled) λ range_trans range_trans-fit.
-    Reads-part (records_after_spelled (λ nprim. bitmap_at (Some nprim)) (λ nprim row. nprim) spell_bitmap BitmapFits (λ nprim. bitmap_spelled (Some nprim)) types types) λ type_map type_map-fits.
-    Reads-done _ (record { contexts = contexts; genfs = genfs; range_trans = range_trans; type_map = type_map }) (record { same = simp (append_assoc, append-nil); fitting = tt })
+    Reads-part (records_after_spelled (λ nprim. bitmap_at (Some nprim)) (λ nprim row. nprim) spell_bitmap BitmapFits (λ nprim. bitmap_spelled (Some nprim)) types types) λ type_rows type_rows-fits.
+    Reads-done _ (record { contexts = contexts; genfs = genfs; range_trans = range_trans; type_rows = type_rows }) (record { same = simp (append_assoc, append-nil); fitting = tt })

@@ -27,7 +27,7 @@ shape_of_label_lists version types labels =
     shape_of_contexts version labels.contexts
     ∷ first_placed shape_of_genfs labels.genfs
     ∷ first_placed shape_of_range_trans labels.range_trans
-    ∷ wrong_if (not (length labels.type_map == types)) BITMAP_UNIT
+    ∷ wrong_if (not (length labels.type_rows == types)) BITMAP_UNIT
     ∷ [])
 
 -- a whole policy

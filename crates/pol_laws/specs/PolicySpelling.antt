@@ -101,7 +101,7 @@ spell_label_lists version labels =
     spell_contexts version labels.contexts
     ++ spell_list spell_genfs labels.genfs
     ++ spell_list spell_range_trans labels.range_trans
-    ++ flat_map spell_bitmap (values_of labels.type_map)
+    ++ flat_map spell_bitmap (values_of labels.type_rows)
 
 -- a whole policy
 unfoldable pub spell_policy : Parts → List ℕ

@@ -26,7 +26,7 @@ use Rattle.pol_make.proofs.Granted.{Grants, grants-done, grants-part, grants-as}
 use Rattle.pol_make.proofs.GrantedTables.{grants-no_entries}
 use Rattle.pol_make.proofs.GrantedRules.{rule_table-granted}
 use Rattle.pol_make.proofs.GrantedSids.{sids-granted}
-use Rattle.pol_make.proofs.GrantedRows.{type_map-granted}
+use Rattle.pol_make.proofs.GrantedRows.{type_rows-granted}
 
 -- the rules
 pub rule_lists-granted : (n : ℕ) → 20 ≤ n → n ≤ 5000 → Grants (rule_lists_at 31) (HasRules (made n)) (spell_rules (made n))
@@ -66,6 +66,6 @@ label_lists-granted n many most =
     (grants-part _ (contexts-granted n) λ contexts has_contexts.
     grants-part _ (grants-no_entries GENFS_COUNT genfs_at spell_genfs) λ genfs is_genfs.
     grants-part _ (grants-no_entries RANGETRANS_COUNT range_trans_at spell_range_trans) λ range_trans is_rangetrans.
-    grants-part _ (type_map-granted n many most) λ type_map is_typemap.
+    grants-part _ (type_rows-granted n many most) λ type_rows is_typemap.
     grants-done _ (record { contexts = has_contexts; genfs = is_genfs; rangetrans = is_rangetrans; typemap = is_typemap }))
     (simp (append_assoc, append-nil))

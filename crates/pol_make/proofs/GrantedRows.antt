@@ -8,7 +8,7 @@ use Rattle.std.proofs.lemmas.List.FromFn.{length-map-range_with_len}
 use Rattle.pol_cursor.specs.Contexts.{records_after}
 use Rattle.pol_bitmap.specs.declared.Node.{Node}
 use Rattle.pol_bitmap.specs.Bitmap.{bitmap_at, spell_bitmap}
-use Rattle.pol_file.specs.TypeMapRows.{type_map_at}
+use Rattle.pol_file.specs.TypeRows.{type_rows_at}
 use Rattle.pol_make.specs.SetNodes.{set_of}
 use Rattle.pol_make.specs.MadeSymbols.{attribute_count}
 use Rattle.pol_make.specs.MadeRules.{attribute_of, type_row, attribute_row, made_rows}
@@ -69,9 +69,9 @@ rows-stand : (limit : ℕ) (rows : List (List Node)) → AllByRecursion (IsRow l
 rows-stand limit [] h = tt
 rows-stand limit (row ∷ rows) h = (h.0, rows-stand limit rows h.1)
 
-pub type_map-granted : (n : ℕ) → 20 ≤ n → n ≤ 5000 → GrantsValues (type_map_at (n + attribute_count n)) (made_rows n) (flat_map spell_bitmap (made_rows n))
-unfolding type_map_at
-type_map-granted n many most =
+pub type_rows-granted : (n : ℕ) → 20 ≤ n → n ≤ 5000 → GrantsValues (type_rows_at (n + attribute_count n)) (made_rows n) (flat_map spell_bitmap (made_rows n))
+unfolding type_rows_at
+type_rows-granted n many most =
     let limit = n + attribute_count n in
     subst (λ (k : ℕ). GrantsValues (records_after (λ nprim. bitmap_at (Some nprim)) (λ nprim row. nprim) k limit) (made_rows n) (flat_map spell_bitmap (made_rows n))) (length-made_rows n)
     (grants-rows (λ nprim. bitmap_at (Some nprim)) (λ nprim row. nprim) spell_bitmap (λ left nprim row. IsRow nprim row) (λ left nprim row is. row-granted nprim row is) (made_rows n) limit (rows-stand limit (made_rows n) (rows-made n many most)))

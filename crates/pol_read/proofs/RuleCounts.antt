@@ -10,7 +10,7 @@ use Rattle.pol_fields.specs.declared.fields.TheConstants.{CONDNODE_NTRUE, CONDNO
 use Rattle.pol_cursor.specs.Outcome.{Got, Reader, ◌>>=◌, done}
 use Rattle.pol_cursor.specs.Parts.{end_at, counted, records_at}
 use Rattle.pol_cursor.specs.References.{Placed, placed}
-use Rattle.pol_cursor.specs.Runs.{placed_from}
+use Rattle.pol_cursor.specs.NestedRecords.{placed_from}
 use Rattle.pol_cursor.proofs.Laws.{and_then_got}
 use Rattle.pol_bitmap.specs.Nodes.{bits_of}
 use Rattle.pol_mls.specs.RangeRecord.{range_at}
@@ -37,7 +37,7 @@ use Rattle.pol_contexts.specs.ContextTables.{contexts_at}
 use Rattle.pol_genfs.specs.GenfsRecord.{genfs_at}
 use Rattle.pol_file.specs.declared.Parts.{Parts}
 use Rattle.pol_file.specs.declared.RuleLists.{RuleLists}
-use Rattle.pol_file.specs.TypeMapRows.{type_map_at}
+use Rattle.pol_file.specs.TypeRows.{type_rows_at}
 use Rattle.pol_file.specs.PolicyParts.{front_at, rule_lists_at, label_lists_at, policy_at}
 use Rattle.pol_file.specs.Acceptance.{accept}
 use Rattle.pol_file.proofs.Acceptances.{accepted_was_read}
@@ -322,7 +322,7 @@ labels-keep size version types =
     keeps-then (keeps-any (contexts_at version)) λ contexts known.
     keeps-then (keeps-any (counted GENFS_COUNT (records_at (placed genfs_at)))) λ genfs known.
     keeps-then (keeps-room (room-counted RANGETRANS_COUNT (λ trans. 192) (room-placed room-range_trans))) λ range_trans few.
-    keeps-then (keeps-any (type_map_at types)) λ type_map known.
+    keeps-then (keeps-any (type_rows_at types)) λ type_map known.
     keeps-done _ _ (rw (← total_same 192 range_trans) few)
 
 policy-keeps : (size : ℕ) → Keeps size policy_at (AreFew size)

@@ -11,10 +11,10 @@ use Rattle.std.proofs.lemmas.Option.{same_Some, slice_get_within, get_or_from_sl
 use Rattle.pol_cursor.specs.References.{Placed, values_of}
 use Rattle.pol_cursor.specs.FileNames.{name_in}
 use Rattle.pol_cursor.specs.Parts.{num}
-use Rattle.pol_cursor.specs.Runs.{run_in, HasRun, placed_from}
+use Rattle.pol_cursor.specs.NestedRecords.{nested_in, HasNested, placed_from}
 use Rattle.pol_cursor.proofs.Facts.{length_part}
 use Rattle.pol_cursor.proofs.Lists.{placed_in}
-use Rattle.pol_cursor.proofs.PlacedRuns.{values_placed}
+use Rattle.pol_cursor.proofs.PlacedNested.{values_placed}
 use Rattle.pol_bitmap.specs.declared.node.Node.{Node}
 use Rattle.pol_bitmap.specs.Nodes.{node_bits, bits_of}
 use Rattle.pol_symbols.specs.declared.Symbols.{Symbols}
@@ -238,17 +238,17 @@ record Holds {A : Type 0} (standing : List ℕ → ℕ → A) (has : List ℕ �
   is : placed_in standing bytes item.place ≡ item
 
 module _ {A : Type 0} (standing : List ℕ → ℕ → A) (has : List ℕ → ℕ → Type 0) (ends : List ℕ → ℕ → ℕ) (bytes : List ℕ) where
-  run_item : (place n j : ℕ) (item : Placed A) → slice_get (run_in standing ends bytes place n) j ≡ Some item → HasRun has ends bytes place n → Holds standing has bytes item
-  unfolding run_in HasRun
+  run_item : (place n j : ℕ) (item : Placed A) → slice_get (nested_in standing ends bytes place n) j ≡ Some item → HasNested has ends bytes place n → Holds standing has bytes item
+  unfolding nested_in HasNested
   run_item place zero j item e h = absurd cc
   run_item place (suc n) zero item e h = subst (λ (it : Placed A). Holds standing has bytes it) (same_Some _ _ e) (record { there = h.0; is = refl })
   run_item place (suc n) (suc j) item e h = run_item (ends bytes place) n j item e h.1
 
 group_data : (bytes : List ℕ) (place : ℕ) → HasNameGroup bytes place
-    → name_data_of (placed_in name_group_in bytes place) ≡ run_in name_datum_in name_datum_end bytes (name_data_place bytes place) (name_data_count bytes place)
+    → name_data_of (placed_in name_group_in bytes place) ≡ nested_in name_datum_in name_datum_end bytes (name_data_place bytes place) (name_data_count bytes place)
 group_data bytes place h =
     let start : place + 16 + length (name_in bytes place) ≡ name_data_place bytes place = omega (arith, length_part bytes (place + 4) (num bytes place 4) (omega (arith, h.0))) in
-    ap (λ (p : ℕ). placed_from name_datum_length p (values_of (run_in name_datum_in name_datum_end bytes (name_data_place bytes place) (name_data_count bytes place)))) start
+    ap (λ (p : ℕ). placed_from name_datum_length p (values_of (nested_in name_datum_in name_datum_end bytes (name_data_place bytes place) (name_data_count bytes place)))) start
     ∙ sym (data_placed bytes (name_data_place bytes place) (name_data_count bytes place) h.2)
 
 -- the node of a number, by where it stands
@@ -277,7 +277,7 @@ module _ (symbols : Symbols) (groups : List (Placed NameGroupRec)) (places : Lis
     holds : Holds name_datum_in HasNameDatum bytes there.item.datum
     holds =
         let group : there.item.group.1 ≡ placed_in name_group_in bytes place = same_Some _ _ (sym group_at ∙ same) in
-        let run : name_data_of there.item.group.1 ≡ run_in name_datum_in name_datum_end bytes (name_data_place bytes place) (name_data_count bytes place) = ap name_data_of group ∙ group_data bytes place has in
+        let run : name_data_of there.item.group.1 ≡ nested_in name_datum_in name_datum_end bytes (name_data_place bytes place) (name_data_count bytes place) = ap name_data_of group ∙ group_data bytes place has in
         run_item name_datum_in HasNameDatum name_datum_end bytes (name_data_place bytes place) (name_data_count bytes place) its.datum.index there.item.datum
         (ap (λ (datums : List (Placed NameDatumRec)). slice_get datums its.datum.index) (sym run) ∙ its.datum.at) has.2
 

@@ -21,7 +21,7 @@ use Rattle.pol_avtab.specs.AvKeys.{kind_of}
 use Rattle.pol_avtab.specs.XPerms.{shown_mask}
 use Rattle.pol_avtab.specs.AvRecord.{is_default, part_references, av_references}
 use Rattle.pol_conditionals.specs.CondNodeRecord.{rule_length, node_condition, true_place, false_place, branch_rules, condnode_references, rules_of_branch as access_vectors_of}
-use Rattle.pol_cursor.specs.Runs.{placed_from}
+use Rattle.pol_cursor.specs.NestedRecords.{placed_from}
 use Rattle.pol_trans.specs.declared.RoleTransRec.{RoleTransRec}
 use Rattle.pol_trans.specs.declared.RoleAllowRec.{RoleAllowRec}
 use Rattle.pol_trans.specs.declared.NameTransRec.{NameTransRec}

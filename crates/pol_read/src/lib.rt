@@ -17,7 +17,7 @@ mod sums;
 
 pub use declared_law::declared_types_have_law;
 pub use key_law::rule_keys_have_law;
-pub use pol_file::{TypeMap, TypeMapRow};
+pub use pol_file::{TypeRow, TypeRows};
 pub use policy::{Policy, read};
 pub use rule::{Condition, Rule, RuleEnds, RuleKind, RulePart};
 pub use rule_order::{RuleKey, rule_key};

@@ -121,9 +121,9 @@ impl<'a> Policy<'a> {
     pub fn row(&self, value: u32) -> BitmapView<'a>
         requires least { 0 < value }
         requires most { value ≤ self.now.symbols.types.nprim }
-        ensures { option_map (λ row. row.value) (slice_get self.now.labels.type_map (value - 1)) ≡ Some result }
+        ensures { option_map (λ row. row.value) (slice_get self.now.labels.type_rows (value - 1)) ≡ Some result }
     {
-        row_of(&self.parts.labels.type_map, value)
+        row_of(&self.parts.labels.type_rows, value)
     }
 
     /// The access vector table.

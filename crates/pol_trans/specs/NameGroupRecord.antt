@@ -7,7 +7,7 @@ use Rattle.pol_fields.specs.declared.fields.TheConstants.{NAMEGROUP_LEN, NAMEGRO
 use Rattle.pol_cursor.specs.Outcome.{Reader, ◌>>=◌, done}
 use Rattle.pol_cursor.specs.Parts.{num, number, counted, records_at, spell_counted, CountedFits}
 use Rattle.pol_cursor.specs.References.{Placed, Reference, values_of}
-use Rattle.pol_cursor.specs.Runs.{run_in, HasRun, placed_from}
+use Rattle.pol_cursor.specs.NestedRecords.{nested_in, HasNested, placed_from}
 use Rattle.pol_cursor.specs.Spelling.{bytes_of}
 use Rattle.pol_bitmap.specs.Bitmap.{bitmap_at, spell_bitmap, BitmapFits}
 use Rattle.pol_bitmap.specs.Nodes.{bitmap_in, bitmap_size, HasBitmap}
@@ -80,12 +80,12 @@ name_group_in bytes place = record {
   name = name_in bytes place;
   target = num bytes (name_end bytes place) 4;
   class = num bytes (name_end bytes place + 4) 4;
-  datums = values_of (run_in name_datum_in name_datum_end bytes (name_data_place bytes place) (name_data_count bytes place));
+  datums = values_of (nested_in name_datum_in name_datum_end bytes (name_data_place bytes place) (name_data_count bytes place));
 }
 
 -- a group stands there, in a buffer of a policy's size
 abbrev pub HasNameGroup : List ℕ → ℕ → Type 0
-HasNameGroup bytes place = (name_data_place bytes place ≤ length bytes) × (length bytes ≤ MAX_POLICY_BYTES) × HasRun HasNameDatum name_datum_end bytes (name_data_place bytes place) (name_data_count bytes place)
+HasNameGroup bytes place = (name_data_place bytes place ≤ length bytes) × (length bytes ≤ MAX_POLICY_BYTES) × HasNested HasNameDatum name_datum_end bytes (name_data_place bytes place) (name_data_count bytes place)
 
 -- its data, each with its place
 abbrev pub name_data_of : Placed NameGroupRec → List (Placed NameDatumRec)

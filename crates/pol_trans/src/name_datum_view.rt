@@ -5,7 +5,7 @@ ghost use Rattle.pol_trans.specs.NameGroupRecord.{name_datum_in, HasNameDatum, n
 use crate::name_datum_rec::NameDatumRec;
 use crate::transition::{Stored, TransitionView};
 use pol_bitmap::{BitmapView, Set};
-use pol_cursor::{Copied, Cursor, Inner, Names, Record, RecordView, dangling, u32_in};
+use pol_cursor::{Copied, Cursor, Names, NestedRecord, Record, RecordView, dangling, u32_in};
 use pol_fields::Fault;
 use pol_fields::TableKind::Types;
 use pol_fields::fields::NAMEGROUP_DEFAULT;
@@ -73,10 +73,10 @@ impl Record for NameDatum {
     ghost has = { HasNameDatum };
 }
 
-impl Inner for NameDatum {
+impl NestedRecord for NameDatum {
     ghost use Rattle.pol_trans.specs.NameGroupRecord.{name_datum_at, name_datum_end};
 
-    type Given = ();
+    type Setting = ();
 
     ghost reads = { λ _. name_datum_at };
 
@@ -88,7 +88,7 @@ impl Inner for NameDatum {
     }
 
     #[tactic(auto, unfolding(crate::specs::NameGroupRecord::name_datum_at), using(pol_cursor::proofs::Facts::number_is))]
-    fn pass(c: &mut Cursor<'_>, _given: &()) -> Result<(), Fault> {
+    fn pass(c: &mut Cursor<'_>, _setting: &()) -> Result<(), Fault> {
         BitmapView::read(c)?;
         c.u32(NAMEGROUP_DEFAULT)?;
         Ok(())

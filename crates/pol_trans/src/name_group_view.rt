@@ -8,8 +8,8 @@ use crate::name_group_rec::NameGroupRec;
 use crate::transition::{Stored, Transition, TransitionView, read_transition};
 use pol_bitmap::BitmapView;
 use pol_cursor::{
-    ByteList, Cursor, Mention, Names, Run, first_dangling, name_end, name_standing, read_name,
-    read_run, u32_in,
+    ByteList, Cursor, Mention, Names, NestedRecords, first_dangling, name_end, name_standing,
+    read_name, read_nested, u32_in,
 };
 use pol_fields::Fault;
 use pol_fields::TableKind::{Classes, Types};
@@ -45,13 +45,13 @@ impl<'a> NameGroupView<'a> {
 
     /// The data, in file order.
     #[tactic(auto, using(crate::proofs::NameData::data_placed, pol_cursor::proofs::Facts::length_part))]
-    pub fn data(&self) -> Run<'a, NameDatum>
+    pub fn data(&self) -> NestedRecords<'a, NameDatum>
         ensures placed { result ≡ name_data_of self.now }
         ensures values { values_of result ≡ self.now.value.datums }
     {
         let place = name_end(self.bytes, self.place);
         let count = u32_in(self.bytes, place as usize + 8);
-        Run::at(self.bytes, place + 12, count)
+        NestedRecords::at(self.bytes, place + 12, count)
     }
 
     /// The number of data.
@@ -105,7 +105,7 @@ impl Transition for NameGroupRec {
         c.u32(NAMEGROUP_TARGET)?;
         c.u32(NAMEGROUP_CLASS)?;
         let n = c.u32(NAMEGROUP_NDATUM)?;
-        read_run::<NameDatum>(c, n, &())?;
+        read_nested::<NameDatum>(c, n, &())?;
         Ok(())
     }
 
@@ -126,7 +126,7 @@ impl Transition for NameGroupRec {
 }
 
 // The first default that no primary record declares, as a fault at its field.
-fn dangling_default<N: Names>(run: Run<'_, NameDatum>, names: &N) -> Option<Fault>
+fn dangling_default<N: Names>(run: NestedRecords<'_, NameDatum>, names: &N) -> Option<Fault>
     ensures { result ≡ dangling_of (N.named names.now) (map name_datum_reference run.entry) }
 {
     for datum in run {

@@ -19,8 +19,8 @@ count_rows : {A : Type 0} (rows : List (Placed A)) → length (values_of rows) �
 count_rows rows = simp length-map
 
 -- a policy that was accepted has no more of them than type values
-pub rows_all : (bytes : List ℕ) (policy : Parts) (n : ℕ) → accept bytes ≡ Ok policy → policy.symbols.types.nprim ≤ n → take n (values_of policy.labels.type_map) ≡ values_of policy.labels.type_map
+pub rows_all : (bytes : List ℕ) (policy : Parts) (n : ℕ) → accept bytes ≡ Ok policy → policy.symbols.types.nprim ≤ n → take n (values_of policy.labels.type_rows) ≡ values_of policy.labels.type_rows
 rows_all bytes policy n accepted le =
     let has = accepted_has_type_values bytes policy accepted in
-    let count = count_rows policy.labels.type_map in
-    take_all n (values_of policy.labels.type_map) (omega (arith, has.rows, count))
+    let count = count_rows policy.labels.type_rows in
+    take_all n (values_of policy.labels.type_rows) (omega (arith, has.rows, count))

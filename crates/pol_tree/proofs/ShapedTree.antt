@@ -107,7 +107,7 @@ labels-shaped policy =
     then-first _ _ _ _ (contexts-shaped policy)
     (then-first _ _ _ _ (unplaced-shape shape_of_genfs policy.labels.genfs)
     (then-first _ _ _ _ (unplaced-shape shape_of_range_trans policy.labels.range_trans)
-    (then-first _ _ _ _ (rows-shaped policy.labels.type_map policy.symbols.types.nprim BITMAP_UNIT) then-last)))
+    (then-first _ _ _ _ (rows-shaped policy.labels.type_rows policy.symbols.types.nprim BITMAP_UNIT) then-last)))
 
 pub tree-shaped : (policy : Parts) → policy_shape policy ≡ None → shape (tree_of policy) ≡ None
 unfolding policy_shape shape

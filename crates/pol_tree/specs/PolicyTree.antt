@@ -93,5 +93,5 @@ tree_of policy = record {
   ibendport = values_of policy.labels.contexts.ibendport;
   genfs = values_of policy.labels.genfs;
   rangetrans = values_of policy.labels.range_trans;
-  typemap = values_of policy.labels.type_map;
+  typemap = values_of policy.labels.type_rows;
 }

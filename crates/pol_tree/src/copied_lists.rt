@@ -55,7 +55,7 @@ pub fn copy_groups(alloc: Global, trans: &NameTrans<'_>) -> Result<NameGroupRecL
 
 /// Copies the rows of the type map, as many as there are type values.
 pub fn copy_rows(alloc: Global, policy: &Policy<'_>) -> Result<SetList, AllocError>
-    ensures { IfOk result (λ list. list ≡ values_of policy.now.labels.type_map) }
+    ensures { IfOk result (λ list. list ≡ values_of policy.now.labels.type_rows) }
 {
     // It was accepted, and so each type value has a row.
     let _ = policy.bytes();

@@ -127,7 +127,7 @@ fn copy_labels(alloc: Global, policy: &Policy<'_>, tree: &mut Tree) -> Result<()
     ensures { OnOk result (tree.new ≡ record tree.old {
       genfs = values_of policy.now.labels.genfs;
       rangetrans = values_of policy.now.labels.range_trans;
-      typemap = values_of policy.now.labels.type_map;
+      typemap = values_of policy.now.labels.type_rows;
     }) }
 {
     tree.genfs = policy.genfs().rec(alloc)?;

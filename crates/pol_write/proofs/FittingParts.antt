@@ -196,7 +196,7 @@ record LabelsFit (labels : LabelLists) : Type 0 where
   contexts : ContextsFit labels.contexts
   genfs : CountedFits GenfsFits (values_of labels.genfs)
   rangetrans : CountedFits RangeTransFits (values_of labels.range_trans)
-  typemap : AllByRecursion BitmapFits (values_of labels.type_map)
+  typemap : AllByRecursion BitmapFits (values_of labels.type_rows)
 
 labels-fit : (version types : ℕ) → Fit (label_lists_at version types) LabelsFit
 unfolding label_lists_at
@@ -204,8 +204,8 @@ labels-fit version types =
     fit-part (contexts-fit version) λ contexts contexts-fits.
     fit-part genfs-laws.fitting λ genfs genfs-fits.
     fit-part rangetrans-laws.fitting λ range_trans range_trans-fits.
-    fit-part ((typemap-laws types).fitting) λ type_map type_map-fits.
-    fit-done _ (record { contexts = contexts-fits; genfs = genfs-fits; rangetrans = range_trans-fits; typemap = type_map-fits.1 })
+    fit-part ((typemap-laws types).fitting) λ type_rows type_rows-fits.
+    fit-done _ (record { contexts = contexts-fits; genfs = genfs-fits; rangetrans = range_trans-fits; typemap = type_rows-fits.1 })
 
 -- ---- the whole policy
 

@@ -226,7 +226,7 @@ pub record HasLabels (tree : Tree) (labels : LabelLists) : Type 0 where
   pub contexts : HasContexts tree labels.contexts
   pub genfs : values_of labels.genfs ≡ tree.genfs
   pub rangetrans : values_of labels.range_trans ≡ tree.rangetrans
-  pub typemap : values_of labels.type_map ≡ tree.typemap
+  pub typemap : values_of labels.type_rows ≡ tree.typemap
 
 pub labels-found : (tree : Tree) (types : ℕ) → TreeFits tree → HasNoInfiniband tree → length tree.typemap ≡ types → FindsAgain (label_lists_at tree.version types) (HasLabels tree) (spell_labels tree)
 unfolding label_lists_at spell_labels
@@ -235,6 +235,6 @@ labels-found tree types fits none rows =
     (finds-part _ (contexts-found tree fits none) λ contexts has_contexts.
     finds-part _ (genfs-laws.again tree.genfs fits.genfs) λ genfs is_genfs.
     finds-part _ (rangetrans-laws.again tree.rangetrans fits.rangetrans) λ range_trans is_rangetrans.
-    finds-part _ ((typemap-laws types).again tree.typemap (rows, fits.typemap)) λ type_map is_typemap.
+    finds-part _ ((typemap-laws types).again tree.typemap (rows, fits.typemap)) λ type_rows is_typemap.
     finds-done _ (record { contexts = has_contexts; genfs = is_genfs; rangetrans = is_rangetrans; typemap = is_typemap }))
     (simp (append_assoc, append-nil))

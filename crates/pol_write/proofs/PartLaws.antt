@@ -48,7 +48,7 @@ use Rattle.pol_contexts.specs.ContextTables.{table_if}
 use Rattle.pol_contexts.proofs.ContextLaws.{sid_spelled, sid_again, named_spelled, named_again, port_spelled, port_again, address_spelled, address_again, fsuse_spelled, fsuse_again, ibpkey_spelled, ibpkey_again, ibendport_spelled, ibendport_again}
 use Rattle.pol_genfs.specs.GenfsRecord.{genfs_at, spell_genfs, GenfsFits}
 use Rattle.pol_genfs.proofs.GenfsLaws.{genfs_spelled, genfs_again}
-use Rattle.pol_file.specs.TypeMapRows.{type_map_at}
+use Rattle.pol_file.specs.TypeRows.{type_rows_at}
 use Rattle.pol_laws.specs.PolicySpelling.{spell_if}
 use Rattle.pol_write.proofs.Findings.{HasLaws, laws-through}
 use Rattle.pol_write.proofs.ListFindings.{list-laws, table-laws, rows-laws, AreSoManyFitting, list_if-laws, FitsIf}
@@ -155,6 +155,6 @@ ibendport-laws there = list_if-laws there (counted IBENDPORT_COUNT (records_at (
 pub genfs-laws : HasListLaws GENFS_COUNT genfs_at spell_genfs GenfsFits
 genfs-laws = list-laws GENFS_COUNT genfs_at spell_genfs GenfsFits genfs_spelled genfs_again
 
-pub typemap-laws : (types : ℕ) → HasLaws (type_map_at types) (λ rows. values_of rows) (flat_map spell_bitmap) (AreSoManyFitting types BitmapFits)
-unfolding type_map_at
+pub typemap-laws : (types : ℕ) → HasLaws (type_rows_at types) (λ rows. values_of rows) (flat_map spell_bitmap) (AreSoManyFitting types BitmapFits)
+unfolding type_rows_at
 typemap-laws types = rows-laws (λ nprim. bitmap_at (Some nprim)) (λ nprim row. nprim) spell_bitmap BitmapFits (λ nprim. bitmap_spelled (Some nprim)) (λ nprim. bitmap_again (Some nprim)) types types

@@ -4,7 +4,7 @@ use Rattle.pol_tree.proofs.copied_lists.copy_rows.Goals as goal
 
 pub loop-i-preserved : goal.loop-i-preserved
 loop-i-preserved c =
-    let next = row_next c.args.policy.now.labels.type_map c.loop-i.i c.row.result c.row.ensures in
+    let next = row_next c.args.policy.now.labels.type_rows c.loop-i.i c.row.result c.row.ensures in
     rw c.in_ok-push.ensures.items (rw next (rw (c.in_ok-from_view.ensures.same, c.loop-i.invariant) refl))
 
 pub returns : goal.returns

@@ -8,4 +8,4 @@ use Rattle.rule_ends.proofs.joining.row_has.Goals as goal
 pub returns : goal.returns
 returns c =
     has_is c.has.result c.row.result c.args.bit c.has.ensures
-    ∙ ap (λ (row : List Node). has_bit row c.args.bit) (sym (row_is (slice_get c.args.policy.now.labels.type_map (c.args.value - 1)) c.row.result c.row.ensures))
+    ∙ ap (λ (row : List Node). has_bit row c.args.bit) (sym (row_is (slice_get c.args.policy.now.labels.type_rows (c.args.value - 1)) c.row.result c.row.ensures))

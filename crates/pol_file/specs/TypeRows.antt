@@ -7,5 +7,5 @@ use Rattle.pol_bitmap.specs.declared.Node.{Node}
 use Rattle.pol_bitmap.specs.Bitmap.{bitmap_at}
 
 -- the rows, as many as there are type values; no bit is at or above that number (this project's profile)
-unfoldable pub type_map_at : ℕ → Reader (List (Placed (List Node)))
-type_map_at nprim = records_after (λ nprim. bitmap_at (Some nprim)) (λ nprim row. nprim) nprim nprim
+unfoldable pub type_rows_at : ℕ → Reader (List (Placed (List Node)))
+type_rows_at nprim = records_after (λ nprim. bitmap_at (Some nprim)) (λ nprim row. nprim) nprim nprim
