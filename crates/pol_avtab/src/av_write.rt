@@ -1,17 +1,8 @@
-ghost use Rattle.pol_cursor.specs.Writing.{Writes};
-ghost use Rattle.pol_avtab.specs.AvTables.{spell_table};
+//! How an access vector is written.
 
-use crate::av_rec::{AvPart, AvRec, AvRecList};
+use crate::av_rec::{AvPart, AvRec};
 use pol_cursor::{Part, Written};
 use std::alloc::AllocError;
-
-/// Appends the bytes of a table of access vectors, which are the same in each version: their number, and then they. Out of
-/// memory, a beginning of the bytes was appended.
-pub fn write_table(rules: &AvRecList, _version: u32, out: &mut Vec<u8>) -> Result<(), AllocError>
-    ensures { Writes out.old.items out.new.items (spell_table rules.now) result }
-{
-    (Part::U32(rules.len() as u64), rules).write(out)
-}
 
 impl Written for AvRec {
     ghost use Rattle.pol_avtab.specs.AvRecord.{spell_av};

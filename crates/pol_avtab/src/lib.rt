@@ -23,7 +23,6 @@ pub use av_kind::{Av, AvContext};
 pub use av_rec::{AvPart, AvRec, AvRecList};
 pub use av_table::{AvTable, read_table};
 pub use av_view::{AvView, read_av};
-pub use av_write::write_table;
 pub use pol_cursor::write_record as write_av;
 pub use record_laws::{access_vectors_have_laws, tables_have_laws};
 pub use xnumbers::XNumbers;

@@ -1,20 +1,8 @@
-ghost use Rattle.pol_cursor.specs.Writing.{Writes};
-ghost use Rattle.pol_conditionals.specs.CondNodeList.{spell_conditionals};
+//! How a conditional node is written.
 
-use crate::condnode_rec::{CondNodeRec, CondNodeRecList};
+use crate::condnode_rec::CondNodeRec;
 use pol_cursor::{Part, Written};
 use std::alloc::AllocError;
-
-/// Appends the bytes of a list of conditional nodes, which are the same in each version: their number, and then they.
-pub fn write_conditionals(
-    nodes: &CondNodeRecList,
-    _version: u32,
-    out: &mut Vec<u8>,
-) -> Result<(), AllocError>
-    ensures { Writes out.old.items out.new.items (spell_conditionals nodes.now) result }
-{
-    (Part::U32(nodes.len() as u64), nodes).write(out)
-}
 
 impl Written for CondNodeRec {
     ghost use Rattle.pol_conditionals.specs.CondNodeRecord.{spell_condnode};

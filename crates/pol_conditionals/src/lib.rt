@@ -11,6 +11,5 @@ mod record_laws;
 pub use conditionals::{CondNode, Conditionals, read_conditionals};
 pub use condnode_rec::{CondNodeRec, CondNodeRecList};
 pub use condnode_view::{CondNodeView, read_condnode};
-pub use condnode_write::write_conditionals;
 pub use pol_cursor::write_record as write_condnode;
 pub use record_laws::{conditional_nodes_have_laws, conditionals_have_laws};

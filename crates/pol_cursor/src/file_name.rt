@@ -2,14 +2,12 @@
 ghost use Rattle.std.specs.Prelude.{◌≡◌, ◌≤◌, ◌+◌, OnOk, IfOk, length, take, drop};
 ghost use Rattle.pol_fields.specs.declared.limits.TheConstants.{MAX_POLICY_BYTES};
 ghost use Rattle.std.specs.List.{list_all};
-ghost use Rattle.pol_cursor.specs.FileNames.{name_length_test, is_name_byte, name_test, name_length_at, name_bytes_at, name_at, spell_name, name_in, name_end};
+ghost use Rattle.pol_cursor.specs.FileNames.{name_length_test, is_name_byte, name_test, name_length_at, name_bytes_at, name_at, name_in, name_end};
 ghost use Rattle.pol_cursor.specs.Outcome.{Answers};
 ghost use Rattle.pol_cursor.specs.Parts.{num};
-ghost use Rattle.pol_cursor.specs.Writing.{Writes};
 
-use crate::{Cursor, Part, Written, refuse, string_in, u32_in};
+use crate::{Cursor, refuse, string_in, u32_in};
 use pol_fields::{Cause, Fault, Field};
-use std::alloc::AllocError;
 
 /// `BadName` where a name would have no byte.
 fn name_length_cause(len: u32) -> Option<Cause>
@@ -100,11 +98,4 @@ pub fn name_end(bytes: &[u8], place: u32) -> u32
     ensures { result ≡ name_end bytes.now place }
 {
     place + 4 + u32_in(bytes, place as usize)
-}
-
-/// Appends the length of a name, which has 32 bits at most, and its bytes. Out of memory, a beginning of them was appended.
-pub fn write_name(name: &[u8], out: &mut Vec<u8>) -> Result<(), AllocError>
-    ensures { Writes out.old.items out.new.items (spell_name name.now) result }
-{
-    (Part::U32(name.len() as u64), Part::Bytes(name)).write(out)
 }

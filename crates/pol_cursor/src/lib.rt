@@ -20,9 +20,7 @@ mod referring;
 pub use bit_places::{has_bit, set_bit};
 pub use copied::Copied;
 pub use cursor::Cursor;
-pub use file_name::{
-    name_end, name_standing, read_name, read_name_bytes, read_name_length, write_name,
-};
+pub use file_name::{name_end, name_standing, read_name, read_name_bytes, read_name_length};
 pub use mention::{Mention, first_dangling};
 pub use names::{Names, dangling, push_name};
 pub use nested_records::{NestedRecord, NestedRecords, end_of_nested, read_nested};

@@ -54,13 +54,6 @@ impl<'a> NameGroupView<'a> {
         NestedRecords::at(self.bytes, place + 12, count)
     }
 
-    /// The number of data.
-    pub fn ndatum(&self) -> u32
-        ensures { result ≡ length self.now.value.datums }
-    {
-        self.data().len()
-    }
-
     /// The sources of the datum of that number, counted from 0: bit v - 1 stands for the value v. It goes through the data before.
     pub fn sources(&self, i: u32) -> BitmapView<'a>
         requires { i < length self.now.value.datums }
