@@ -2,8 +2,8 @@
 ghost use Rattle.std.specs.Prelude.{◌≡◌, ◌++◌, OnOk};
 ghost use Rattle.pol_mls.specs.ContextText.{context_text};
 
-use pol_mls::{ContextView, context_text};
 use pol_cursor::Names;
+use pol_mls::{ContextView, context_text};
 use std::alloc::AllocError;
 
 /// Appends the text of a context, `USER:ROLE:TYPE:RANGE`.

@@ -1,13 +1,14 @@
 // The lines of how the files of file systems get their contexts.
 use crate::contexts::push_context;
 use crate::table_lines::{LinedEntry, NamedEntry, TableLines};
-use pol_contexts::{FSUSE_ROW, FsUseRec, FsUseView};
+use pol_contexts::{FsUseRec, FsUseView};
 use pol_cursor::Names;
+use pol_fields::codes::OCON_FSUSE;
 use pol_texts::{behaviour_word, push_name_text};
 use std::alloc::AllocError;
 
 /// The lines of how the files of file systems get their contexts.
-pub type FsUseLines<'p, 'a> = TableLines<'p, 'a, FsUseRec, FSUSE_ROW>;
+pub type FsUseLines<'p, 'a> = TableLines<'p, 'a, FsUseRec, OCON_FSUSE>;
 
 impl LinedEntry for FsUseRec {
     ghost use Rattle.info_contexts.specs.FsUseLines.{fsuse_line};

@@ -3,8 +3,8 @@ ghost use Rattle.std.specs.Prelude.{◌≡◌, ◌++◌, IfOk, OnOk, option_map}
 ghost use Rattle.info_contexts.specs.GenfsLines.{entries_of, entries_in};
 ghost use Rattle.info_contexts.specs.NamedEntries.{is_asked, of_name};
 
-use pol_mls::ContextView;
 use pol_genfs::{GenfsList, GenfsPathView, GenfsView};
+use pol_mls::ContextView;
 use std::alloc::{AllocError, Global};
 use std::marker::Model;
 

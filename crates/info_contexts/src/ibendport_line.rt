@@ -4,13 +4,14 @@ ghost use Rattle.info_contexts.specs.IbEndPortLines.{device_text};
 
 use crate::contexts::push_context;
 use crate::table_lines::{LinedEntry, TableLines};
-use pol_contexts::{IBENDPORT_ROW, IbEndPortRec, IbEndPortView};
+use pol_contexts::{IbEndPortRec, IbEndPortView};
 use pol_cursor::Names;
+use pol_fields::codes::OCON_IBENDPORT;
 use pol_texts::{push_decimal, push_name_text};
 use std::alloc::AllocError;
 
 /// The lines of the contexts of InfiniBand devices at their ports.
-pub type IbEndPortLines<'p, 'a> = TableLines<'p, 'a, IbEndPortRec, IBENDPORT_ROW>;
+pub type IbEndPortLines<'p, 'a> = TableLines<'p, 'a, IbEndPortRec, OCON_IBENDPORT>;
 
 impl LinedEntry for IbEndPortRec {
     ghost use Rattle.info_contexts.specs.IbEndPortLines.{ibendport_line};

@@ -4,13 +4,14 @@ ghost use Rattle.info_contexts.specs.IbPkeyLines.{prefixed_text};
 
 use crate::contexts::push_context;
 use crate::table_lines::{LinedEntry, TableLines};
-use pol_contexts::{IBPKEY_ROW, IbPkeyRec, IbPkeyView};
+use pol_contexts::{IbPkeyRec, IbPkeyView};
 use pol_cursor::Names;
+use pol_fields::codes::OCON_IBPKEY;
 use pol_texts::{push_groups_text, push_keys_text};
 use std::alloc::AllocError;
 
 /// The lines of the contexts of InfiniBand partition keys.
-pub type IbPkeyLines<'p, 'a> = TableLines<'p, 'a, IbPkeyRec, IBPKEY_ROW>;
+pub type IbPkeyLines<'p, 'a> = TableLines<'p, 'a, IbPkeyRec, OCON_IBPKEY>;
 
 impl LinedEntry for IbPkeyRec {
     ghost use Rattle.info_contexts.specs.IbPkeyLines.{ibpkey_line};

@@ -1,13 +1,14 @@
 // The lines of the contexts of network interfaces.
 use crate::contexts::push_context;
 use crate::table_lines::{LinedEntry, NamedEntry, TableLines};
-use pol_contexts::{NETIF_ROW, NetifRec, NetifView};
+use pol_contexts::{NetifRec, NetifView};
 use pol_cursor::Names;
+use pol_fields::codes::OCON_NETIF;
 use pol_texts::push_name_text;
 use std::alloc::AllocError;
 
 /// The lines of the contexts of network interfaces.
-pub type NetifLines<'p, 'a> = TableLines<'p, 'a, NetifRec, NETIF_ROW>;
+pub type NetifLines<'p, 'a> = TableLines<'p, 'a, NetifRec, OCON_NETIF>;
 
 impl LinedEntry for NetifRec {
     ghost use Rattle.info_contexts.specs.NetifLines.{netif_line};

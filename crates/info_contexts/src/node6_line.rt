@@ -4,13 +4,14 @@ ghost use Rattle.info_contexts.specs.NodeLines.{masked6_text};
 
 use crate::contexts::push_context;
 use crate::table_lines::{LinedEntry, TableLines};
-use pol_contexts::{NODE6_ROW, Node6Rec, Node6View};
+use pol_contexts::{Node6Rec, Node6View};
 use pol_cursor::Names;
+use pol_fields::codes::OCON_NODE6;
 use pol_texts::push_groups_text;
 use std::alloc::AllocError;
 
 /// The lines of the contexts of IPv6 addresses.
-pub type Node6Lines<'p, 'a> = TableLines<'p, 'a, Node6Rec, NODE6_ROW>;
+pub type Node6Lines<'p, 'a> = TableLines<'p, 'a, Node6Rec, OCON_NODE6>;
 
 impl LinedEntry for Node6Rec {
     ghost use Rattle.info_contexts.specs.NodeLines.{node6_line};

@@ -1,13 +1,14 @@
 // The lines of the contexts of IPv4 addresses.
 use crate::contexts::push_context;
 use crate::table_lines::{LinedEntry, TableLines};
-use pol_contexts::{NODE_ROW, NodeRec, NodeView};
+use pol_contexts::{NodeRec, NodeView};
 use pol_cursor::Names;
+use pol_fields::codes::OCON_NODE;
 use pol_texts::push_ipv4_text;
 use std::alloc::AllocError;
 
 /// The lines of the contexts of IPv4 addresses.
-pub type NodeLines<'p, 'a> = TableLines<'p, 'a, NodeRec, NODE_ROW>;
+pub type NodeLines<'p, 'a> = TableLines<'p, 'a, NodeRec, OCON_NODE>;
 
 impl LinedEntry for NodeRec {
     ghost use Rattle.info_contexts.specs.NodeLines.{node_line};

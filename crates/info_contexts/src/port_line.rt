@@ -1,13 +1,14 @@
 // The lines of port contexts.
 use crate::contexts::push_context;
 use crate::table_lines::{LinedEntry, TableLines};
-use pol_contexts::{PORT_ROW, PortRec, PortView};
+use pol_contexts::{PortRec, PortView};
 use pol_cursor::Names;
+use pol_fields::codes::OCON_PORT;
 use pol_texts::{push_ports_text, push_protocol_name};
 use std::alloc::AllocError;
 
 /// The lines of the contexts of ports.
-pub type PortLines<'p, 'a> = TableLines<'p, 'a, PortRec, PORT_ROW>;
+pub type PortLines<'p, 'a> = TableLines<'p, 'a, PortRec, OCON_PORT>;
 
 impl LinedEntry for PortRec {
     ghost use Rattle.info_contexts.specs.PortLines.{port_line};

@@ -41,7 +41,7 @@ pub trait NamedEntry: LinedEntry {
         ensures { result.now ≡ name entry.now.value };
 }
 
-impl<'a, R: NamedEntry, const ROW: u8> EntryNames for Records<'a, EntryKind<R, ROW>> {
+impl<'a, R: NamedEntry, const TABLE: u8> EntryNames for Records<'a, EntryKind<R, TABLE>> {
     ghost names = { λ entries. map (λ entry. R.name entry.value) entries };
 
     #[tactic(auto, using(info_lines::proofs::ListingLines::line_at))]
@@ -52,12 +52,12 @@ impl<'a, R: NamedEntry, const ROW: u8> EntryNames for Records<'a, EntryKind<R, R
 
 /// The lines of a table, by numbers in file order. Contracts see the listing.
 #[derive(Drop)]
-pub struct TableLines<'p, 'a, R: LinedEntry, const ROW: u8> {
-    entries: &'p Records<'a, EntryKind<R, ROW>>,
+pub struct TableLines<'p, 'a, R: LinedEntry, const TABLE: u8> {
+    entries: &'p Records<'a, EntryKind<R, TABLE>>,
     symbols: &'p Symbols<'a>,
 }
 
-impl<'p, 'a, R: LinedEntry, const ROW: u8> Model for TableLines<'p, 'a, R, ROW> {
+impl<'p, 'a, R: LinedEntry, const TABLE: u8> Model for TableLines<'p, 'a, R, TABLE> {
     ghost use Rattle.std.specs.Prelude.{ℕ, List, map};
     ghost use Rattle.pol_symbols.specs.PolicySymbols.{name_in};
 
@@ -66,12 +66,12 @@ impl<'p, 'a, R: LinedEntry, const ROW: u8> Model for TableLines<'p, 'a, R, ROW> 
     ghost view = { λ l. map (λ entry. R.line (name_in l.symbols.now) entry.value) l.entries.now };
 }
 
-impl<'p, 'a, R: LinedEntry, const ROW: u8> TableLines<'p, 'a, R, ROW> {
+impl<'p, 'a, R: LinedEntry, const TABLE: u8> TableLines<'p, 'a, R, TABLE> {
     /// The lines of these entries, with the names of these symbols.
     pub fn new(
-        entries: &'p Records<'a, EntryKind<R, ROW>>,
+        entries: &'p Records<'a, EntryKind<R, TABLE>>,
         symbols: &'p Symbols<'a>,
-    ) -> TableLines<'p, 'a, R, ROW>
+    ) -> TableLines<'p, 'a, R, TABLE>
         ensures { result ≡ map (λ entry. R.line (name_in symbols.now) entry.value) entries.now }
     {
         TableLines { entries, symbols }
@@ -80,24 +80,24 @@ impl<'p, 'a, R: LinedEntry, const ROW: u8> TableLines<'p, 'a, R, ROW> {
     /// All of them, in file order.
     #[tactic(auto, using(info_lines::proofs::FileOrder::all_there, info_lines::proofs::FileOrder::all_lines, info_lines::proofs::FileOrder::as_many))]
     pub fn all(
-        entries: &'p Records<'a, EntryKind<R, ROW>>,
+        entries: &'p Records<'a, EntryKind<R, TABLE>>,
         symbols: &'p Symbols<'a>,
-    ) -> FileLines<TableLines<'p, 'a, R, ROW>>
+    ) -> FileLines<TableLines<'p, 'a, R, TABLE>>
         ensures { result ≡ map (λ entry. R.line (name_in symbols.now) entry.value) entries.now }
     {
         FileLines::new(TableLines::new(entries, symbols), entries.len())
     }
 }
 
-impl<'p, 'a, R: NamedEntry, const ROW: u8> TableLines<'p, 'a, R, ROW> {
+impl<'p, 'a, R: NamedEntry, const TABLE: u8> TableLines<'p, 'a, R, TABLE> {
     /// The lines of the entries of a name, or of all where none is given, in file order.
     #[tactic(auto, using(crate::proofs::NamedEntries::chosen_there, crate::proofs::NamedEntries::chosen_lines, info_lines::proofs::FileOrder::as_many))]
     pub fn named(
         alloc: Global,
-        entries: &'p Records<'a, EntryKind<R, ROW>>,
+        entries: &'p Records<'a, EntryKind<R, TABLE>>,
         symbols: &'p Symbols<'a>,
         name: Option<&[u8]>,
-    ) -> Result<NumberedLines<TableLines<'p, 'a, R, ROW>>, AllocError>
+    ) -> Result<NumberedLines<TableLines<'p, 'a, R, TABLE>>, AllocError>
         ensures { IfOk result (λ lines. lines ≡ map (λ entry. R.line (name_in symbols.now) entry.value) (of_name (λ entry. R.name entry.value) (option_map (λ name. name.now) name.entry) entries.now)) }
     {
         let numbers = numbers_of_name(alloc, entries, entries.len(), name)?;
@@ -106,7 +106,7 @@ impl<'p, 'a, R: NamedEntry, const ROW: u8> TableLines<'p, 'a, R, ROW> {
     }
 }
 
-impl<'p, 'a, R: LinedEntry, const ROW: u8> LineText for TableLines<'p, 'a, R, ROW> {
+impl<'p, 'a, R: LinedEntry, const TABLE: u8> LineText for TableLines<'p, 'a, R, TABLE> {
     ghost has = { HasLine };
 
     ghost text = { line_of };

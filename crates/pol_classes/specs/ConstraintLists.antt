@@ -1,5 +1,6 @@
 -- The constraints of a class, one behind the other (libsepol's read_cons_helper).
 use Rattle.std.specs.Prelude.{ℕ, nat_le, Bool, List}
+use Rattle.pol_fields.specs.declared.codes.TheConstants.{POLICYDB_VERSION_CONSTRAINT_NAMES}
 use Rattle.pol_cursor.specs.Outcome.{Reader}
 use Rattle.pol_cursor.specs.Parts.{records_at}
 use Rattle.pol_cursor.specs.References.{values_of}
@@ -13,7 +14,7 @@ constraints_at version xtarget n = records_at (constraint_at version xtarget) n
 
 -- the constraints of a version have type sets
 abbrev pub has_type_sets : ℕ → Bool
-has_type_sets version = nat_le 29 version
+has_type_sets version = nat_le POLICYDB_VERSION_CONSTRAINT_NAMES version
 
 -- ---- the constraints that stand from a place on
 

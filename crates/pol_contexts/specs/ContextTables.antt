@@ -1,5 +1,6 @@
 -- Records 25 to 33: the tables that hold contexts (libsepol's ocontext_read_selinux).
 use Rattle.std.specs.Prelude.{ℕ, Bool, true, false, List, [], nat_le}
+use Rattle.pol_fields.specs.declared.codes.TheConstants.{POLICYDB_VERSION_INFINIBAND}
 use Rattle.pol_fields.specs.declared.fields.TheConstants.{SID_COUNT, FS_COUNT, FS_LEN, FS_NAME, PORT_COUNT, NETIF_COUNT, NETIF_LEN, NETIF_NAME, NODE_COUNT, NODE_ADDRESS, NODE_MASK, FSUSE_COUNT, NODE6_COUNT, NODE6_ADDRESS, NODE6_MASK, IBPKEY_COUNT, IBENDPORT_COUNT}
 use Rattle.pol_cursor.specs.Outcome.{Reader, ◌>>=◌, done}
 use Rattle.pol_cursor.specs.Parts.{counted, records_at}
@@ -20,7 +21,7 @@ table_if false table = done []
 
 -- The tables of InfiniBand came with version 31.
 abbrev pub has_infiniband : ℕ → Bool
-has_infiniband version = nat_le 31 version
+has_infiniband version = nat_le POLICYDB_VERSION_INFINIBAND version
 
 unfoldable pub contexts_at : ℕ → Reader Contexts
 contexts_at version = do

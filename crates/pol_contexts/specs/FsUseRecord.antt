@@ -1,5 +1,6 @@
 -- Record 30: how the files of a file system get their contexts (libsepol's ocontext_read_selinux).
 use Rattle.std.specs.Prelude.{ℕ, ◌+◌, ◌^◌, ◌<◌, ◌&&◌, Option, List, ◌++◌, length, nat_le}
+use Rattle.pol_fields.specs.declared.codes.TheConstants.{SECURITY_FS_USE_XATTR, SECURITY_FS_USE_TASK}
 use Rattle.pol_fields.specs.declared.fields.TheConstants.{FSUSE_BEHAVIOUR, FSUSE_LEN, FSUSE_NAME}
 use Rattle.pol_cursor.specs.Outcome.{Reader, ◌>>=◌, done}
 use Rattle.pol_cursor.specs.Parts.{num, number_if, unless}
@@ -13,9 +14,9 @@ use Rattle.pol_contexts.specs.declared.fsuse_rec.FsUseRec.{FsUseRec}
 
 -- ---- reading and spelling
 
--- 1 is xattr, 2 trans and 3 task (SECURITY_FS_USE of libsepol).
+-- one of the three that libsepol names: by extended attributes, by transition or by task
 abbrev pub behaviour_test : ℕ → Option Cause
-behaviour_test behaviour = unless (nat_le 1 behaviour && nat_le behaviour 3) BadBehaviour
+behaviour_test behaviour = unless (nat_le SECURITY_FS_USE_XATTR behaviour && nat_le behaviour SECURITY_FS_USE_TASK) BadBehaviour
 
 unfoldable pub behaviour_at : Reader ℕ
 behaviour_at = number_if FSUSE_BEHAVIOUR 4 behaviour_test

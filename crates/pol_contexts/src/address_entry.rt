@@ -6,10 +6,10 @@ ghost use Rattle.pol_contexts.specs.AddressRecord.{address_at, address_in, spell
 use crate::address_rec::AddressRec;
 use crate::entry::{Entry, Standing};
 use crate::kinds::{AddressView, Node, Node6};
-use pol_mls::{ContextView, read_context};
 use pol_cursor::{Cursor, Names, Part, ReadAlone, Written, array_in};
 use pol_fields::fields::{NODE_ADDRESS, NODE_MASK, NODE6_ADDRESS, NODE6_MASK};
 use pol_fields::{Fault, Field};
+use pol_mls::{ContextView, read_context};
 use std::alloc::{AllocError, Global};
 
 impl<const WIDTH: usize> Standing for AddressRec<WIDTH> {

@@ -83,13 +83,13 @@ impl<'a, R: Entry> EntryView<'a, R> {
     }
 }
 
-/// The kind of the entries of the table of that code.
+/// The kind of the entries of one table of contexts, by libsepol's number of it, as `OCON_PORT`.
 #[derive(Drop)]
-pub struct EntryKind<R, const ROW: u8> {
+pub struct EntryKind<R, const TABLE: u8> {
     entry: PhantomData<R>,
 }
 
-impl<R: Standing, const ROW: u8> Record for EntryKind<R, ROW> {
+impl<R: Standing, const TABLE: u8> Record for EntryKind<R, TABLE> {
     type Owned = R;
 
     ghost standing = { R.standing };
@@ -97,7 +97,7 @@ impl<R: Standing, const ROW: u8> Record for EntryKind<R, ROW> {
     ghost has = { R.has };
 }
 
-impl<'a, R: Standing + Drop, const ROW: u8> RecordView<'a> for EntryKind<R, ROW> {
+impl<'a, R: Standing + Drop, const TABLE: u8> RecordView<'a> for EntryKind<R, TABLE> {
     type View = EntryView<'a, R>;
 
     ghost shown = { λ v. v };
@@ -107,13 +107,13 @@ impl<'a, R: Standing + Drop, const ROW: u8> RecordView<'a> for EntryKind<R, ROW>
     }
 }
 
-impl<'a, R: Entry, const ROW: u8> Copied<'a> for EntryKind<R, ROW> {
+impl<'a, R: Entry, const TABLE: u8> Copied<'a> for EntryKind<R, TABLE> {
     fn rec(view: &Self::View, alloc: Global) -> Result<Self::Owned, AllocError> {
         view.rec(alloc)
     }
 }
 
-impl<'a, R: Entry, const ROW: u8> Referring<'a> for EntryKind<R, ROW> {
+impl<'a, R: Entry, const TABLE: u8> Referring<'a> for EntryKind<R, TABLE> {
     ghost references = { R.references };
 
     fn dangling<N: Names>(view: &Self::View, names: &N) -> Option<Fault> {

@@ -7,13 +7,13 @@ use crate::causes::behaviour_cause;
 use crate::entry::{Entry, Standing};
 use crate::fsuse_rec::FsUseRec;
 use crate::kinds::{FsUse, FsUseView};
-use pol_mls::{ContextView, read_context};
 use pol_cursor::{
     ByteList, Cursor, Names, Part, ReadAlone, Written, name_end, name_standing, read_name, refuse,
     u32_in,
 };
 use pol_fields::Fault;
 use pol_fields::fields::{FSUSE_BEHAVIOUR, FSUSE_LEN, FSUSE_NAME};
+use pol_mls::{ContextView, read_context};
 use std::alloc::{AllocError, Global};
 
 impl Standing for FsUseRec {
@@ -23,7 +23,7 @@ impl Standing for FsUseRec {
 }
 
 impl<'a> FsUseView<'a> {
-    /// 1 is xattr, 2 trans and 3 task.
+    /// How the files get their contexts: `SECURITY_FS_USE_XATTR`, `SECURITY_FS_USE_TRANS` or `SECURITY_FS_USE_TASK`.
     pub fn behaviour(&self) -> u32
         ensures { result ≡ self.now.value.behaviour }
     {

@@ -1,5 +1,5 @@
-use pol_mls::ContextRec;
 use pol_cursor::ByteList;
+use pol_mls::ContextRec;
 
 /// How the files of a file system get their contexts, owned.
 #[derive(Drop)]

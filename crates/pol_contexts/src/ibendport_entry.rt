@@ -6,13 +6,13 @@ ghost use Rattle.pol_contexts.specs.IbEndPortRecord.{ibendport_at, ibendport_in,
 use crate::entry::{Entry, Standing};
 use crate::ibendport_rec::IbEndPortRec;
 use crate::kinds::{IbEndPort, IbEndPortView};
-use pol_mls::{ContextView, read_context};
 use pol_cursor::{
     ByteList, Cursor, Names, Part, ReadAlone, Written, read_name_bytes, read_name_length,
     string_in, u32_in,
 };
 use pol_fields::Fault;
 use pol_fields::fields::{IBENDPORT_LEN, IBENDPORT_NAME, IBENDPORT_PORT};
+use pol_mls::{ContextView, read_context};
 use std::alloc::{AllocError, Global};
 
 impl Standing for IbEndPortRec {

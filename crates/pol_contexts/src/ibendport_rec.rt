@@ -1,5 +1,5 @@
-use pol_mls::ContextRec;
 use pol_cursor::ByteList;
+use pol_mls::ContextRec;
 
 /// The context of an InfiniBand device at a port, owned.
 #[derive(Drop)]

@@ -4,10 +4,10 @@ ghost use Rattle.pol_contexts.specs.IbPkeyRecord.{ibpkey_at, ibpkey_in, spell_ib
 use crate::entry::{Entry, Standing};
 use crate::ibpkey_rec::IbPkeyRec;
 use crate::kinds::{IbPkey, IbPkeyView};
-use pol_mls::{ContextView, read_context};
 use pol_cursor::{Cursor, Names, Part, ReadAlone, Written, array_in, u32_in};
 use pol_fields::Fault;
 use pol_fields::fields::{IBPKEY_HIGH, IBPKEY_LOW, IBPKEY_PREFIX};
+use pol_mls::{ContextView, read_context};
 use std::alloc::{AllocError, Global};
 
 impl Standing for IbPkeyRec {

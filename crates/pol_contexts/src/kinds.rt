@@ -8,6 +8,10 @@ use crate::ibpkey_rec::IbPkeyRec;
 use crate::named_rec::NamedRec;
 use crate::port_rec::PortRec;
 use crate::sid_rec::SidRec;
+use pol_fields::codes::{
+    OCON_FS, OCON_FSUSE, OCON_IBENDPORT, OCON_IBPKEY, OCON_ISID, OCON_NETIF, OCON_NODE, OCON_NODE6,
+    OCON_PORT,
+};
 
 // Two tables have the same form of entries: file systems and interfaces, and the addresses of both widths.
 pub type FsRec = NamedRec;
@@ -43,40 +47,21 @@ pub type IbPkeyView<'a> = EntryView<'a, IbPkeyRec>;
 
 pub type IbEndPortView<'a> = EntryView<'a, IbEndPortRec>;
 
-// The codes of the records of the nine tables, as in their fields.
-pub const SID_ROW: u8 = 25;
+// The kinds, each with libsepol's number of its table.
+pub type Sid = EntryKind<SidRec, OCON_ISID>;
 
-pub const FS_ROW: u8 = 26;
+pub type Fs = EntryKind<FsRec, OCON_FS>;
 
-pub const PORT_ROW: u8 = 27;
+pub type Port = EntryKind<PortRec, OCON_PORT>;
 
-pub const NETIF_ROW: u8 = 28;
+pub type Netif = EntryKind<NetifRec, OCON_NETIF>;
 
-pub const NODE_ROW: u8 = 29;
+pub type Node = EntryKind<NodeRec, OCON_NODE>;
 
-pub const FSUSE_ROW: u8 = 30;
+pub type FsUse = EntryKind<FsUseRec, OCON_FSUSE>;
 
-pub const NODE6_ROW: u8 = 31;
+pub type Node6 = EntryKind<Node6Rec, OCON_NODE6>;
 
-pub const IBPKEY_ROW: u8 = 32;
+pub type IbPkey = EntryKind<IbPkeyRec, OCON_IBPKEY>;
 
-pub const IBENDPORT_ROW: u8 = 33;
-
-// The kinds, each with the code of its records.
-pub type Sid = EntryKind<SidRec, SID_ROW>;
-
-pub type Fs = EntryKind<FsRec, FS_ROW>;
-
-pub type Port = EntryKind<PortRec, PORT_ROW>;
-
-pub type Netif = EntryKind<NetifRec, NETIF_ROW>;
-
-pub type Node = EntryKind<NodeRec, NODE_ROW>;
-
-pub type FsUse = EntryKind<FsUseRec, FSUSE_ROW>;
-
-pub type Node6 = EntryKind<Node6Rec, NODE6_ROW>;
-
-pub type IbPkey = EntryKind<IbPkeyRec, IBPKEY_ROW>;
-
-pub type IbEndPort = EntryKind<IbEndPortRec, IBENDPORT_ROW>;
+pub type IbEndPort = EntryKind<IbEndPortRec, OCON_IBENDPORT>;

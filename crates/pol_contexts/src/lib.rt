@@ -28,10 +28,9 @@ pub use fsuse_rec::FsUseRec;
 pub use ibendport_rec::IbEndPortRec;
 pub use ibpkey_rec::IbPkeyRec;
 pub use kinds::{
-    AddressView, FSUSE_ROW, Fs, FsRec, FsUse, FsUseView, FsView, IBENDPORT_ROW, IBPKEY_ROW,
-    IbEndPort, IbEndPortView, IbPkey, IbPkeyView, NETIF_ROW, NODE_ROW, NODE6_ROW, NamedView, Netif,
-    NetifRec, NetifView, Node, Node6, Node6Rec, Node6View, NodeRec, NodeView, PORT_ROW, Port,
-    PortView, Sid, SidView,
+    AddressView, Fs, FsRec, FsUse, FsUseView, FsView, IbEndPort, IbEndPortView, IbPkey, IbPkeyView,
+    NamedView, Netif, NetifRec, NetifView, Node, Node6, Node6Rec, Node6View, NodeRec, NodeView,
+    Port, PortView, Sid, SidView,
 };
 pub use named_rec::NamedRec;
 pub use pol_cursor::{

@@ -1,15 +1,17 @@
-ghost use Rattle.std.specs.Prelude.{◌≡◌};
-ghost use Rattle.pol_cursor.specs.Outcome.{field};
+//! The entries of the tables of file systems and of network interfaces: a name and two contexts.
+ghost use Rattle.std.specs.Prelude.{◌≡◌, OnOk};
+ghost use Rattle.pol_cursor.specs.Outcome.{Answers};
 ghost use Rattle.pol_contexts.specs.NamedRecord.{named_at, named_in, spell_named, HasNamed, named_references, context_place, second_place};
 
-use crate::entry::{Entry, EntryKind, Standing};
-use crate::kinds::NamedView;
+use crate::entry::{Entry, Standing};
+use crate::kinds::{Fs, NamedView, Netif};
 use crate::named_rec::NamedRec;
-use pol_mls::{ContextView, context_end, read_context};
 use pol_cursor::{
     ByteList, Cursor, Names, Part, ReadAlone, Written, name_end, name_standing, read_name,
 };
+use pol_fields::fields::{FS_LEN, FS_NAME, NETIF_LEN, NETIF_NAME};
 use pol_fields::{Fault, Field};
+use pol_mls::{ContextView, context_end, read_context};
 use std::alloc::{AllocError, Global};
 
 impl Standing for NamedRec {
@@ -64,16 +66,32 @@ impl Entry for NamedRec {
     }
 }
 
-impl<const ROW: u8> ReadAlone for EntryKind<NamedRec, ROW> {
-    ghost reads = { named_at (field ROW 2) (field ROW 3) };
+impl ReadAlone for Fs {
+    ghost reads = { named_at FS_LEN FS_NAME };
 
-    #[tactic(auto, unfolding(crate::specs::NamedRecord::named_at), using(pol_cursor::proofs::Facts::number_is))]
     fn pass(c: &mut Cursor<'_>) -> Result<(), Fault> {
-        read_name(c, Field { row: ROW, part: 2 }, Field { row: ROW, part: 3 })?;
-        read_context(c)?;
-        read_context(c)?;
-        Ok(())
+        pass_named(c, FS_LEN, FS_NAME)
     }
+}
+
+impl ReadAlone for Netif {
+    ghost reads = { named_at NETIF_LEN NETIF_NAME };
+
+    fn pass(c: &mut Cursor<'_>) -> Result<(), Fault> {
+        pass_named(c, NETIF_LEN, NETIF_NAME)
+    }
+}
+
+// Passes over the entry at the cursor, whose name has those fields.
+#[tactic(auto, unfolding(crate::specs::NamedRecord::named_at), using(pol_cursor::proofs::Facts::number_is))]
+fn pass_named(c: &mut Cursor<'_>, length: Field, name: Field) -> Result<(), Fault>
+    ensures exact { Answers (λ _. named_in c.old.bytes c.old.place) result (named_at length name) c.old c.new }
+    ensures stands { OnOk result (HasNamed c.old.bytes c.old.place) }
+{
+    read_name(c, length, name)?;
+    read_context(c)?;
+    read_context(c)?;
+    Ok(())
 }
 
 impl Written for NamedRec {

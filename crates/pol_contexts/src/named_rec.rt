@@ -1,5 +1,5 @@
-use pol_mls::ContextRec;
 use pol_cursor::ByteList;
+use pol_mls::ContextRec;
 
 /// The contexts of a file system or a network interface, owned.
 pub struct NamedRec {

@@ -4,10 +4,10 @@ ghost use Rattle.pol_contexts.specs.PortRecord.{port_at, port_in, spell_port, Ha
 use crate::entry::{Entry, Standing};
 use crate::kinds::{Port, PortView};
 use crate::port_rec::PortRec;
-use pol_mls::{ContextView, read_context};
 use pol_cursor::{Cursor, Names, Part, ReadAlone, Written, u32_in};
 use pol_fields::Fault;
 use pol_fields::fields::{PORT_HIGH, PORT_LOW, PORT_PROTOCOL};
+use pol_mls::{ContextView, read_context};
 use std::alloc::{AllocError, Global};
 
 impl Standing for PortRec {

@@ -4,10 +4,10 @@ ghost use Rattle.pol_contexts.specs.SidRecord.{sid_at, sid_in, spell_sid, HasSid
 use crate::entry::{Entry, Standing};
 use crate::kinds::{Sid, SidView};
 use crate::sid_rec::SidRec;
-use pol_mls::{ContextView, read_context};
 use pol_cursor::{Cursor, Names, Part, ReadAlone, Written, u32_in};
 use pol_fields::Fault;
 use pol_fields::fields::SID_SID;
+use pol_mls::{ContextView, read_context};
 use std::alloc::{AllocError, Global};
 
 impl Standing for SidRec {

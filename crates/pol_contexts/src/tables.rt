@@ -16,6 +16,7 @@ use crate::port_rec::PortRec;
 use crate::sid_rec::SidRec;
 use pol_cursor::{Cursor, OwnedList, ReadAlone, ReadError, Records, read_counted};
 use pol_fields::Field;
+use pol_fields::codes::POLICYDB_VERSION_INFINIBAND;
 use pol_fields::fields::{
     FS_COUNT, FSUSE_COUNT, IBENDPORT_COUNT, IBPKEY_COUNT, NETIF_COUNT, NODE_COUNT, NODE6_COUNT,
     PORT_COUNT, SID_COUNT,
@@ -41,7 +42,7 @@ pub type IbPkeyList<'a> = Records<'a, IbPkey>;
 
 pub type IbEndPortList<'a> = Records<'a, IbEndPort>;
 
-// The same lists, owned.
+// The lists of the owned entries of each table.
 pub type SidRecList = OwnedList<SidRec>;
 
 pub type FsRecList = OwnedList<FsRec>;
@@ -96,7 +97,7 @@ impl Drop for Contexts<'_> {
 pub fn has_infiniband(version: u32) -> bool
     ensures { result ≡ has_infiniband version }
 {
-    version >= 31
+    version >= POLICYDB_VERSION_INFINIBAND
 }
 
 /// Reads the tables in the order of the file. Nothing is reserved by the numbers that the policy claims.

@@ -1,6 +1,7 @@
 //! The fields of the format by their words, and what can be wrong at one.
 #![tactic(auto)]
 
+pub mod codes;
 mod fault;
 mod field;
 pub mod fields;

@@ -3,6 +3,7 @@ use Rattle.std.proofs.Common.{◌≡◌, ℕ, ◌^◌, ◌<◌, List, bytes_eq, 
 use Rattle.std.proofs.lemmas.List.{append-nil}
 use Rattle.std.proofs.lemmas.Slice.Eq.{bytes_eq-Decides}
 use Rattle.pol_fields.specs.declared.Cause.TheVariants.{BadMagic, BadIdentity, BadCounts}
+use Rattle.pol_fields.specs.declared.codes.TheConstants.{SYM_NUM}
 use Rattle.pol_fields.specs.declared.fields.TheConstants.{HEADER_MAGIC, HEADER_IDLEN, HEADER_ID, HEADER_VERSION, HEADER_CONFIG, HEADER_SYMTABS, HEADER_CONTEXTS}
 use Rattle.pol_cursor.specs.Laws.{IsReadAgain, IsReadFromSpelling}
 use Rattle.pol_cursor.proofs.Facts.{unless_none, unless_is}
@@ -43,7 +44,7 @@ counts_spelled version =
     Reads-part (Reads-number_if HEADER_SYMTABS 4) λ symbols symbols-fits.
     Reads-part (Reads-number_if HEADER_CONTEXTS 4) λ contexts contexts-fits.
     Reads-done _ tt (record {
-      same = rw (unless_is symbols 8 BadCounts symbols-fits.1, unless_is contexts (context_tables version) BadCounts contexts-fits.1) (simp append-nil);
+      same = rw (unless_is symbols SYM_NUM BadCounts symbols-fits.1, unless_is contexts (context_tables version) BadCounts contexts-fits.1) (simp append-nil);
       fitting = tt;
     })
 
@@ -54,7 +55,7 @@ counts_again : (version : ℕ) → IsReadAgain (counts_at version) (λ _. spell_
 unfolding counts_at
 counts_again version u fits =
     Again-as
-    (Again-part _ (Again-number_if HEADER_SYMTABS 4 8 _ (omega arith))
+    (Again-part _ (Again-number_if HEADER_SYMTABS 4 SYM_NUM _ (omega arith))
     (Again-part _ (Again-number_if HEADER_CONTEXTS 4 (context_tables version) _ (context_tables-lt version))
     (Again-done u)))
     (simp append-nil)

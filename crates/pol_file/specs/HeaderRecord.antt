@@ -1,6 +1,7 @@
 -- The header of a policy (libsepol's policydb_read, for a kernel policy with MLS).
 use Rattle.std.specs.Prelude.{ℕ, ◌+◌, ◌^◌, ◌<◌, ◌≤◌, ◌%◌, ◌/◌, ◌==◌, ◌&&◌, Option, Some, None, List, ◌++◌, length, codes, bytes_eq, nat_le, if◌then◌else◌}
 use Rattle.pol_fields.specs.declared.limits.TheConstants.{MAX_POLICY_BYTES}
+use Rattle.pol_fields.specs.declared.codes.TheConstants.{SYM_NUM, OCON_NODE6, OCON_IBENDPORT, POLICYDB_VERSION_DEFAULT_TYPE, POLICYDB_VERSION_INFINIBAND, POLICYDB_VERSION_COND_XPERMS}
 use Rattle.pol_fields.specs.declared.Cause.{Cause}
 use Rattle.pol_fields.specs.declared.Cause.TheVariants.{BadMagic, BadIdentity, UnsupportedVersion, NotMls, BadUnknown, BadCounts}
 use Rattle.pol_fields.specs.declared.fields.TheConstants.{HEADER_MAGIC, HEADER_IDLEN, HEADER_ID, HEADER_VERSION, HEADER_CONFIG, HEADER_SYMTABS, HEADER_CONTEXTS}
@@ -27,20 +28,20 @@ identity_length_test len = unless (len == 8) BadIdentity
 abbrev pub identity_test : List ℕ → Option Cause
 identity_test id = unless (bytes_eq id identity) BadIdentity
 
--- this project reads the versions 28 to 34
+-- this project reads the versions 28 to 34, by their names in libsepol
 abbrev pub version_test : ℕ → Option Cause
-version_test version = unless (nat_le 28 version && nat_le version 34) UnsupportedVersion
+version_test version = unless (nat_le POLICYDB_VERSION_DEFAULT_TYPE version && nat_le version POLICYDB_VERSION_COND_XPERMS) UnsupportedVersion
 
--- Bit 0x1 of config is MLS, 0x2 refuses unknown classes and 0x4 allows them.
+-- Bit 0x1 of config is MLS, 0x2 refuses unknown classes and 0x4 allows them (libsepol's POLICYDB_CONFIG_MLS, REJECT_UNKNOWN, ALLOW_UNKNOWN).
 abbrev pub config_test : ℕ → Option Cause
 config_test config = if config % 2 == 1 then (if config / 2 % 4 == 3 then Some BadUnknown else None) else Some NotMls
 
 abbrev pub symbol_tables_test : ℕ → Option Cause
-symbol_tables_test count = unless (count == 8) BadCounts
+symbol_tables_test count = unless (count == SYM_NUM) BadCounts
 
--- The InfiniBand tables came with version 31.
+-- all tables, but those of InfiniBand below the version that brought them
 abbrev pub context_tables : ℕ → ℕ
-context_tables version = if nat_le version 30 then 7 else 9
+context_tables version = if nat_le POLICYDB_VERSION_INFINIBAND version then OCON_IBENDPORT + 1 else OCON_NODE6 + 1
 
 abbrev pub context_tables_test : ℕ → ℕ → Option Cause
 context_tables_test version count = unless (count == context_tables version) BadCounts
@@ -74,7 +75,7 @@ abbrev pub spell_identity : List ℕ
 spell_identity = bytes_of 4 policy_magic ++ bytes_of 4 8 ++ identity
 
 abbrev pub spell_counts : ℕ → List ℕ
-spell_counts version = bytes_of 4 8 ++ bytes_of 4 (context_tables version)
+spell_counts version = bytes_of 4 SYM_NUM ++ bytes_of 4 (context_tables version)
 
 abbrev pub spell_header : HeaderRec → List ℕ
 spell_header header = spell_identity ++ bytes_of 4 header.version ++ bytes_of 4 header.config ++ spell_counts header.version

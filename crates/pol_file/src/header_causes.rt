@@ -4,12 +4,13 @@ ghost use Rattle.pol_cursor.specs.Parts.{unless};
 ghost use Rattle.pol_file.specs.HeaderRecord.{magic_test, identity_length_test, identity_test, version_test, config_test, symbol_tables_test, context_tables, context_tables_test};
 
 use pol_fields::Cause;
+use pol_fields::codes::{
+    OCON_IBENDPORT, OCON_NODE6, POLICYDB_VERSION_COND_XPERMS, POLICYDB_VERSION_DEFAULT_TYPE,
+    POLICYDB_VERSION_INFINIBAND, SYM_NUM,
+};
 
 /// SELINUX_MAGIC of libsepol.
 pub const MAGIC: u32 = 0xf97c_ff8c;
-
-/// How many symbol tables a policy has.
-pub const SYMBOL_TABLES: u32 = 8;
 
 fn unless(holds: bool, cause: Cause) -> Option<Cause>
     ensures { result ≡ unless holds cause }
@@ -38,7 +39,10 @@ pub fn identity_cause(id: &[u8]) -> Option<Cause>
 pub fn version_cause(version: u32) -> Option<Cause>
     ensures { result ≡ version_test version }
 {
-    unless((28..=34).contains(&version), Cause::UnsupportedVersion)
+    unless(
+        (POLICYDB_VERSION_DEFAULT_TYPE..=POLICYDB_VERSION_COND_XPERMS).contains(&version),
+        Cause::UnsupportedVersion,
+    )
 }
 
 pub fn config_cause(config: u32) -> Option<Cause>
@@ -56,14 +60,18 @@ pub fn config_cause(config: u32) -> Option<Cause>
 pub fn symbol_tables_cause(count: u32) -> Option<Cause>
     ensures { result ≡ symbol_tables_test count }
 {
-    unless(count == SYMBOL_TABLES, Cause::BadCounts)
+    unless(count == SYM_NUM, Cause::BadCounts)
 }
 
 /// How many context tables a policy of that version has.
 pub fn context_tables(version: u32) -> u32
     ensures { result ≡ context_tables version }
 {
-    if version <= 30 { 7 } else { 9 }
+    if version >= POLICYDB_VERSION_INFINIBAND {
+        u32::from(OCON_IBENDPORT) + 1
+    } else {
+        u32::from(OCON_NODE6) + 1
+    }
 }
 
 pub fn context_tables_cause(version: u32, count: u32) -> Option<Cause>

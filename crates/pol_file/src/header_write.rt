@@ -1,9 +1,10 @@
 ghost use Rattle.pol_cursor.specs.Writing.{Writes};
 ghost use Rattle.pol_file.specs.HeaderRecord.{spell_header};
 
-use crate::header_causes::{MAGIC, SYMBOL_TABLES, context_tables};
+use crate::header_causes::{MAGIC, context_tables};
 use crate::header_rec::HeaderRec;
 use pol_cursor::{Part, Written};
+use pol_fields::codes::SYM_NUM;
 use std::alloc::AllocError;
 
 /// Appends the 32 bytes of a header. The number of context tables is that of its version. Out of memory, a beginning of them was
@@ -25,7 +26,7 @@ impl Written for HeaderRec {
         let version = Part::U32(self.version as u64);
         let config = Part::U32(self.config as u64);
         let tables = Part::U32(context_tables(self.version) as u64);
-        let counts = (Part::U32(SYMBOL_TABLES as u64), tables);
+        let counts = (Part::U32(SYM_NUM as u64), tables);
         (identity, version, config, counts).write(out)
     }
 }

@@ -1,5 +1,6 @@
 -- Numbers that have names.
 use Rattle.std.specs.Prelude.{ℕ, zero, suc, ◌==◌, Option, None, List, [], ◌∷◌, ◌++◌, codes, decimal, slice_get, unwrap_or, if◌then◌else◌}
+use Rattle.pol_fields.specs.declared.codes.TheConstants.{SECURITY_FS_USE_XATTR, SECURITY_FS_USE_TRANS}
 
 -- the names of the initial SIDs from 1 on (libsepol's selinux_sid_to_str)
 abbrev pub sid_names : List (List ℕ)
@@ -14,7 +15,7 @@ abbrev pub known_sid : ℕ → Option (List ℕ)
 known_sid zero = None
 known_sid (suc n) = slice_get sid_names n
 
--- the same, and sid_N where it has none
+-- the name of an initial SID, and sid_N where it has none
 unfoldable pub sid_name : ℕ → List ℕ
 sid_name number = unwrap_or (known_sid number) (codes "sid_" ++ decimal number)
 
@@ -24,6 +25,7 @@ protocol_name number =
     if number == 6 then codes "tcp" else if number == 17 then codes "udp" else if number == 33 then codes "dccp" else if number == 132 then codes "sctp"
     else codes "proto_" ++ decimal number
 
--- the word of a behaviour in a rule: 1 is xattr, 2 trans and 3 task (SECURITY_FS_USE of libsepol)
+-- the word of how the files of a file system get their contexts, in a rule
 abbrev pub behaviour_word : ℕ → List ℕ
-behaviour_word behaviour = if behaviour == 1 then codes "fs_use_xattr" else if behaviour == 2 then codes "fs_use_trans" else codes "fs_use_task"
+behaviour_word behaviour =
+    if behaviour == SECURITY_FS_USE_XATTR then codes "fs_use_xattr" else if behaviour == SECURITY_FS_USE_TRANS then codes "fs_use_trans" else codes "fs_use_task"

@@ -2,6 +2,7 @@ ghost use Rattle.std.specs.Prelude.{◌≡◌, ◌++◌, OnOk, decimal, option_m
 ghost use Rattle.pol_texts.specs.NumberNames.{known_sid, sid_name, protocol_name, behaviour_word};
 
 use crate::number_texts::push_decimal;
+use pol_fields::codes::{SECURITY_FS_USE_TRANS, SECURITY_FS_USE_XATTR};
 use std::alloc::AllocError;
 
 /// Appends the name of an initial SID, and `sid_N` where it has none.
@@ -72,13 +73,13 @@ fn push_numbered(out: &mut Vec<u8>, word: &[u8], number: u32) -> Result<(), Allo
     push_decimal(out, u64::from(number))
 }
 
-/// The word of a behaviour in a rule: 1 is `fs_use_xattr`, 2 `fs_use_trans` and 3 `fs_use_task`.
+/// The word of how the files of a file system get their contexts, in a rule: `SECURITY_FS_USE_XATTR` is `fs_use_xattr`, and so on.
 pub fn behaviour_word(behaviour: u32) -> &'static str
     ensures { result.now ≡ behaviour_word behaviour }
 {
     match behaviour {
-        1 => "fs_use_xattr",
-        2 => "fs_use_trans",
+        SECURITY_FS_USE_XATTR => "fs_use_xattr",
+        SECURITY_FS_USE_TRANS => "fs_use_trans",
         _ => "fs_use_task",
     }
 }

@@ -4,6 +4,7 @@ ghost use Rattle.pol_trans.specs.NameTransitions.{has_groups, name_transitions_a
 
 use crate::lists::{NameGroupList, NameTransList};
 use pol_cursor::{Cursor, ReadError, read_counted};
+use pol_fields::codes::POLICYDB_VERSION_COMP_FTRANS;
 use pol_fields::fields::{NAMEGROUP_COUNT, NAMETRANS_COUNT};
 use std::alloc::Global;
 
@@ -20,7 +21,7 @@ pub enum NameTrans<'a> {
 pub fn has_groups(version: u32) -> bool
     ensures { result ≡ has_groups version }
 {
-    version >= 33
+    version >= POLICYDB_VERSION_COMP_FTRANS
 }
 
 /// Reads the count and the file-name transitions of a policy of that version.
