@@ -1,17 +1,17 @@
+//! A file system of genfs in the buffer: the view, and the kind that the list is made of.
+
 ghost use Rattle.std.specs.Prelude.{◌≡◌, ◌<◌, IfOk, Some, option_map, slice_get, length};
 ghost use Rattle.std.specs.List.{flat_map};
-ghost use Rattle.pol_cursor.specs.Outcome.{Answers};
 ghost use Rattle.pol_cursor.specs.References.{dangling_of, values_of};
-ghost use Rattle.pol_genfs.specs.GenfsRecord.{genfs_at, genfs_in, HasGenfs, paths_of, context_of_path, path_references, genfs_references};
+ghost use Rattle.pol_genfs.specs.GenfsRecord.{genfs_in, HasGenfs, paths_of, context_of_path, path_references, genfs_references};
 
 use crate::genfs_path_view::GenfsPath;
 use crate::genfs_rec::GenfsRec;
 use pol_cursor::{
-    ByteList, Copied, Cursor, Names, NestedRecords, ReadAlone, Record, RecordView, Referring,
-    name_end, name_standing, read_name, read_nested, u32_in,
+    ByteList, Copied, Names, NestedRecords, Record, RecordView, Referring, name_end, name_standing,
+    u32_in,
 };
 use pol_fields::Fault;
-use pol_fields::fields::{GENFS_FSTYPE, GENFS_LEN, GENFS_NPATHS};
 use pol_mls::ContextView;
 use std::alloc::{AllocError, Global};
 use std::marker::Model;
@@ -129,15 +129,6 @@ impl Record for Genfs {
     ghost has = { HasGenfs };
 }
 
-impl ReadAlone for Genfs {
-    ghost reads = { genfs_at };
-
-    fn pass(c: &mut Cursor<'_>) -> Result<(), Fault> {
-        read_genfs_entry(c)?;
-        Ok(())
-    }
-}
-
 impl<'a> RecordView<'a> for Genfs {
     type View = GenfsView<'a>;
 
@@ -160,19 +151,4 @@ impl<'a> Referring<'a> for Genfs {
     fn dangling<N: Names>(view: &Self::View, names: &N) -> Option<Fault> {
         view.dangling(names)
     }
-}
-
-/// The file system at the cursor, which then stands behind it. Takes no memory. `BadName` where a name is empty or has a
-/// byte 0.
-#[tactic(auto, unfolding(crate::specs::GenfsRecord::genfs_at), using(pol_cursor::proofs::Facts::number_is))]
-pub fn read_genfs_entry<'a>(c: &mut Cursor<'a>) -> Result<GenfsView<'a>, Fault>
-    ensures exact { Answers (λ entry. entry.value) result genfs_at c.old c.new }
-    ensures stands { IfOk result (λ entry. HasGenfs c.old.bytes c.old.place × (entry ≡ record { place = c.old.place; value = genfs_in c.old.bytes c.old.place })) }
-{
-    let bytes = c.bytes();
-    let place = c.place();
-    read_name(c, GENFS_LEN, GENFS_FSTYPE)?;
-    let n = c.u32(GENFS_NPATHS)?;
-    read_nested::<GenfsPath>(c, n, &())?;
-    Ok(GenfsView { bytes, place })
 }

@@ -3,6 +3,7 @@
 
 mod genfs_list;
 mod genfs_path_view;
+mod genfs_reading;
 mod genfs_rec;
 mod genfs_view;
 mod genfs_write;
@@ -10,7 +11,8 @@ mod record_laws;
 
 pub use genfs_list::{GenfsList, read_genfs};
 pub use genfs_path_view::{GenfsPath, GenfsPathView};
+pub use genfs_reading::read_genfs_entry;
 pub use genfs_rec::{GenfsPathRec, GenfsPathRecList, GenfsRec, GenfsRecList};
-pub use genfs_view::{Genfs, GenfsView, read_genfs_entry};
+pub use genfs_view::{Genfs, GenfsView};
 pub use pol_cursor::write_record as write_genfs;
 pub use record_laws::genfs_have_laws;
