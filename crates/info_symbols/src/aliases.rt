@@ -186,7 +186,7 @@ fn push_alias_set(buffer: &mut Vec<u8>, names: &[&[u8]]) -> Result<(), AllocErro
     push_set(buffer, names)
 }
 
-// The same names in the order of their bytes.
+// Names in the order of their bytes.
 fn sorted_names<'a>(alloc: Global, names: &[&'a [u8]]) -> Result<Vec<&'a [u8]>, AllocError>
     ensures { IfOk result (λ sorted. map (λ name. name.now) sorted.items ≡ in_order (map (λ name. name.now) names.now)) }
 {

@@ -24,7 +24,7 @@ pub struct SymbolLines<'p, 'a> {
     symbols: &'p Symbols<'a>,
     table: TableKind,
     expand: bool,
-    // Those of the table where it is expanded.
+    // The aliases of the table, where its records are expanded.
     aliases: Aliases<'a>,
 }
 

@@ -36,7 +36,7 @@ pub struct TypeLines<'p, 'a> {
     policy: &'p Policy<'a>,
     set: TypeSet,
     expand: bool,
-    // Those of the table where types are expanded.
+    // The aliases of types, where types are expanded.
     aliases: Aliases<'a>,
 }
 

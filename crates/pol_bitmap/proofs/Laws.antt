@@ -98,7 +98,7 @@ field_of-are : (n : ℕ) → AreBytes (bytes_of 4 n)
 unfolding bytes_of
 field_of-are n = bytes-are 0 4 n
 
--- The same bytes spell it, whatever the number.
+-- A number that was cut to its field is spelled by the bytes of the number itself.
 bytes_of-field_of : (n : ℕ) → bytes_of 4 (field_of n) ≡ bytes_of 4 n
 unfolding bytes_of
 bytes_of-field_of n = bytes_of-num (bytes_of 4 n) 0 4 (field_of-are n) (omega (arith, length-bytes_of 4 n))

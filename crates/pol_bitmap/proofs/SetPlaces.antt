@@ -47,7 +47,7 @@ starts_before ns i n start h e lt k d before within =
     let here : (get_or ns i d).start ≡ n.start = ap (λ (m : Node). m.start) (get_or_from_slice_get ns i n d e) in
     omega arith
 
--- Those from one that does not, do not.
+-- Nodes from one on that starts at a place or above it start there or above it too.
 pub starts_from : (ns : List Node) (i : ℕ) (n : Node) (start : ℕ) → IsRisingFrom 0 ns → slice_get ns i ≡ Some n → start ≤ n.start
     → (k : ℕ) (d : Node) → i ≤ k → k < length ns → start ≤ (get_or ns k d).start
 starts_from ns i n start h e le k d from within =

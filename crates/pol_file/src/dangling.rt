@@ -25,7 +25,7 @@ pub fn check_references(parts: &Parts<'_>) -> Result<(), Fault>
     check_labels(&parts.labels, &parts.symbols)
 }
 
-// The same of the symbol tables.
+// Refuses the symbol tables at their first reference to a value that is not declared.
 #[tactic(auto, using(pol_cursor::proofs::DanglingLists::undeclared_first, pol_cursor::proofs::DanglingLists::undeclared_later, pol_cursor::proofs::DanglingLists::both_declared, pol_cursor::proofs::DanglingLists::others_decide))]
 fn check_symbols(symbols: &Symbols<'_>) -> Result<(), Fault>
     ensures { AreDeclared result (name_in symbols.now) (symbol_references symbols.now) }
@@ -37,7 +37,7 @@ fn check_symbols(symbols: &Symbols<'_>) -> Result<(), Fault>
     check_table(&symbols.categories, symbols)
 }
 
-// The same of the rules.
+// Refuses the rules at their first reference to a value that is not declared.
 #[tactic(auto, using(pol_cursor::proofs::DanglingLists::undeclared_first, pol_cursor::proofs::DanglingLists::undeclared_later, pol_cursor::proofs::DanglingLists::both_declared, pol_cursor::proofs::DanglingLists::others_decide))]
 fn check_rules<N: Names>(rules: &RuleLists<'_>, names: &N) -> Result<(), Fault>
     ensures { AreDeclared result (N.named names.now) (rule_references rules.now) }
@@ -49,7 +49,7 @@ fn check_rules<N: Names>(rules: &RuleLists<'_>, names: &N) -> Result<(), Fault>
     check_name_transitions(&rules.name_trans, names)
 }
 
-// The same of the conditional nodes.
+// Refuses the conditional nodes at their first reference to a value that is not declared.
 fn check_nodes<N: Names>(nodes: &Conditionals<'_>, names: &N) -> Result<(), Fault>
     ensures { AreDeclared result (N.named names.now) (references_in condnode_references nodes.now) }
 {
@@ -62,7 +62,7 @@ fn check_nodes<N: Names>(nodes: &Conditionals<'_>, names: &N) -> Result<(), Faul
     Ok(())
 }
 
-// The same of the file-name transitions.
+// Refuses the file-name transitions at their first reference to a value that is not declared.
 fn check_name_transitions<N: Names>(transitions: &NameTrans<'_>, names: &N) -> Result<(), Fault>
     ensures { AreDeclared result (N.named names.now) (name_transition_references transitions.now) }
 {
@@ -72,7 +72,7 @@ fn check_name_transitions<N: Names>(transitions: &NameTrans<'_>, names: &N) -> R
     }
 }
 
-// The same of what stands behind the rules.
+// Refuses what stands behind the rules at its first reference to a value that is not declared.
 #[tactic(auto, using(pol_cursor::proofs::DanglingLists::undeclared_first, pol_cursor::proofs::DanglingLists::undeclared_later, pol_cursor::proofs::DanglingLists::both_declared, pol_cursor::proofs::DanglingLists::others_decide))]
 fn check_labels<N: Names>(labels: &LabelLists<'_>, names: &N) -> Result<(), Fault>
     ensures { AreDeclared result (N.named names.now) (label_references labels.now) }
@@ -82,7 +82,7 @@ fn check_labels<N: Names>(labels: &LabelLists<'_>, names: &N) -> Result<(), Faul
     check_records(&labels.range_trans, names)
 }
 
-// The same of the tables of contexts.
+// Refuses the tables of contexts at their first reference to a value that is not declared.
 #[tactic(auto, using(pol_cursor::proofs::DanglingLists::undeclared_first, pol_cursor::proofs::DanglingLists::undeclared_later, pol_cursor::proofs::DanglingLists::both_declared, pol_cursor::proofs::DanglingLists::others_decide))]
 fn check_contexts<N: Names>(contexts: &Contexts<'_>, names: &N) -> Result<(), Fault>
     ensures { AreDeclared result (N.named names.now) (context_references contexts.now) }
