@@ -1,4 +1,11 @@
 //! The listings of security contexts, line by line.
+//!
+//! ```text
+//! let mut lines = port_lines(&policy);
+//! for _ in 0..lines.count() {
+//!     lines.push_line(&mut out)?;
+//! }
+//! ```
 #![tactic(auto)]
 
 mod contexts;

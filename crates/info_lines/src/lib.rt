@@ -1,4 +1,15 @@
 //! The kinds of listings, their lines, which are made one after the other, and the order of names.
+//!
+//! A listing is [`Lines`]: how many are left, and a call that adds the next one. What the line of a number says is [`LineText`], of
+//! which a listing is made in file order ([`FileLines`]) or by numbers ([`NumberedLines`]).
+//!
+//! The lines of any listing are written so:
+//!
+//! ```text
+//! for _ in 0..lines.count() {
+//!     lines.push_line(&mut out)?;
+//! }
+//! ```
 #![tactic(auto)]
 
 mod entry_lines;

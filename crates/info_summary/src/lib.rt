@@ -1,4 +1,11 @@
 //! The summary of a policy: its version, and how many it has of each thing.
+//!
+//! ```text
+//! let mut lines = summary(alloc, &policy)?;
+//! for _ in 0..lines.count() {
+//!     lines.push_line(&mut out)?;
+//! }
+//! ```
 #![tactic(auto)]
 
 mod context_counts;

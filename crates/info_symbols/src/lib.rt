@@ -1,4 +1,11 @@
-//! The listings of the records of symbol tables, line by line.
+//! The listings of the records of symbol tables, line by line: by names, or expanded, as statements of the policy language.
+//!
+//! ```text
+//! let mut lines = symbol_lines(alloc, policy.symbols(), TableKind::Roles, true, None)?;
+//! for _ in 0..lines.count() {
+//!     lines.push_line(&mut out)?;
+//! }
+//! ```
 #![tactic(auto)]
 
 mod aliases;

@@ -1,4 +1,15 @@
-//! Bitmaps of the policy format: as they stand in the buffer, and as sets of bits.
+//! Bitmaps of the policy format: as they stand in the buffer ([`BitmapView`]), and as sets of bits ([`Set`]), of which equal ones
+//! are kept once ([`Pool`]).
+//!
+//! ```text
+//! let view = BitmapView::read(&mut cursor)?;
+//! let types = Set::from_view(alloc, &view)?;
+//! let both = types.common(alloc, &Set::from_bits(alloc, &[1, 64])?)?;
+//! for bit in both.bits() {
+//!     print(bit);
+//! }
+//! write_bitmap(&both, &mut out)?;
+//! ```
 #![tactic(auto)]
 
 mod bits;

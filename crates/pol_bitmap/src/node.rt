@@ -1,3 +1,5 @@
+//! A node of a bitmap: 64 bits from a place on.
+
 ghost use Rattle.std.specs.Prelude.{◌≡◌, ◌<◌, ◌%◌, ◌∷◌, IfSome, IfNone};
 ghost use Rattle.std.specs.List.{All};
 ghost use Rattle.pol_bitmap.specs.Nodes.{node_bits, node_has, IsLeastFrom};

@@ -1,3 +1,5 @@
+//! A pool that keeps each set once, by its number.
+
 ghost use Rattle.std.specs.Prelude.{◌≡◌, ◌<◌, [], length, slice_get, Some, IfOk, OnErr, List};
 ghost use Rattle.pol_bitmap.specs.Kept.{IsNumberOf};
 

@@ -1,3 +1,5 @@
+//! How a bitmap is read.
+
 ghost use Rattle.std.specs.Prelude.{◌≡◌, ◌≤◌, ◌+◌, ◌*◌, IfOk, OnOk, length};
 ghost use Rattle.pol_cursor.specs.Outcome.{Answers};
 ghost use Rattle.pol_bitmap.specs.Nodes.{nodes_in, IsRisingFrom};

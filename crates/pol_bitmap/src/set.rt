@@ -1,3 +1,5 @@
+//! Sets of bits that are owned and shared.
+
 ghost use Rattle.std.specs.Prelude.{◌≡◌, ◌↔◌, ◌<◌, ℕ, [], IfOk, IfSome, IfNone, IsTrue, All, Contains, length};
 ghost use Rattle.std.specs.List.Sorted.{IsStrictlyIncreasing};
 ghost use Rattle.pol_bitmap.specs.Nodes.{bits_of, IsLeastFrom};
@@ -93,7 +95,8 @@ impl Set {
         Set::from_nodes(alloc, nodes)
     }
 
-    /// The bits of a slice, which is to rise strictly.
+    /// The bits of a slice, which is to rise strictly: `NotRising` exactly where it does not. It is for bits from outside, which may be in
+    /// any order; `from_rising` takes those that are known to rise.
     pub fn from_bits(alloc: Global, bits: &[u32]) -> Result<Set, SetError>
         ensures form { IfOk result IsSet }
         ensures bits { IfOk result (λ s. bits_of s ≡ bits.now) }

@@ -1,3 +1,5 @@
+//! The bits of a set, one after the other.
+
 ghost use Rattle.std.specs.Prelude.{◌≡◌, ◌<◌, ◌%◌, Some, length, slice_get};
 ghost use Rattle.std.specs.Iterator.{YieldsFirst, item_count};
 ghost use Rattle.pol_bitmap.specs.Nodes.{bits_of, IsRisingFrom};

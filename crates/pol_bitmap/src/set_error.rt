@@ -1,3 +1,5 @@
+//! Why no set is made of bits.
+
 use std::alloc::AllocError;
 
 /// Why no set is made of a slice.

@@ -1,3 +1,5 @@
+//! Lists of sets.
+
 use crate::set::Set;
 use pol_cursor::OwnedList;
 

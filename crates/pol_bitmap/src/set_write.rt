@@ -1,3 +1,5 @@
+//! How a set is written as a bitmap.
+
 ghost use Rattle.std.specs.Prelude.{◌≡◌};
 ghost use Rattle.pol_cursor.specs.Writing.{Writes};
 ghost use Rattle.pol_bitmap.specs.Bitmap.{high_of, spell_bitmap};
@@ -10,7 +12,7 @@ use std::alloc::AllocError;
 /// Appends a set as a bitmap of the format: the map's width of 64 bits, the highbit, the number of nodes, and the nodes. Out of
 /// memory, a beginning of the bitmap was appended.
 ///
-/// The highbit fits its field where no bit is above 4,294,967,231.
+/// The highbit fits its field where no bit is above 4,294,967,231. It is for one bitmap; a tree writes its own as parts of records.
 pub fn write_bitmap(set: &Set, out: &mut Vec<u8>) -> Result<(), AllocError>
     ensures { Writes out.old.items out.new.items (spell_bitmap set.now) result }
 {

@@ -1,3 +1,5 @@
+//! A bitmap in the buffer.
+
 ghost use Rattle.std.specs.Prelude.{◌≡◌, ◌↔◌, ◌<◌, ◌≤◌, ◌+◌, ◌*◌, ◌%◌, ◌∷◌, [], ℕ, false, IsTrue, IfSome, IfNone, IfOk, OnOk, Some, None, length, slice_get, take};
 ghost use Rattle.std.specs.List.{All, Contains};
 ghost use Rattle.pol_bitmap.specs.Nodes.{HasBitmap, bitmap_size, bitmap_in, bits_of, IsLeastFrom, IsRisingFrom};

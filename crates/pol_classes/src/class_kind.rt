@@ -1,3 +1,5 @@
+//! The kind of the records of the table of classes.
+
 use crate::class_rec::ClassRec;
 use crate::class_view::{ClassView, read_class};
 use pol_commons::CommonList;

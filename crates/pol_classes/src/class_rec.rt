@@ -1,3 +1,5 @@
+//! A class, owned.
+
 use pol_commons::PermissionRec;
 use pol_constraints::ConstraintRec;
 use pol_cursor::{ByteList, OwnedList};

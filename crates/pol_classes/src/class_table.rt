@@ -1,3 +1,5 @@
+//! The table of classes, and how it is read.
+
 ghost use Rattle.std.specs.Prelude.{◌≡◌, ◌<◌, Some, IfOk, slice_get, length, true};
 ghost use Rattle.pol_cursor.specs.Outcome.{Yields};
 ghost use Rattle.pol_symtab.specs.SymbolTables.{primary_index};

@@ -1,3 +1,5 @@
+//! How a class is written.
+
 use crate::class_rec::ClassRec;
 use pol_cursor::{Part, Written};
 use std::alloc::AllocError;

@@ -1,3 +1,5 @@
+//! The constraints of a class, one behind the other.
+
 ghost use Rattle.std.specs.Prelude.{◌≡◌, ◌<◌, IfOk, OnOk, Some, slice_get, length};
 ghost use Rattle.std.specs.Iterator.{YieldsFirst, item_count};
 ghost use Rattle.pol_cursor.specs.Outcome.{Answers};

@@ -1,4 +1,12 @@
 //! Classes of objects, with their permissions and constraints, and the table of them.
+//!
+//! ```text
+//! let (classes, commons) = read_class_table(alloc, &mut cursor, version, commons)?;
+//! let file = classes.view(0);
+//! for constraint in file.constraints() {
+//!     print(constraint.permissions());
+//! }
+//! ```
 #![tactic(auto)]
 
 mod causes;

@@ -1,3 +1,5 @@
+//! A common, owned.
+
 use crate::permission_rec::PermissionRec;
 use pol_cursor::{ByteList, OwnedList};
 

@@ -1,3 +1,5 @@
+//! The table of commons, and what classes inherit from one.
+
 ghost use Rattle.std.specs.Prelude.{◌≡◌};
 ghost use Rattle.pol_cursor.specs.Outcome.{Yields};
 ghost use Rattle.pol_commons.specs.CommonTable.{commons_at, common_named, inherited_from};

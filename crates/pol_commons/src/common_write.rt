@@ -1,3 +1,5 @@
+//! How a common is written.
+
 use crate::common_rec::CommonRec;
 use pol_cursor::{Part, Written};
 use std::alloc::AllocError;

@@ -1,3 +1,5 @@
+//! The kind of the records of the table of commons.
+
 use crate::common_rec::CommonRec;
 use crate::common_view::{CommonView, read_common};
 use pol_cursor::{Cursor, ReadAfter, ReadError, Record, RecordView};

@@ -1,4 +1,10 @@
 //! The permissions of classes and commons, and the commons: records of the policy format.
+//!
+//! ```text
+//! let commons = read_commons(alloc, &mut cursor)?;
+//! let inherited = inherited_from(&commons, b"file");
+//! let read = inherited.of_name(b"read").map(|permission| permission.value());
+//! ```
 #![tactic(auto)]
 
 mod causes;

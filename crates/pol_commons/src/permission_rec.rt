@@ -1,3 +1,5 @@
+//! A permission, owned.
+
 use pol_cursor::{ByteList, OwnedList};
 
 /// A permission, owned.

@@ -1,3 +1,5 @@
+//! How a permission is written.
+
 use crate::permission_rec::PermissionRec;
 use pol_cursor::{Part, Written};
 use std::alloc::AllocError;

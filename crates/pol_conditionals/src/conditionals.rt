@@ -1,3 +1,5 @@
+//! The conditional nodes of a policy, and how they are read.
+
 ghost use Rattle.std.specs.Prelude.{◌≡◌, ◌<◌, ◌^◌, Some, IfOk, OnOk, length, map, option_map, slice_get};
 ghost use Rattle.pol_cursor.specs.Outcome.{Yields};
 ghost use Rattle.pol_conditionals.specs.CondNodeRecord.{condnode_at, condnode_in, HasCondNode, node_condition, branch_rules, rules_of_branch, condnode_references};

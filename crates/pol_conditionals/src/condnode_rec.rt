@@ -1,3 +1,5 @@
+//! A conditional node, owned.
+
 use pol_avtab::AvRec;
 use pol_cursor::OwnedList;
 use pol_expr::ConditionRec;

@@ -1,3 +1,5 @@
+//! A conditional node in the buffer, and how it is read.
+
 ghost use Rattle.std.specs.Prelude.{◌≡◌, ◌+◌, ◌≤◌, true, false, IfOk, OnOk, length};
 ghost use Rattle.pol_fields.specs.declared.limits.TheConstants.{MAX_POLICY_BYTES};
 ghost use Rattle.std.specs.List.{flat_map};

@@ -1,4 +1,12 @@
 //! Rules under conditions: the conditional nodes, and the list of them, records of the policy format.
+//!
+//! ```text
+//! let nodes = read_conditionals(alloc, &mut cursor, version)?;
+//! let node = nodes.view(0);
+//! for rule in node.true_rules() {
+//!     print(rule.source(), rule.target(), rule.class());
+//! }
+//! ```
 #![tactic(auto)]
 
 mod conditionals;

@@ -1,3 +1,5 @@
+//! Lists of places, one behind the other in one vector.
+
 ghost use Rattle.std.specs.Prelude.{◌≡◌, ◌<◌, ◌^◌, ◌∷◌, ◌++◌, [], OnOk, Some, length, drop, slice_get};
 ghost use Rattle.pol_conditionals.specs.Inner.PlaceGroups.{places_of};
 

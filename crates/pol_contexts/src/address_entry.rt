@@ -1,3 +1,5 @@
+//! The entry of addresses, IPv4 or IPv6 in the buffer: how it is read, shown and written.
+
 ghost use Rattle.std.specs.Prelude.{◌≡◌, ◌+◌, ◌≤◌, OnOk};
 ghost use Rattle.pol_fields.specs.declared.fields.TheConstants.{NODE_ADDRESS, NODE_MASK, NODE6_ADDRESS, NODE6_MASK};
 ghost use Rattle.pol_cursor.specs.Outcome.{Answers};

@@ -1,3 +1,5 @@
+//! The entry of addresses, IPv4 or IPv6, owned.
+
 use pol_mls::ContextRec;
 
 /// The context of addresses of that many bytes, owned.

@@ -1,3 +1,5 @@
+//! The entry of how the files of a file system get their contexts in the buffer: how it is read, shown and written.
+
 ghost use Rattle.std.specs.Prelude.{◌≡◌, ◌+◌, IfOk, OnOk, length};
 ghost use Rattle.pol_cursor.specs.Outcome.{Answers};
 ghost use Rattle.pol_cursor.specs.Parts.{num};

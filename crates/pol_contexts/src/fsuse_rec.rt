@@ -1,3 +1,5 @@
+//! The entry of how the files of a file system get their contexts, owned.
+
 use pol_cursor::ByteList;
 use pol_mls::ContextRec;
 

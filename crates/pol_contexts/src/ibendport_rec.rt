@@ -1,3 +1,5 @@
+//! The entry of an InfiniBand device at a port, owned.
+
 use pol_cursor::ByteList;
 use pol_mls::ContextRec;
 

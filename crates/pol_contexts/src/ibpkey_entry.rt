@@ -1,3 +1,5 @@
+//! The entry of a range of InfiniBand partition keys in the buffer: how it is read, shown and written.
+
 ghost use Rattle.std.specs.Prelude.{◌≡◌, ◌+◌};
 ghost use Rattle.pol_contexts.specs.IbPkeyRecord.{ibpkey_at, ibpkey_in, spell_ibpkey, HasIbPkey, ibpkey_references};
 

@@ -1,3 +1,5 @@
+//! The entry of a range of InfiniBand partition keys, owned.
+
 use pol_mls::ContextRec;
 
 /// The context of a range of InfiniBand partition keys, owned.

@@ -1,4 +1,16 @@
-//! The nine tables of a policy that hold contexts.
+//! The nine tables of a policy that hold contexts: initial SIDs, file systems, ports, interfaces, addresses, ways in which file
+//! systems get their contexts, and InfiniBand.
+//!
+//! [`read_contexts`] reads all of them; one entry is read by the call of its table, as [`read_port_entry`], for who goes through a file
+//! without keeping lists.
+//!
+//! ```text
+//! let contexts = read_contexts(alloc, &mut cursor, version)?;
+//! for i in 0..contexts.port.len() {
+//!     let port = contexts.port.view(i);
+//!     print(port.low(), port.high(), port.context());
+//! }
+//! ```
 #![tactic(auto)]
 
 mod address_entry;

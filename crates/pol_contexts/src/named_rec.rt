@@ -1,3 +1,5 @@
+//! The entry of a file system or a network interface, owned.
+
 use pol_cursor::ByteList;
 use pol_mls::ContextRec;
 

@@ -1,3 +1,5 @@
+//! The entry of a range of ports in the buffer: how it is read, shown and written.
+
 ghost use Rattle.std.specs.Prelude.{◌≡◌, ◌+◌};
 ghost use Rattle.pol_contexts.specs.PortRecord.{port_at, port_in, spell_port, HasPort, port_references};
 

@@ -1,4 +1,4 @@
-//! The readers of one entry.
+//! The readers of one entry, for who goes through a table without keeping its list.
 
 ghost use Rattle.std.specs.Prelude.{◌≡◌, IfOk};
 ghost use Rattle.pol_fields.specs.declared.fields.TheConstants.{FS_LEN, FS_NAME, NETIF_LEN, NETIF_NAME, NODE_ADDRESS, NODE_MASK, NODE6_ADDRESS, NODE6_MASK};
@@ -20,7 +20,7 @@ use pol_cursor::Cursor;
 use pol_fields::Fault;
 
 /// The entry of an initial SID at the cursor, which then stands behind it. Takes no memory, and has the faults of `read_context`
-/// of pol_context; so it is with the readers below.
+/// (pol_mls); so it is with the readers of the other tables.
 pub fn read_sid_entry<'a>(c: &mut Cursor<'a>) -> Result<SidView<'a>, Fault>
     ensures exact { Answers (λ entry. entry.value) result (sid_at) c.old c.new }
     ensures stands { IfOk result (λ entry. HasSid c.old.bytes c.old.place × (entry ≡ record { place = c.old.place; value = sid_in c.old.bytes c.old.place })) }

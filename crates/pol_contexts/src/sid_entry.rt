@@ -1,3 +1,5 @@
+//! The entry of an initial SID in the buffer: how it is read, shown and written.
+
 ghost use Rattle.std.specs.Prelude.{◌≡◌, ◌+◌};
 ghost use Rattle.pol_contexts.specs.SidRecord.{sid_at, sid_in, spell_sid, HasSid, sid_references};
 

@@ -1,3 +1,5 @@
+//! The entry of an initial SID, owned.
+
 use pol_mls::ContextRec;
 
 /// The context of an initial SID, owned.

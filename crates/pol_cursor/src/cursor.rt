@@ -1,3 +1,5 @@
+//! The cursor: the numbers and parts at a place of a policy, one after the other.
+
 ghost use Rattle.std.specs.Prelude.{◌≡◌, ◌≤◌, ◌<◌, ◌^◌, length, ◌+◌, OnErr, IfOk};
 ghost use Rattle.pol_fields.specs.declared.limits.TheConstants.{MAX_POLICY_BYTES};
 ghost use Rattle.pol_cursor.specs.Outcome.{Answers, fault};

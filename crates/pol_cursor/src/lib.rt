@@ -1,4 +1,15 @@
 //! The cursor over the bytes of a policy, its faults, and the language in which records of the format are defined.
+//!
+//! A [`Cursor`] gives the numbers and bytes at its place, each a field, and moves on. A kind of record says how it is read
+//! ([`ReadAlone`]), shown ([`RecordView`]) and copied ([`Copied`]); then one loop reads a list of them ([`read_counted`]), which keeps
+//! their places ([`Records`]), and a list inside a record is walked ([`NestedRecords`]).
+//!
+//! ```text
+//! let mut c = Cursor::new(bytes);
+//! let magic = c.u32(HEADER_MAGIC)?;
+//! let name = read_name(&mut c, FS_LEN, FS_NAME)?;
+//! let allows: Records<'_, RoleAllow> = read_counted(alloc, &mut c, ROLEALLOW_COUNT)?;
+//! ```
 #![tactic(auto)]
 
 mod bit_places;

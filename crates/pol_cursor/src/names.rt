@@ -1,3 +1,5 @@
+//! The names of the values of symbol tables, as a trait, and references to values.
+
 ghost use Rattle.std.specs.Prelude.{◌≡◌, ℕ, List, [], ◌∷◌, ◌++◌, is_some, option_map, OnOk};
 ghost use Rattle.std.specs.declared.option.Option.{Option};
 ghost use Rattle.pol_cursor.specs.References.{dangling_of, name_of};

@@ -1,3 +1,5 @@
+//! Lists that own what they have: bytes, numbers, records.
+
 ghost use Rattle.std.specs.Prelude.{◌≡◌, ◌↔◌, [], IfOk, IsTrue, length};
 
 use std::alloc::{AllocError, Global};

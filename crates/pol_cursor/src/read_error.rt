@@ -1,3 +1,5 @@
+//! Why a policy is not read: a fault, or want of memory.
+
 use pol_fields::Fault;
 use std::alloc::{AllocError, AllocFailed};
 

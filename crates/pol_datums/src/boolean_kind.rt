@@ -1,3 +1,5 @@
+//! The kind of the records of the table of booleans.
+
 use crate::boolean_rec::BooleanRec;
 use crate::boolean_view::{BooleanView, read_boolean};
 use crate::datum::{Datum, DatumKind};

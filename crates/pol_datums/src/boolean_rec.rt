@@ -1,3 +1,5 @@
+//! A boolean, owned.
+
 use pol_cursor::{ByteList, OwnedList};
 
 /// A boolean, owned.

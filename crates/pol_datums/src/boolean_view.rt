@@ -1,3 +1,5 @@
+//! A boolean in the buffer, and how it is read.
+
 ghost use Rattle.std.specs.Prelude.{◌≡◌, IfOk};
 ghost use Rattle.pol_cursor.specs.Outcome.{Answers};
 ghost use Rattle.pol_datums.specs.BooleanRecord.{boolean_at, boolean_in, HasBoolean};

@@ -1,3 +1,5 @@
+//! How a boolean is written.
+
 use crate::boolean_rec::BooleanRec;
 use pol_cursor::{Part, Written};
 use std::alloc::AllocError;

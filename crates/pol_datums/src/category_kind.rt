@@ -1,3 +1,5 @@
+//! The kind of the records of the table of categories.
+
 use crate::category_rec::CategoryRec;
 use crate::category_view::{CategoryView, read_category};
 use crate::datum::{Datum, DatumKind};

@@ -1,3 +1,5 @@
+//! A category, owned.
+
 use pol_cursor::{ByteList, OwnedList};
 
 /// A category or an alias of one, owned.

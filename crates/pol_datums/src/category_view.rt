@@ -1,3 +1,5 @@
+//! A category in the buffer, and how it is read.
+
 ghost use Rattle.std.specs.Prelude.{◌≡◌, IfOk};
 ghost use Rattle.pol_cursor.specs.Outcome.{Answers};
 ghost use Rattle.pol_datums.specs.CategoryRecord.{category_at, category_in, HasCategory};

@@ -1,3 +1,5 @@
+//! How a category is written.
+
 use crate::category_rec::CategoryRec;
 use pol_cursor::{Part, Written};
 use std::alloc::AllocError;

@@ -1,4 +1,10 @@
 //! The symbols of a policy: roles, types, booleans, sensitivities and categories, each a record of its table.
+//!
+//! ```text
+//! let table: SymbolTable<'_, Type> = read_whole_table(alloc, &mut cursor)?;
+//! let first = table.view(0);
+//! let is_attribute = first.flavour() == Some(Flavour::Attribute);
+//! ```
 #![tactic(auto)]
 
 mod boolean_kind;

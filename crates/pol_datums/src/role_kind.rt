@@ -1,3 +1,5 @@
+//! The kind of the records of the table of roles.
+
 use crate::datum::{Datum, DatumKind};
 use crate::role_rec::RoleRec;
 use crate::role_view::{RoleView, read_role};

@@ -1,3 +1,5 @@
+//! A role, owned.
+
 use pol_bitmap::Set;
 use pol_cursor::{ByteList, OwnedList};
 

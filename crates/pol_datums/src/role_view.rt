@@ -1,3 +1,5 @@
+//! A role in the buffer, and how it is read.
+
 ghost use Rattle.std.specs.Prelude.{◌≡◌, IfOk};
 ghost use Rattle.pol_cursor.specs.Outcome.{Answers};
 ghost use Rattle.pol_datums.specs.RoleRecord.{role_at, role_in, HasRole, dominates_place};

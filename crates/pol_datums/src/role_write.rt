@@ -1,3 +1,5 @@
+//! How a role is written.
+
 use crate::role_rec::RoleRec;
 use pol_cursor::{Part, Written};
 use std::alloc::AllocError;

@@ -1,3 +1,5 @@
+//! The kind of the records of the table of sensitivities.
+
 use crate::datum::{Datum, DatumKind};
 use crate::flags::is_primary_flag;
 use crate::sensitivity_rec::SensitivityRec;

@@ -1,3 +1,5 @@
+//! A sensitivity, owned.
+
 use pol_bitmap::Set;
 use pol_cursor::{ByteList, OwnedList};
 

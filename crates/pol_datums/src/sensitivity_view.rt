@@ -1,3 +1,5 @@
+//! A sensitivity in the buffer, and how it is read.
+
 ghost use Rattle.std.specs.Prelude.{◌≡◌, ◌+◌, ◌≤◌, IfOk, OnOk, length};
 ghost use Rattle.pol_cursor.specs.Parts.{num};
 ghost use Rattle.pol_cursor.specs.Outcome.{Answers};

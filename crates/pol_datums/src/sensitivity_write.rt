@@ -1,3 +1,5 @@
+//! How a sensitivity is written.
+
 use crate::sensitivity_rec::SensitivityRec;
 use pol_cursor::{Part, Written};
 use std::alloc::AllocError;

@@ -1,3 +1,5 @@
+//! The kind of the records of the table of types.
+
 use crate::causes::is_primary_type;
 use crate::datum::{Datum, DatumKind};
 use crate::type_rec::TypeRec;

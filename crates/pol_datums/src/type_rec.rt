@@ -1,3 +1,5 @@
+//! A type, owned.
+
 use pol_cursor::{ByteList, OwnedList};
 
 /// A type, an attribute or an alias of a type, owned.

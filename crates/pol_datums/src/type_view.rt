@@ -1,3 +1,5 @@
+//! A type in the buffer, and how it is read.
+
 ghost use Rattle.std.specs.Prelude.{◌≡◌, IfOk};
 ghost use Rattle.pol_cursor.specs.Outcome.{Answers};
 ghost use Rattle.pol_datums.specs.TypeRecord.{type_at, type_in, HasType, flavour_of};

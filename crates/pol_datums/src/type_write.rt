@@ -1,3 +1,5 @@
+//! How a type is written.
+
 use crate::type_rec::TypeRec;
 use pol_cursor::{Part, Written};
 use std::alloc::AllocError;

@@ -1,3 +1,5 @@
+//! What can be wrong at a field.
+
 ghost use Rattle.std.specs.Prelude.{◌≡◌};
 
 use crate::field::Field;

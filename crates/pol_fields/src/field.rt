@@ -1,3 +1,5 @@
+//! A field of the format, and its word.
+
 ghost use Rattle.std.specs.Prelude.{◌≡◌, [], map, unwrap_or};
 ghost use Rattle.pol_fields.specs.FieldWords.{numbered, record_words};
 

@@ -1,4 +1,10 @@
-//! The fields of the format by their words, and what can be wrong at one.
+//! What a fault of a policy names: a field of the format ([`fields`]), a cause ([`Cause`]), a symbol table ([`TableKind`]), each with its
+//! word in a message, and the numbers that have names in libsepol ([`codes`]).
+//!
+//! ```text
+//! let fault = Fault { place: 16, field: HEADER_VERSION, cause: Cause::UnsupportedVersion };
+//! assert_eq!(fault.field.word(), "header.version");
+//! ```
 #![tactic(auto)]
 
 pub mod codes;

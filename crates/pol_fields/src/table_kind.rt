@@ -1,3 +1,5 @@
+//! The eight symbol tables.
+
 ghost use Rattle.std.specs.Prelude.{◌≡◌};
 
 /// A symbol table.

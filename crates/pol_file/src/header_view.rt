@@ -1,3 +1,5 @@
+//! The header in the buffer, and how it is read.
+
 ghost use Rattle.std.specs.Prelude.{◌≡◌, ◌≤◌, ◌+◌, Ok, IfOk, OnOk, length};
 ghost use Rattle.pol_cursor.specs.Outcome.{Answers};
 ghost use Rattle.pol_file.specs.HeaderRecord.{identity_at, counts_at, header_at, header_in, HasHeader};

@@ -1,3 +1,5 @@
+//! How a header is written.
+
 ghost use Rattle.pol_cursor.specs.Writing.{Writes};
 ghost use Rattle.pol_file.specs.HeaderRecord.{spell_header};
 
@@ -8,7 +10,7 @@ use pol_fields::codes::SYM_NUM;
 use std::alloc::AllocError;
 
 /// Appends the 32 bytes of a header. The number of context tables is that of its version. Out of memory, a beginning of them was
-/// appended.
+/// appended. It is for a header by itself; a tree writes its own before its other parts.
 pub fn write_header(header: &HeaderRec, out: &mut Vec<u8>) -> Result<(), AllocError>
     ensures { Writes out.old.items out.new.items (spell_header header.now) result }
 {

@@ -1,4 +1,12 @@
 //! Policy files: the header, the parts of a policy in the order of the file, their references, and which files are accepted.
+//!
+//! ```text
+//! match read_file(alloc, bytes) {
+//!     Ok(parts) => print(parts.front.header.version(), parts.symbols.len(TableKind::Types)),
+//!     Err(ReadError::Fault(fault)) => print(fault.place, fault.field.word(), fault.cause.word()),
+//!     Err(ReadError::Memory) => {}
+//! }
+//! ```
 #![tactic(auto)]
 
 mod dangling;

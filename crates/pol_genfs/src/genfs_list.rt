@@ -1,3 +1,5 @@
+//! The list of the file systems of genfs.
+
 ghost use Rattle.pol_cursor.specs.Outcome.{Yields};
 ghost use Rattle.pol_cursor.specs.Parts.{counted, records_at};
 ghost use Rattle.pol_cursor.specs.References.{placed};

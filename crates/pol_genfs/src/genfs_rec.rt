@@ -1,3 +1,5 @@
+//! A file system of genfs and a path of it, owned.
+
 use pol_cursor::{ByteList, OwnedList};
 use pol_mls::ContextRec;
 

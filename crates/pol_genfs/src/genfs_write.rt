@@ -1,3 +1,5 @@
+//! How a file system of genfs is written, and a path of it.
+
 use crate::genfs_rec::{GenfsPathRec, GenfsRec};
 use pol_cursor::{Part, Written};
 use std::alloc::AllocError;

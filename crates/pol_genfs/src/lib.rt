@@ -1,4 +1,12 @@
 //! The contexts of the files of file systems that have no labels of their own, by their paths (genfs).
+//!
+//! ```text
+//! let systems = read_genfs(alloc, &mut cursor, version)?;
+//! let proc = systems.view(0);
+//! for entry in proc.paths() {
+//!     print(entry.path(), entry.class(), entry.context());
+//! }
+//! ```
 #![tactic(auto)]
 
 mod genfs_list;

@@ -1,3 +1,5 @@
+//! The conditions of ranges: the first cause to refuse a value.
+
 ghost use Rattle.std.specs.Prelude.{◌≡◌};
 ghost use Rattle.pol_mls.specs.RangeRecord.{n_test};
 

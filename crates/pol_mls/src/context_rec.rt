@@ -1,3 +1,5 @@
+//! A context, owned.
+
 use crate::range_rec::RangeRec;
 use pol_cursor::OwnedList;
 

@@ -1,3 +1,5 @@
+//! The text of a context.
+
 ghost use Rattle.std.specs.Prelude.{◌≡◌, IfOk};
 ghost use Rattle.pol_mls.specs.ContextText.{context_text};
 

@@ -1,3 +1,5 @@
+//! How a context is written.
+
 use crate::context_rec::ContextRec;
 use pol_cursor::{Part, Written};
 use std::alloc::AllocError;

@@ -1,3 +1,5 @@
+//! A level, owned.
+
 use pol_bitmap::Set;
 use pol_cursor::OwnedList;
 

@@ -1,3 +1,5 @@
+//! A level in the buffer, and how it is read.
+
 ghost use Rattle.std.specs.Prelude.{◌≡◌, ◌+◌, IfOk, OnOk};
 ghost use Rattle.pol_cursor.specs.Outcome.{Answers};
 ghost use Rattle.pol_cursor.specs.References.{dangling_of};

@@ -1,3 +1,5 @@
+//! How a level is written.
+
 use crate::level_rec::LevelRec;
 use pol_cursor::{Part, Written};
 use std::alloc::AllocError;

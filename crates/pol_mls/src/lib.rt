@@ -1,4 +1,9 @@
 //! The levels and ranges of MLS, and the security contexts that have them: records of the policy format, and their texts.
+//!
+//! ```text
+//! let context = read_context(&mut cursor)?;
+//! let text = context_text(alloc, &context, &symbols)?;     // system_u:object_r:etc_t:s0 - s0:c0.c3
+//! ```
 #![tactic(auto)]
 
 mod causes;

@@ -1,3 +1,5 @@
+//! A range, owned.
+
 use crate::level_rec::LevelRec;
 use pol_bitmap::Set;
 use pol_cursor::OwnedList;

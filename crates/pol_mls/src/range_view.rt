@@ -1,3 +1,5 @@
+//! A range in the buffer, and how it is read.
+
 ghost use Rattle.std.specs.Prelude.{◌≡◌, ◌+◌, ◌==◌, ◌||◌, IfOk, OnOk, IsTrue, option_map, Some, None, if◌then◌else◌};
 ghost use Rattle.pol_cursor.specs.Outcome.{Answers};
 ghost use Rattle.pol_cursor.specs.Parts.{num, number, optional};

@@ -1,3 +1,5 @@
+//! How a range is written.
+
 ghost use Rattle.std.specs.Prelude.{◌≡◌};
 ghost use Rattle.pol_cursor.specs.Parts.{spell_optional};
 ghost use Rattle.pol_cursor.specs.Spelling.{bytes_of};

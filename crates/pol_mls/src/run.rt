@@ -1,3 +1,5 @@
+//! Categories whose values follow one another.
+
 ghost use Rattle.std.specs.Prelude.{◌≡◌, ◌≤◌, ◌+◌, ◌==◌};
 
 /// Declared categories whose values rise by one each.

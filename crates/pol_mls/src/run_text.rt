@@ -1,3 +1,5 @@
+//! The text of categories that follow one another.
+
 ghost use Rattle.std.specs.Prelude.{◌≡◌, ◌∷◌, ◌++◌, ◌+◌, ℕ, List, Some, OnOk, IfOk};
 ghost use Rattle.pol_fields.specs.declared.table_kind.TableKind.TheVariants.{Categories};
 ghost use Rattle.pol_cursor.specs.References.{name_of};

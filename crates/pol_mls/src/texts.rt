@@ -1,3 +1,5 @@
+//! The texts of levels and ranges.
+
 ghost use Rattle.std.specs.Prelude.{◌≡◌, ◌+◌, ◌++◌, ◌∷◌, ℕ, List, OnOk, IfOk, Some, None, if◌then◌else◌, bytes_eq};
 ghost use Rattle.pol_bitmap.specs.Nodes.{bits_of};
 ghost use Rattle.pol_mls.specs.MlsTexts.{is_category, categories_of, categories_text, level_text, range_text};

@@ -1,4 +1,15 @@
 //! The symbol tables of a policy: users, who stand on the records of others, and the eight tables as one.
+//!
+//! ```text
+//! let symbols = read_symbols(alloc, &mut cursor, version)?;
+//! if let Some(class) = symbols.by_name(TableKind::Classes, b"file") {
+//!     let bits = symbols.perms_of(class);           // bit v - 1 stands for the value v
+//!     let first = symbols.perm_name(class, 1);      // its own, or its common's
+//! }
+//! for i in 0..symbols.len(TableKind::Users) {
+//!     print(symbols.user_view(i).name());
+//! }
+//! ```
 #![tactic(auto)]
 
 mod record_laws;

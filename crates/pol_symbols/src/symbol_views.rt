@@ -1,4 +1,4 @@
-//! The records of the symbol tables by their numbers.
+//! The records of the symbol tables by their numbers in the file, for who goes through a table; `by_value` and `by_name` find one.
 
 ghost use Rattle.std.specs.Prelude.{◌≡◌, ◌<◌, Some, slice_get, length};
 
@@ -9,7 +9,7 @@ use pol_commons::CommonView;
 use pol_datums::{BooleanView, CategoryView, RoleView, SensitivityView, TypeView};
 
 impl<'a> Symbols<'a> {
-    /// The common of that number, from 0 on.
+    /// The common of that number, from 0 on, in the order of the file.
     pub fn common_view(&self, i: u32) -> CommonView<'a>
         requires { i < length self.now.commons.records }
         ensures { slice_get self.now.commons.records i ≡ Some result }
@@ -17,7 +17,7 @@ impl<'a> Symbols<'a> {
         self.commons.view(i)
     }
 
-    /// The class of that number, from 0 on.
+    /// The class of that number, from 0 on, in the order of the file.
     pub fn class_view(&self, i: u32) -> ClassView<'a>
         requires { i < length self.now.classes.records }
         ensures { slice_get self.now.classes.records i ≡ Some result }
@@ -25,7 +25,7 @@ impl<'a> Symbols<'a> {
         self.classes.view(i)
     }
 
-    /// The role of that number, from 0 on.
+    /// The role of that number, from 0 on, in the order of the file.
     pub fn role_view(&self, i: u32) -> RoleView<'a>
         requires { i < length self.now.roles.records }
         ensures { slice_get self.now.roles.records i ≡ Some result }
@@ -33,7 +33,7 @@ impl<'a> Symbols<'a> {
         self.roles.view(i)
     }
 
-    /// The type of that number, from 0 on.
+    /// The type of that number, from 0 on, in the order of the file.
     pub fn type_view(&self, i: u32) -> TypeView<'a>
         requires { i < length self.now.types.records }
         ensures { slice_get self.now.types.records i ≡ Some result }
@@ -41,7 +41,7 @@ impl<'a> Symbols<'a> {
         self.types.view(i)
     }
 
-    /// The user of that number, from 0 on.
+    /// The user of that number, from 0 on, in the order of the file.
     pub fn user_view(&self, i: u32) -> UserView<'a>
         requires { i < length self.now.users.records }
         ensures { slice_get self.now.users.records i ≡ Some result }
@@ -49,7 +49,7 @@ impl<'a> Symbols<'a> {
         self.users.view(i)
     }
 
-    /// The boolean of that number, from 0 on.
+    /// The boolean of that number, from 0 on, in the order of the file.
     pub fn boolean_view(&self, i: u32) -> BooleanView<'a>
         requires { i < length self.now.booleans.records }
         ensures { slice_get self.now.booleans.records i ≡ Some result }
@@ -57,7 +57,7 @@ impl<'a> Symbols<'a> {
         self.booleans.view(i)
     }
 
-    /// The sensitivity of that number, from 0 on.
+    /// The sensitivity of that number, from 0 on, in the order of the file.
     pub fn sensitivity_view(&self, i: u32) -> SensitivityView<'a>
         requires { i < length self.now.levels.records }
         ensures { slice_get self.now.levels.records i ≡ Some result }
@@ -65,7 +65,7 @@ impl<'a> Symbols<'a> {
         self.levels.view(i)
     }
 
-    /// The category of that number, from 0 on.
+    /// The category of that number, from 0 on, in the order of the file.
     pub fn category_view(&self, i: u32) -> CategoryView<'a>
         requires { i < length self.now.categories.records }
         ensures { slice_get self.now.categories.records i ≡ Some result }

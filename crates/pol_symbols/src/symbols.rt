@@ -1,3 +1,5 @@
+//! The eight symbol tables as one: how they are read, and look-ups by name and value.
+
 ghost use Rattle.std.specs.Prelude.{◌≡◌, ◌<◌, Some, slice_get, true, is_some, option_map};
 ghost use Rattle.pol_cursor.specs.Outcome.{Yields};
 ghost use Rattle.std.specs.List.{find};
@@ -170,7 +172,7 @@ impl<'a> Symbols<'a> {
     }
 
     /// The name of the permission of that value of the class of a value, which is its own or its common's. `None` exactly
-    /// where there is none.
+    /// where there is none. It tells one permission; a listing of all goes through the class's own ones and its common's.
     pub fn perm_name(&self, class: u32, value: u32) -> Option<&'a [u8]>
         ensures { option_map (λ name. name.now) result ≡ permission_name_in self.now class value }
     {
@@ -209,7 +211,7 @@ impl<'a> Symbols<'a> {
     }
 
     /// The bits of the permissions of the class of that value, with those of its common: bit v - 1 stands for the
-    /// permission value v. It is 0 where no class has the value.
+    /// permission value v. It is 0 where no class has the value. It tells which bits of an access vector stand for a permission.
     #[tactic(auto, using(crate::proofs::SymbolSearch::masks_together))]
     pub fn perms_of(&self, class: u32) -> u32
         ensures { result ≡ permission_mask_in self.now class }

@@ -1,3 +1,5 @@
+//! The kind of the records of the table of users.
+
 use crate::user_rec::UserRec;
 use crate::user_view::{UserView, read_user};
 use pol_cursor::{Cursor, ReadAfter, ReadError, Record, RecordView};

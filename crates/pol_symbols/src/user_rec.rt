@@ -1,3 +1,5 @@
+//! A user, owned.
+
 use pol_bitmap::Set;
 use pol_cursor::{ByteList, OwnedList};
 use pol_mls::{LevelRec, RangeRec};

@@ -1,3 +1,5 @@
+//! How a user is written.
+
 use crate::user_rec::UserRec;
 use pol_cursor::{Part, Written};
 use std::alloc::AllocError;

@@ -1,4 +1,15 @@
-//! What the eight symbol tables share: claims of names and values, the conditions of symbol records, and look-ups by name and value.
+//! What the eight symbol tables share: claims of names and values ([`Taken`]), the conditions of symbol records, and look-ups by name
+//! and value ([`TableNames`]).
+//!
+//! A kind of symbol ([`SymbolKind`]) says how a record is read under the claims of the records before it; [`read_whole_table`] reads
+//! any table so.
+//!
+//! ```text
+//! let roles: SymbolTable<'_, Role> = read_whole_table(alloc, &mut cursor)?;
+//! if let Some(i) = roles.index_by_name(b"object_r") {
+//!     print(roles.view(i).value());
+//! }
+//! ```
 #![tactic(auto)]
 
 mod causes;

@@ -1,3 +1,5 @@
+//! What is a symbol: a record with a name and a value.
+
 ghost use Rattle.std.specs.Prelude.{◌≡◌, ℕ, Bool, List};
 ghost use Rattle.pol_symtab.specs.Claims.{Claims, claims_after};
 ghost use Rattle.pol_symtab.specs.Inner.Freshness.{Gives, IsFresh};

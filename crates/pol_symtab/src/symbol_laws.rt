@@ -1,3 +1,5 @@
+//! The laws of the length and the name of a symbol's record.
+
 ghost use Rattle.std.specs.Prelude.{◌≡◌};
 ghost use Rattle.pol_symtab.specs.Claims.{claims_after};
 ghost use Rattle.pol_symtab.specs.Inner.Freshness.{Gives, IsFresh};

@@ -1,3 +1,5 @@
+//! A symbol table, and how it is read.
+
 ghost use Rattle.std.specs.Prelude.{◌≡◌, ◌<◌, ◌≤◌, Some, IfOk, slice_get, length};
 ghost use Rattle.pol_cursor.specs.Outcome.{Yields};
 ghost use Rattle.pol_cursor.specs.Contexts.{context_after};

@@ -1,3 +1,5 @@
+//! The two numbers before the records of a table.
+
 ghost use Rattle.std.specs.Prelude.{◌≡◌, ◌≤◌, IfOk};
 ghost use Rattle.pol_cursor.specs.Outcome.{Answers};
 ghost use Rattle.pol_symtab.specs.SymbolTables.{nprim_test, table_head_at};

@@ -1,3 +1,5 @@
+//! The names and values of the records of a table, found by name and by value.
+
 ghost use Rattle.std.specs.Prelude.{◌≡◌, ◌<◌, ◌^◌, Some, IfOk, is_some, option_map, slice_get, length, map};
 ghost use Rattle.pol_symtab.specs.SymbolTables.{index_named, value_named, primary_index, primary_name, rank_of};
 ghost use Rattle.pol_symtab.specs.Inner.Namings.{its_name, its_value, is_its_primary, naming};

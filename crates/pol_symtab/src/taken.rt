@@ -1,3 +1,5 @@
+//! The names and values that the records of a table took so far.
+
 ghost use Rattle.std.specs.Prelude.{◌≡◌, OnOk, OnErr};
 ghost use Rattle.pol_symtab.specs.Claims.{has_name, has_value, with_claim, no_claims};
 

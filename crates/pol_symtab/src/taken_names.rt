@@ -1,3 +1,5 @@
+//! The names that the records of a table took so far.
+
 ghost use Rattle.std.specs.Prelude.{◌≡◌, [], OnOk, OnErr, map};
 ghost use Rattle.std.specs.List.{list_any};
 ghost use Rattle.std.specs.Str.{bytes_eq};

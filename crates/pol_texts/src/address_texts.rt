@@ -1,3 +1,5 @@
+//! The texts of addresses.
+
 ghost use Rattle.std.specs.Prelude.{◌≡◌, ◌<◌, ◌++◌, OnOk, codes, decimal, length};
 ghost use Rattle.std.specs.List.{flat_map};
 ghost use Rattle.pol_texts.specs.AddressTexts.{ipv4_text, grouped_byte, groups_text};

@@ -1,3 +1,5 @@
+//! Hexadecimal digits.
+
 ghost use Rattle.std.specs.Prelude.{◌≡◌, ◌<◌, ◌++◌, OnOk};
 ghost use Rattle.pol_texts.specs.Hexadecimal.{hex_digit, hex_byte};
 

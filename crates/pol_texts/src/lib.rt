@@ -1,4 +1,11 @@
-//! The texts of the names and numbers of a policy, and of sets of names, as listings, searches and transitions print them.
+//! The texts of the names and numbers of a policy, and of sets of names, as listings, searches and transitions print them. Each call
+//! appends to what it is given.
+//!
+//! ```text
+//! push_ports_text(&mut out, 80, 80)?;          // 80
+//! push_protocol_name(&mut out, 6)?;            // tcp
+//! push_set(&mut out, &[b"read", b"write"])?;   // { read write }
+//! ```
 #![tactic(auto)]
 
 mod address_texts;

@@ -1,3 +1,5 @@
+//! The texts of names of files, paths, file systems, interfaces and devices.
+
 ghost use Rattle.std.specs.Prelude.{◌≡◌, ◌++◌, OnOk};
 ghost use Rattle.pol_texts.specs.NameTexts.{is_plain, byte_text, name_text};
 

@@ -1,3 +1,5 @@
+//! Numbers that have names: initial SIDs, protocols, ways in which file systems get their contexts.
+
 ghost use Rattle.std.specs.Prelude.{◌≡◌, ◌++◌, OnOk, decimal, option_map};
 ghost use Rattle.pol_texts.specs.NumberNames.{known_sid, sid_name, protocol_name, behaviour_word};
 

@@ -1,3 +1,5 @@
+//! The texts of decimal numbers, of ports and of partition keys.
+
 ghost use Rattle.std.specs.Prelude.{◌≡◌, ◌++◌, OnOk, decimal};
 ghost use Rattle.pol_texts.specs.NumberTexts.{ports_text, key_text, keys_text};
 

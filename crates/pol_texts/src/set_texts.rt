@@ -1,3 +1,5 @@
+//! The texts of sets of names.
+
 ghost use Rattle.std.specs.Prelude.{◌≡◌, ◌++◌, OnOk, map};
 ghost use Rattle.pol_texts.specs.SetTexts.{listed, set_text};
 

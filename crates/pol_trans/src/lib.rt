@@ -1,5 +1,14 @@
 //! The transitions and role allows of the policy format: role transitions, role allows, file-name transitions and range
 //! transitions.
+//!
+//! A list is read by the call of its kind, as [`read_role_trans`]; one record by [`read_role_trans_entry`] and the like, for who goes
+//! through a file without keeping lists.
+//!
+//! ```text
+//! let transitions = read_role_trans(alloc, &mut cursor, version)?;
+//! let first = transitions.view(0);
+//! print(first.role(), first.type_value(), first.class(), first.newrole());
+//! ```
 #![tactic(auto)]
 
 mod lists;

@@ -1,3 +1,5 @@
+//! A datum of a group of file-name transitions, owned.
+
 use pol_bitmap::Set;
 use pol_cursor::OwnedList;
 

@@ -1,3 +1,5 @@
+//! A datum of a group of file-name transitions in the buffer, and how it is read.
+
 ghost use Rattle.std.specs.Prelude.{◌≡◌, ◌+◌, [], ◌∷◌};
 ghost use Rattle.pol_cursor.specs.References.{dangling_of};
 ghost use Rattle.pol_trans.specs.NameGroupRecord.{name_datum_in, HasNameDatum, name_datum_reference};

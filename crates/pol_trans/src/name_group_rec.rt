@@ -1,3 +1,5 @@
+//! A group of file-name transitions, owned.
+
 use crate::name_datum_rec::NameDatumRecList;
 use pol_cursor::{ByteList, OwnedList};
 

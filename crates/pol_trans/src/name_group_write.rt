@@ -1,3 +1,5 @@
+//! How a group of file-name transitions is written.
+
 use crate::name_datum_rec::NameDatumRec;
 use crate::name_group_rec::NameGroupRec;
 use pol_cursor::{Part, Written};

@@ -1,3 +1,5 @@
+//! The file-name transitions of a policy, one by one or in groups.
+
 ghost use Rattle.std.specs.Prelude.{◌≡◌};
 ghost use Rattle.pol_cursor.specs.Outcome.{Yields};
 ghost use Rattle.pol_trans.specs.NameTransitions.{has_groups, name_transitions_at};

@@ -1,3 +1,5 @@
+//! A file-name transition, owned.
+
 use pol_cursor::{ByteList, OwnedList};
 
 /// A file-name transition, owned.

@@ -1,3 +1,5 @@
+//! A file-name transition in the buffer, and how it is read.
+
 ghost use Rattle.std.specs.Prelude.{◌≡◌, IfOk};
 ghost use Rattle.pol_cursor.specs.Outcome.{Answers};
 ghost use Rattle.pol_trans.specs.NameTransRecord.{name_trans_at, name_trans_in, HasNameTrans, name_trans_references};

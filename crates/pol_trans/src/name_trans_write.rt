@@ -1,3 +1,5 @@
+//! How a file-name transition is written.
+
 use crate::name_trans_rec::NameTransRec;
 use pol_cursor::{Part, Written};
 use std::alloc::AllocError;

@@ -1,3 +1,5 @@
+//! A range transition, owned.
+
 use pol_cursor::OwnedList;
 use pol_mls::RangeRec;
 

@@ -1,3 +1,5 @@
+//! A range transition in the buffer, and how it is read.
+
 ghost use Rattle.std.specs.Prelude.{◌≡◌, IfOk};
 ghost use Rattle.pol_cursor.specs.Outcome.{Answers};
 ghost use Rattle.pol_trans.specs.RangeTransRecord.{range_trans_at, range_trans_in, HasRangeTrans, range_trans_references, range_of};

@@ -1,3 +1,5 @@
+//! How a range transition is written.
+
 use crate::range_trans_rec::RangeTransRec;
 use pol_cursor::{Part, Written};
 use std::alloc::AllocError;

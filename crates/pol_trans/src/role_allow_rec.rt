@@ -1,3 +1,5 @@
+//! A role allow, owned.
+
 use pol_cursor::OwnedList;
 
 /// A role allow, owned.

@@ -1,3 +1,5 @@
+//! A role allow in the buffer, and how it is read.
+
 ghost use Rattle.std.specs.Prelude.{◌≡◌, IfOk};
 ghost use Rattle.pol_cursor.specs.Outcome.{Answers};
 ghost use Rattle.pol_trans.specs.RoleAllowRecord.{role_allow_at, role_allow_in, HasRoleAllow, role_allow_references};

@@ -1,3 +1,5 @@
+//! How a role allow is written.
+
 use crate::role_allow_rec::RoleAllowRec;
 use pol_cursor::{Part, Written};
 use std::alloc::AllocError;

@@ -1,3 +1,5 @@
+//! A role transition, owned.
+
 use pol_cursor::OwnedList;
 
 /// A role transition, owned.

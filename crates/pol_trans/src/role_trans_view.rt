@@ -1,3 +1,5 @@
+//! A role transition in the buffer, and how it is read.
+
 ghost use Rattle.std.specs.Prelude.{◌≡◌, IfOk};
 ghost use Rattle.pol_cursor.specs.Outcome.{Answers};
 ghost use Rattle.pol_trans.specs.RoleTransRecord.{role_trans_at, role_trans_in, HasRoleTrans, role_trans_references};

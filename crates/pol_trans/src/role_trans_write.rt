@@ -1,3 +1,5 @@
+//! How a role transition is written.
+
 use crate::role_trans_rec::RoleTransRec;
 use pol_cursor::{Part, Written};
 use std::alloc::AllocError;
