@@ -1,4 +1,4 @@
-ghost use Rattle.std.specs.Prelude.{◌≡◌, ◌<◌, ◌≤◌, ◌-◌, Ok, Some, None, IfOk, option_map, slice_get, length};
+ghost use Rattle.std.specs.Prelude.{ℕ, List, ◌≡◌, ◌<◌, ◌≤◌, ◌-◌, Ok, Some, None, IfOk, option_map, slice_get, length};
 ghost use Rattle.pol_fields.specs.declared.limits.TheConstants.{MAX_POLICY_BYTES};
 ghost use Rattle.pol_conditionals.specs.CondNodeRecord.{node_condition};
 ghost use Rattle.pol_file.specs.Acceptance.{accept, undeclared, Accepts};
@@ -55,14 +55,12 @@ impl<'a> Model for Policy<'a> {
 }
 
 impl<'a> Policy<'a> {
-    /// The bytes of the file that was accepted as this policy. Each value that the policy names is declared.
-    #[tactic(auto, using(pol_file::proofs::Acceptances::accepted_is_declared))]
-    pub fn bytes(&self) -> &'a [u8]
-        ensures accepted { accept result.now ≡ Ok self.now }
+    /// Some file was accepted as this policy, and so each value that it names is declared. A call says that where a proof rests on it;
+    /// it does nothing.
+    pub fn is_accepted(&self)
+        ensures accepted { (bytes : List ℕ) × (accept bytes ≡ Ok self.now) }
         ensures declared { undeclared self.now ≡ None }
-    {
-        self.bytes
-    }
+    {}
 
     /// The version of the format, 28 to 34.
     pub fn version(&self) -> u32
