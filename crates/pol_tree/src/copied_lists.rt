@@ -58,7 +58,7 @@ pub fn copy_rows(alloc: Global, policy: &Policy<'_>) -> Result<SetList, AllocErr
     ensures { IfOk result (λ list. list ≡ values_of policy.now.labels.type_rows) }
 {
     // It was accepted, and so each type value has a row.
-    let _ = policy.bytes();
+    policy.is_accepted();
     let mut list = Vec::new(alloc);
     for i in 0..policy.type_count() {
         list.push(Set::from_view(alloc, &policy.row(i + 1))?)?;

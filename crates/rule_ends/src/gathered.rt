@@ -44,7 +44,7 @@ impl RulesWithEnds {
         ensures ends { OnOk result (AreEndsOf policy.now self.new.rules.items self.new.sources.items self.new.targets.items) }
     {
         // the policy was accepted, and so its types have values within their table
-        let _ = policy.bytes();
+        policy.is_accepted();
         self.rules.push(number)?;
         self.sources.push(rule.source)?;
         self.targets.push(rule.target)?;

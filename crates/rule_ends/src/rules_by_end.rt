@@ -72,7 +72,7 @@ impl<'p> RulesByEnd<'p> {
         ensures rules { IfOk result (λ rules. HoldRules rules numbers.items) }
     {
         // the policy was accepted, and so the ends of its rules are declared
-        let _ = policy.bytes();
+        policy.is_accepted();
         let rows = EndRows::of_rules(alloc, policy, near, &numbers)?;
         Ok(RulesByEnd {
             policy,
@@ -97,7 +97,7 @@ impl<'p> RulesByEnd<'p> {
         ensures { IfOk result (λ found. (rules : List ℕ) → HoldRules self.now rules → IsPermutation found.items (filter (joins_by self.now.near self.now.policy node other) rules)) }
     {
         // the policy was accepted, and so the ends of its rules are declared
-        let _ = self.policy.bytes();
+        self.policy.is_accepted();
         let from = ends_holding(alloc, self.policy, &self.rows, node)?;
         let to = ends_holding(alloc, self.policy, &AnyEnd, other)?;
         rules_joining(alloc, &self.rows, from.values(), &to)
@@ -108,7 +108,7 @@ impl<'p> RulesByEnd<'p> {
         ensures { IfOk result (λ set. (rules : List ℕ) → HoldRules self.now rules → bits_of set ≡ others_of self.now.near self.now.policy rules node) }
     {
         // the policy was accepted, and so the ends of its rules are declared
-        let _ = self.policy.bytes();
+        self.policy.is_accepted();
         let from = ends_holding(alloc, self.policy, &self.rows, node)?;
         let count = self.policy.type_count() as usize + 1;
         let ends = far_ends(alloc, &self.rows, from.values(), count)?;

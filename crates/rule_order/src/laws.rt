@@ -10,5 +10,5 @@ pub fn rules_have_one_order(policy: &Policy<'_>)
     ensures { (xs ys : List ℕ) → AreRules policy.now xs → IsPermutation xs ys → in_rule_order policy.now xs ≡ in_rule_order policy.now ys }
 {
     // the policy was accepted, and so what its rules name is declared
-    let _ = policy.bytes();
+    policy.is_accepted();
 }

@@ -169,7 +169,7 @@ fn expanding(
     ensures { IfOk result (λ set. (value : ℕ) → IsDeclaredIn policy.now.symbols Types value → has_bit set value ≡ expands_to policy.now criterion.now value) }
 {
     // the clause says that the policy was accepted, so that its declared types have values of their own
-    let _bytes = policy.bytes();
+    policy.is_accepted();
     let asked = asked_types(alloc, policy, types, criterion, pattern)?;
     types.touching(alloc, &asked)
 }
@@ -203,7 +203,7 @@ fn named_types(
     ensures { IfOk result (λ set. (value : ℕ) → has_bit set value ≡ is_asked_name policy.now name.now value) }
 {
     // the clause says that the policy was accepted, so that each name of a type has a value
-    let _bytes = policy.bytes();
+    policy.is_accepted();
     match policy.symbols().by_name(TableKind::Types, name) {
         Some(value) => expansion_of(alloc, policy, types, value),
         None => Set::empty(alloc),

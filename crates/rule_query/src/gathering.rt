@@ -91,7 +91,7 @@ impl Query {
         ensures { OnOk result (HasMet policy.now self.now to found.new) }
     {
         // the policy was accepted, and so what its rules name is declared
-        let _ = policy.bytes();
+        policy.is_accepted();
         let mut numbers = [0; 128];
         let count = asked.gather(policy.table(), from, to, &mut numbers);
         for number in &numbers[..count] {
@@ -202,7 +202,7 @@ impl Query {
         ensures { OnOk result (HasMet policy.now self.now (number + 1) found.new) }
     {
         // the policy was accepted, and so what its rules name is declared
-        let _ = policy.bytes();
+        policy.is_accepted();
         if !asked.may_be(view) {
             return Ok(());
         }
@@ -223,7 +223,7 @@ impl Query {
         ensures { OnOk result (HasMet policy.now self.now (number + 1) found.new) }
     {
         // the policy was accepted, and so what its rules name is declared
-        let _ = policy.bytes();
+        policy.is_accepted();
         if self.passes(policy, number, ends) {
             found.add_ends(policy, number, ends)?;
         }

@@ -32,7 +32,7 @@ impl Query {
         ensures { (criteria : Criteria) → IsQueryOf policy.now criteria self.now → result ≡ meets policy.now criteria n }
     {
         // the policy was accepted, and so what its rules name is declared
-        let _ = policy.bytes();
+        policy.is_accepted();
         self.passes(policy, n, policy.rule_ends(n))
     }
 

@@ -111,7 +111,7 @@ fn expansion_left(
     ensures { IfOk result (λ set. bits_of set ≡ filter (leaves left.now) (expand policy.now value)) }
 {
     // the clause says that the policy was accepted, so that its declared types have values of their own
-    let _bytes = policy.bytes();
+    policy.is_accepted();
     let set = types.expansion(alloc, value)?;
     cut(alloc, set, left)
 }

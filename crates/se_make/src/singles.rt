@@ -73,7 +73,7 @@ fn count_expansion(
     ensures few { IfOk result (λ count. count ≤ 65535) }
 {
     // the clauses say that the policy was accepted, so that its declared types have values of their own, and few
-    let _bytes = policy.bytes();
+    policy.is_accepted();
     let _count = policy.type_count();
     Ok(types.expansion(alloc, value)?.count())
 }

@@ -6,6 +6,6 @@ use Rattle.rule_ends.proofs.rules_by_end.RulesByEnd.build.Goals as goal
 pub invariant_of-result : goal.invariant_of-result
 invariant_of-result c = (
   c.requires.map,
-  far_ends_are c.bytes.result.now c.args.policy.now c.args.near c.args.numbers.items c.in_ok-rows.rows c.bytes.ensures.accepted c.requires.rules
+  far_ends_are c.is_accepted.ensures.accepted.1 c.args.policy.now c.args.near c.args.numbers.items c.in_ok-rows.rows c.is_accepted.ensures.accepted.2 c.requires.rules
       (subst (λ (numbers : List ℕ). AreRowsOf c.args.policy.now c.args.near numbers c.in_ok-rows.rows) c.deref.ensures.value c.in_ok-rows.ensures),
 )

@@ -15,7 +15,7 @@ types_of-requires-clause-ends c =
 
 pub returns : goal.returns
 returns c = rw (← c.self.view_is) (
-    found_others c.bytes.result.now (record { policy = c.self.inside.policy.now; near = c.self.inside.near; rows = c.self.inside.rows }) c.args.node c.in_ok-from.from.values c.in_ok-ends.ends.values c.types_of.result
-    c.bytes.ensures.accepted c.in_ok-from.ensures.each c.in_ok-from.ensures.within
+    found_others c.is_accepted.ensures.accepted.1 (record { policy = c.self.inside.policy.now; near = c.self.inside.near; rows = c.self.inside.rows }) c.args.node c.in_ok-from.from.values c.in_ok-ends.ends.values c.types_of.result
+    c.is_accepted.ensures.accepted.2 c.in_ok-from.ensures.each c.in_ok-from.ensures.within
     (λ value. c.in_ok-ends.ensures value ∙ ap (λ (from : List ℕ). is_far_end c.self.inside.rows from value) c.values.ensures.values)
     (subst (λ (ends : List ℕ). IfOk c.types_of.result (λ (set : List Node). bits_of set ≡ filter (λ type. list_any (λ end. holds_type c.self.inside.policy.now end type) ends) (range_with_len 1 c.self.inside.policy.now.symbols.types.nprim))) c.values-2.ensures.values c.types_of.ensures))

@@ -9,18 +9,18 @@ loop-number-init c = record { from = c.args.from; met = c.requires.found; gather
 pub add_vector-requires : goal.add_vector-requires
 add_vector-requires c =
     let numbers = take c.gather-count.result c.gather-count.new.numbers in
-    let next = next_number c.args.policy.now c.args.self.now c.bytes.result.now c.loop-number.found c.bytes.ensures.accepted c.args.to c.requires.within numbers c.loop-number.number-index 0 c.loop-number-test.true c.loop-number.invariant in
+    let next = next_number c.args.policy.now c.args.self.now c.is_accepted.ensures.accepted.1 c.loop-number.found c.is_accepted.ensures.accepted.2 c.args.to c.requires.within numbers c.loop-number.number-index 0 c.loop-number-test.true c.loop-number.invariant in
     record { within = omega (arith, next.below, c.requires.within); found = next.met }
 
 pub loop-number-preserved : goal.loop-number-preserved
 loop-number-preserved c =
     let numbers = take c.gather-count.result c.gather-count.new.numbers in
     let number = get_or numbers c.loop-number.number-index 0 in
-    let next = next_number c.args.policy.now c.args.self.now c.bytes.result.now c.loop-number.found c.bytes.ensures.accepted c.args.to c.requires.within numbers c.loop-number.number-index 0 c.loop-number-test.true c.loop-number.invariant in
+    let next = next_number c.args.policy.now c.args.self.now c.is_accepted.ensures.accepted.1 c.loop-number.found c.is_accepted.ensures.accepted.2 c.args.to c.requires.within numbers c.loop-number.number-index 0 c.loop-number-test.true c.loop-number.invariant in
     record { from = number + 1; met = c.in_ok-add_vector.ensures; gathered = next.gathered }
 
 pub returns : goal.returns
 returns c =
     let numbers = take c.gather-count.result c.gather-count.new.numbers in
     let none : drop c.loop-number.number-index numbers ≡ [] = drop_all c.loop-number.number-index numbers (omega (arith, c.loop-number-test.false)) in
-    no_number c.args.policy.now c.args.self.now c.bytes.result.now c.loop-number.found c.bytes.ensures.accepted c.args.to c.requires.within (rw none at c.loop-number.invariant)
+    no_number c.args.policy.now c.args.self.now c.is_accepted.ensures.accepted.1 c.loop-number.found c.is_accepted.ensures.accepted.2 c.args.to c.requires.within (rw none at c.loop-number.invariant)

@@ -9,5 +9,5 @@ returns-then-not-may_be c =
     let policy = c.args.policy.now in
     let rule = av_rule (Some c.args.condition) c.args.view.now in
     met_failing policy c.args.self.now rule c.args.number c.requires.rule c.args.found.now
-    (rule_is_declared c.bytes.result.now policy c.args.number rule c.bytes.ensures.accepted c.requires.rule)
+    (rule_is_declared c.is_accepted.ensures.accepted.1 policy c.args.number rule c.is_accepted.ensures.accepted.2 c.requires.rule)
     (c.requires.asked.at policy.symbols (Some c.args.condition) c.args.view.now (sym c.may_be.ensures ∙ c.if-not-may_be.true)) c.requires.found

@@ -12,11 +12,11 @@ returns-in_ok-add_ends c =
     let policy = c.args.policy.now in
     let within = has_ends policy c.args.number c.args.ends c.requires.rule in
     met_passing policy c.args.self.now (rule_at policy c.args.number) c.args.number (is_there policy c.args.number within) c.args.found.now c.add_ends.new.self
-    (is_declared c.bytes.result.now policy c.args.number c.bytes.ensures.accepted within) (sym c.passes.ensures ∙ c.if-passes.true) c.in_ok-add_ends.ensures c.requires.found
+    (is_declared c.is_accepted.ensures.accepted.1 policy c.args.number c.is_accepted.ensures.accepted.2 within) (sym c.passes.ensures ∙ c.if-passes.true) c.in_ok-add_ends.ensures c.requires.found
 
 pub returns-else-passes : goal.returns-else-passes
 returns-else-passes c =
     let policy = c.args.policy.now in
     let within = has_ends policy c.args.number c.args.ends c.requires.rule in
     met_failing policy c.args.self.now (rule_at policy c.args.number) c.args.number (is_there policy c.args.number within) c.args.found.now
-    (is_declared c.bytes.result.now policy c.args.number c.bytes.ensures.accepted within) (sym c.passes.ensures ∙ c.if-passes.false) c.requires.found
+    (is_declared c.is_accepted.ensures.accepted.1 policy c.args.number c.is_accepted.ensures.accepted.2 within) (sym c.passes.ensures ∙ c.if-passes.false) c.requires.found
