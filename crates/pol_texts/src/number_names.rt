@@ -79,9 +79,11 @@ fn push_numbered(out: &mut Vec<u8>, word: &[u8], number: u32) -> Result<(), Allo
 pub fn behaviour_word(behaviour: u32) -> &'static str
     ensures { result.now ≡ behaviour_word behaviour }
 {
-    match behaviour {
-        SECURITY_FS_USE_XATTR => "fs_use_xattr",
-        SECURITY_FS_USE_TRANS => "fs_use_trans",
-        _ => "fs_use_task",
+    if behaviour == SECURITY_FS_USE_XATTR {
+        "fs_use_xattr"
+    } else if behaviour == SECURITY_FS_USE_TRANS {
+        "fs_use_trans"
+    } else {
+        "fs_use_task"
     }
 }
