@@ -8,12 +8,13 @@ use Rattle.std.proofs.lemmas.Map.Views.{list_any-from_Contains, Contains-from_an
 use Rattle.std.proofs.lemmas.Option.{slice_get-map}
 use Rattle.pol_bitmap.specs.declared.node.Node.{Node}
 use Rattle.pol_bitmap.specs.Nodes.{bits_of}
+use Rattle.pol_expr.specs.declared.codes.TheConstants.{COND_EXPR_MAXDEPTH}
 use Rattle.pol_expr.specs.declared.symbol.Symbol.TheVariants as symbols
 use Rattle.pol_expr.specs.declared.symbol.Operator.TheVariants.{Or, And, Xor, Equal, NotEqual}
 use Rattle.pol_expr.specs.declared.condition_rec.ConditionItem.{ConditionItem}
 use Rattle.pol_expr.specs.Postfix.{IsPostfix}
 use Rattle.pol_expr.specs.Trees.{operand_count}
-use Rattle.pol_expr.specs.ConditionRecord.{item_operands, condition_limit, IsExpression}
+use Rattle.pol_expr.specs.ConditionRecord.{item_operands, IsCondition}
 use Rattle.pol_expr.specs.ConditionMeaning.{condition_symbol, condition_symbols, truth_of, value_of, is_in}
 use Rattle.pol_expr.proofs.Stacks.{IsMeaning, IsPostfix-map}
 
@@ -39,8 +40,8 @@ operands_by false false false false false false boolean = refl
 symbol_operands : (item : ConditionItem) → item_operands item ≡ operand_count (condition_symbol item)
 symbol_operands item = operands_by (item.kind == 1) (item.kind == 2) (item.kind == 3) (item.kind == 4) (item.kind == 5) (item.kind == 6) item.boolean
 
-pub symbols_postfix : (items : List ConditionItem) → IsExpression items → IsPostfix operand_count condition_limit 0 (condition_symbols items)
-symbols_postfix items h = IsPostfix-map condition_symbol item_operands operand_count condition_limit 0 items symbol_operands h
+pub symbols_postfix : (items : List ConditionItem) → IsCondition items → IsPostfix operand_count COND_EXPR_MAXDEPTH 0 (condition_symbols items)
+symbols_postfix items h = IsPostfix-map condition_symbol item_operands operand_count COND_EXPR_MAXDEPTH 0 items symbol_operands h
 
 -- ---- truth values
 
