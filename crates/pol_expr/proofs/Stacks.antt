@@ -133,13 +133,6 @@ module _ {V O : Type 0} where
   pub tree_of_symbols : (words : Words V O) (t : Tree V O) → symbols_text words (postorder t) ≡ infix_of words t
   tree_of_symbols words t = ap (tree_text words) (one_tree_left t)
 
-  -- the text of each tree that symbols stand for is theirs
-  pub one_text : (words : Words V O) (limit : ℕ) (ss : List (Symbol V O)) (text : List ℕ) → IsPostfix operand_count limit 0 ss
-      → ((t : Tree V O) → postorder t ≡ ss → text ≡ infix_of words t) → text ≡ symbols_text words ss
-  one_text words limit ss text one h =
-      let tree = some_tree limit ss one in
-      h tree.0 tree.1 ∙ sym (tree_of_symbols words tree.0) ∙ ap (symbols_text words) tree.1
-
 -- ---- texts
 
 pub text_meaning : {V O : Type 0} (words : Words V O) → IsMeaning (leaf_operand words) (negated_operand words) (joined_operands words) (λ t. record { text = infix_of words t; is_binary = is_binary t })

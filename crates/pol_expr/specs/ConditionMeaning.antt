@@ -11,7 +11,7 @@ use Rattle.pol_expr.specs.declared.condition_rec.ConditionItem.{ConditionItem}
 use Rattle.pol_fields.specs.declared.table_kind.TableKind.TheVariants.{Booleans}
 use Rattle.pol_cursor.specs.References.{Named}
 use Rattle.pol_expr.specs.declared.codes.TheConstants.{COND_BOOL, COND_NOT, COND_OR, COND_AND, COND_XOR, COND_EQ}
-use Rattle.pol_expr.specs.Infix.{Words}
+use Rattle.pol_expr.specs.Infix.{Words, symbols_text}
 use Rattle.pol_expr.specs.Trees.{Tree, Leaf, Not, Binary}
 
 -- a tree whose leaves are values of booleans
@@ -67,6 +67,10 @@ operator_text NotEqual = codes " != "
 -- A boolean is its name, which is empty where no record declares it.
 abbrev pub condition_words : Named → Words ℕ Operator
 condition_words named = record { leaf = λ boolean. unwrap_or (named Booleans boolean) []; negation = codes "!"; between = operator_text }
+
+-- the text of items: that of the one tree that they stand for (`conditions_have_one_tree`)
+unfoldable pub expression_text : Named → List ConditionItem → List ℕ
+expression_text named items = symbols_text (condition_words named) (condition_symbols items)
 
 -- ---- the booleans
 

@@ -29,8 +29,7 @@ abbrev pub tree_text : {V O : Type 0} → Words V O → List (Tree V O) → List
 tree_text words [] = []
 tree_text words (t ∷ ts) = infix_of words t
 
--- The text of the tree whose symbols these are, each operator after its operands: one tree has them, and this is the text of it
--- (`conditions_have_one_tree`, `constraints_have_one_tree`).
+-- the text of the tree whose symbols these are, each operator after its operands
 abbrev pub symbols_text : {V O : Type 0} → Words V O → List (Symbol V O) → List ℕ
 symbols_text words ss = tree_text words (trees_after ss [])
 

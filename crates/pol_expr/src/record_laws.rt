@@ -1,13 +1,13 @@
 //! What is spelled is read again, and what is read was spelled; an expression has one tree. A function with no code claims each law.
 
-ghost use Rattle.std.specs.Prelude.{◌≡◌, ℕ, List};
+ghost use Rattle.std.specs.Prelude.{◌≡◌, List};
 ghost use Rattle.pol_cursor.specs.Laws.{IsReadAgain, IsReadFromSpelling};
+ghost use Rattle.pol_cursor.specs.References.{Named};
 ghost use Rattle.pol_expr.specs.declared.condition_rec.ConditionItem.{ConditionItem};
-ghost use Rattle.pol_expr.specs.declared.symbol.Operator.{Operator};
 ghost use Rattle.pol_expr.specs.ConditionRecord.{condition_at, spell_condition, ConditionFits, IsCondition};
-ghost use Rattle.pol_expr.specs.Infix.{Words, infix_of, symbols_text};
+ghost use Rattle.pol_expr.specs.Infix.{infix_of};
 ghost use Rattle.pol_expr.specs.Trees.{postorder};
-ghost use Rattle.pol_expr.specs.ConditionMeaning.{ConditionTree, condition_symbols};
+ghost use Rattle.pol_expr.specs.ConditionMeaning.{ConditionTree, condition_symbols, condition_words, expression_text};
 
 /// The two laws of a condition.
 pub fn conditions_have_laws()
@@ -19,5 +19,5 @@ pub fn conditions_have_laws()
 pub fn conditions_have_one_tree()
     ensures exists { (items : List ConditionItem) → IsCondition items → (t : ConditionTree) × (postorder t ≡ condition_symbols items) }
     ensures unique { (t u : ConditionTree) → postorder t ≡ postorder u → t ≡ u }
-    ensures text { (words : Words ℕ Operator) (t : ConditionTree) → symbols_text words (postorder t) ≡ infix_of words t }
+    ensures text { (named : Named) (items : List ConditionItem) (t : ConditionTree) → postorder t ≡ condition_symbols items → expression_text named items ≡ infix_of (condition_words named) t }
 {}
