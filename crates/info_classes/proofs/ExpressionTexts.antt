@@ -3,11 +3,10 @@ use Rattle.std.proofs.Common.{◌≡◌, ℕ, zero, suc, ◌+◌, ◌<◌, List,
 use Rattle.pol_cursor.specs.References.{Named}
 use Rattle.pol_bitmap.specs.declared.Node.{Node}
 use Rattle.pol_expr.specs.declared.Symbol.{Symbol}
-use Rattle.pol_expr.specs.Infix.{tree_text}
-use Rattle.pol_expr.specs.Trees.{trees_after}
+use Rattle.pol_expr.specs.Infix.{symbols_text}
 use Rattle.pol_constraints.specs.declared.Junction.{Junction}
 use Rattle.pol_constraints.specs.declared.ConstraintItem.{ConstraintItem}
-use Rattle.pol_constraints.specs.ConstraintMeaning.{constraint_words}
+use Rattle.pol_constraints.specs.ConstraintTexts.{comparison_text, constraint_text, constraint_words}
 use Rattle.pol_symbols.specs.declared.symbols.Symbols.{Symbols}
 use Rattle.pol_symbols.specs.PolicySymbols.{name_in}
 use Rattle.std.specs.Prelude.{◌&&◌, nat_eq, not}
@@ -17,7 +16,6 @@ use Rattle.std.proofs.lemmas.List.Elements.{All-get_or}
 use Rattle.std.proofs.lemmas.Option.{get_or_from_slice_get, slice_get-get_or, slice_get_within}
 use Rattle.info_classes.specs.declared.constraint_entry.ConstraintEntry.{ConstraintEntry}
 use Rattle.info_classes.specs.declared.expression_texts.ExpressionText.{ExpressionText}
-use Rattle.info_classes.specs.ConstraintTexts.{comparison_text, constraint_text}
 use Rattle.info_classes.specs.Inner.ExpressionTexts.{IsAlike, IsKept, IsTextOf, SayTheSame}
 
 -- ---- items
@@ -38,7 +36,7 @@ one_more item other items others one all = record { symbols = λ named. rw (one.
 
 pub same_text : (named : Named) (items others : List ConstraintItem) → SayTheSame items others → constraint_text named items ≡ constraint_text named others
 unfolding constraint_text
-same_text named items others same = ap (λ (ss : List (Symbol (List ℕ) Junction)). tree_text constraint_words (trees_after ss [])) (same.symbols named)
+same_text named items others same = ap (λ (ss : List (Symbol (List ℕ) Junction)). symbols_text constraint_words ss) (same.symbols named)
 
 text_within : (symbols : Symbols) (text : List ℕ) (entries : List ConstraintEntry) (number : ℕ) → IsTextOf symbols text (slice_get entries number) → number < length entries
 text_within symbols text [] number is = absurd is

@@ -1,3 +1,2 @@
-pub mod ConstraintTexts
 pub mod ListedRecords
 pub mod ExpressionTexts

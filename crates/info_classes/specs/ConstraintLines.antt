@@ -2,6 +2,7 @@
 use Rattle.std.specs.Prelude.{ℕ, ◌==◌, ◌&&◌, nat_eq, Bool, if◌then◌else◌, Option, option_map, List, [], ◌∷◌, ◌++◌, map, codes}
 use Rattle.std.specs.List.{flat_map, list_any}
 use Rattle.pol_cursor.specs.References.{Placed}
+use Rattle.pol_constraints.specs.declared.codes.TheConstants.{CEXPR_ATTR, CEXPR_L1L2, CEXPR_L1H2, CEXPR_H1L2, CEXPR_H1H2, CEXPR_L1H1, CEXPR_L2H2}
 use Rattle.pol_constraints.specs.declared.ConstraintItem.{ConstraintItem}
 use Rattle.pol_constraints.specs.declared.ConstraintRec.{ConstraintRec}
 use Rattle.pol_classes.specs.declared.ClassRec.{ClassRec}
@@ -12,16 +13,16 @@ use Rattle.info_classes.specs.declared.constraint_entry.ConstraintKind.{Constrai
 use Rattle.info_classes.specs.declared.constraint_entry.ConstraintKind.TheVariants.{OnPermissions, OnChange}
 use Rattle.info_classes.specs.declared.constraint_entry.ConstraintEntry.{ConstraintEntry}
 use Rattle.info_classes.specs.RecordOrder.{classes_listed}
-use Rattle.info_classes.specs.ConstraintTexts.{constraint_text}
+use Rattle.pol_constraints.specs.ConstraintTexts.{constraint_text}
 
 -- ---- parts of a line
 
--- what two sides are where they are levels: 32 l1l2, 64 l1h2, 128 h1l2, 256 h1h2, 512 l1h1, 1024 l2h2 (libsepol's CEXPR_L1L2 to CEXPR_L2H2)
+-- two sides are levels
 unfoldable pub is_level_pair : ℕ → Bool
-is_level_pair attr = list_any (nat_eq attr) (32 ∷ 64 ∷ 128 ∷ 256 ∷ 512 ∷ 1024 ∷ [])
+is_level_pair attr = list_any (nat_eq attr) (CEXPR_L1L2 ∷ CEXPR_L1H2 ∷ CEXPR_H1L2 ∷ CEXPR_H1H2 ∷ CEXPR_L1H1 ∷ CEXPR_L2H2 ∷ [])
 
 abbrev pub compares_levels : ConstraintItem → Bool
-compares_levels item = item.kind == 4 && is_level_pair item.attr
+compares_levels item = item.kind == CEXPR_ATTR && is_level_pair item.attr
 
 -- a constraint that compares levels is one of MLS (checkpolicy's mlsconstrain and mlsvalidatetrans)
 abbrev pub mls_word : List ConstraintItem → List ℕ

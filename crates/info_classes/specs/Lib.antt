@@ -1,5 +1,4 @@
 pub mod RecordOrder
-pub mod ConstraintTexts
 pub mod ConstraintLines
 pub mod DefaultLines
 pub mod BoundsLines

@@ -6,16 +6,19 @@ ghost use Rattle.pol_commons.specs.Permissions.{has_permission};
 ghost use Rattle.pol_symbols.specs.PolicySymbols.{name_in, permissions_of};
 ghost use Rattle.pol_texts.specs.NameLists.{with_name};
 ghost use Rattle.info_lines.specs.PermissionSets.{permissions_text};
-ghost use Rattle.info_classes.specs.ConstraintTexts.{constraint_text};
+ghost use Rattle.pol_constraints.specs.ConstraintTexts.{constraint_text};
 ghost use Rattle.info_classes.specs.ConstraintLines.{is_level_pair, compares_levels, mls_word, subject_text, constraint_line};
 
 use crate::constraint_entry::{ConstraintEntry, ConstraintKind};
 use info_lines::{insert_name, push_set};
 use pol_classes::ClassView;
 use pol_commons::{PermissionList, inherited_from};
+use pol_constraints::codes::{
+    CEXPR_ATTR, CEXPR_H1H2, CEXPR_H1L2, CEXPR_L1H1, CEXPR_L1H2, CEXPR_L1L2, CEXPR_L2H2,
+};
 use pol_constraints::{ConstraintItemView, ConstraintItems, ConstraintView};
 use pol_symbols::Symbols;
-use std::alloc::{AllocError, Global};
+use std::alloc::AllocError;
 
 /// Adds the line of a constraint of a kind, whose expression has the text that is given, if one is.
 #[tactic(auto, unfolding(crate::specs::ConstraintLines::constraint_line))]
@@ -63,16 +66,16 @@ fn some_compares_levels(items: ConstraintItems<'_>) -> bool
 fn compares_levels(item: &ConstraintItemView<'_>) -> bool
     ensures { result ≡ compares_levels item.now }
 {
-    item.kind() == 4 && is_level_pair(item.attr())
+    item.kind() == CEXPR_ATTR && is_level_pair(item.attr())
 }
 
-// Whether what two sides are is a level.
+// Whether two sides are levels.
 #[tactic(auto, unfolding(crate::specs::ConstraintLines::is_level_pair))]
 fn is_level_pair(attr: u32) -> bool
     ensures { result ≡ is_level_pair attr }
 {
     match attr {
-        32 | 64 | 128 | 256 | 512 | 1024 => true,
+        CEXPR_L1L2 | CEXPR_L1H2 | CEXPR_H1L2 | CEXPR_H1H2 | CEXPR_L1H1 | CEXPR_L2H2 => true,
         _ => false,
     }
 }
@@ -162,19 +165,6 @@ fn push_made(
 ) -> Result<(), AllocError>
     ensures { OnOk result (buffer.new.items ≡ buffer.old.items ++ constraint_text (name_in symbols.now) constraint.now.items) }
 {
-    let text = expression_text(*buffer.allocator(), symbols, constraint)?;
+    let text = constraint.infix(*buffer.allocator(), symbols)?;
     buffer.extend_from_slice(&text)
-}
-
-/// The text of the expression of a constraint.
-pub(crate) fn expression_text(
-    alloc: Global,
-    symbols: &Symbols<'_>,
-    constraint: &ConstraintView<'_>,
-) -> Result<Vec<u8>, AllocError>
-    ensures { IfOk result (λ text. text.items ≡ constraint_text (name_in symbols.now) constraint.now.items) }
-{
-    // the count's clause says that the items are an expression
-    let _ = constraint.len();
-    constraint.infix(alloc, symbols)
 }

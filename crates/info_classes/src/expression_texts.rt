@@ -3,11 +3,10 @@
 ghost use Rattle.std.specs.Prelude.{◌≡◌, ◌<◌, IsTrue, IfOk, IfSome, OnOk, length};
 ghost use Rattle.std.specs.List.{All};
 ghost use Rattle.pol_symbols.specs.PolicySymbols.{name_in};
-ghost use Rattle.info_classes.specs.ConstraintTexts.{constraint_text};
+ghost use Rattle.pol_constraints.specs.ConstraintTexts.{constraint_text};
 ghost use Rattle.info_classes.specs.Inner.ExpressionTexts.{IsKept, IsAlike, SayTheSame};
 
 use crate::constraint_entry::ConstraintEntry;
-use crate::constraint_parts::expression_text;
 use pol_bitmap::BitmapView;
 use pol_constraints::{ConstraintItemView, ConstraintItems, ConstraintView};
 use pol_symbols::Symbols;
@@ -56,7 +55,7 @@ fn keep_text(
     if texts.len() >= MOST || kept_text(texts, symbols, entries, constraint).is_some() {
         return Ok(());
     }
-    let text = expression_text(*texts.allocator(), symbols, constraint)?;
+    let text = constraint.infix(*texts.allocator(), symbols)?;
     if text.len() <= LONGEST {
         texts.push(ExpressionText { number, text })?;
     }

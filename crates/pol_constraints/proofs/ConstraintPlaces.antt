@@ -8,14 +8,15 @@ use Rattle.pol_cursor.specs.Parts.{num, number_if}
 use Rattle.pol_cursor.proofs.Laws.{and_then_got}
 use Rattle.pol_cursor.proofs.Facts.{number_if_is}
 use Rattle.pol_cursor.proofs.Lists.{Gave, Going, Going-start, Going-next}
+use Rattle.pol_constraints.specs.declared.codes.TheConstants.{CEXPR_MAXDEPTH}
 use Rattle.pol_constraints.specs.declared.constraint_rec.ConstraintItem.{ConstraintItem}
 use Rattle.pol_constraints.specs.declared.constraint_rec.TypeSet.{TypeSet}
 use Rattle.pol_bitmap.specs.declared.node.Node.{Node}
 use Rattle.pol_expr.specs.Postfix.{values_after, operands_test}
-use Rattle.pol_constraints.specs.ConstraintRecord.{constraint_limit, kind_operands, item_operands, kind_test, attr_test, op_test, sets_at, item_at, values_after_item, item_in, item_end, items_in, items_end, HasItem, HasItems}
+use Rattle.pol_constraints.specs.ConstraintRecord.{kind_operands, item_operands, kind_test, attr_test, op_test, sets_at, item_at, values_after_item, item_in, item_end, items_in, items_end, HasItem, HasItems}
 use Rattle.pol_expr.proofs.PostfixReading.{HasOperands, has_operands, guard_none, got_is}
 
-pub item_has_operands : (version : ℕ) (xtarget : Bool) (left values : ℕ) (bytes : List ℕ) (place : ℕ) (x : ConstraintItem) (next : ℕ) → item_at version xtarget left values bytes place ≡ Got x next → HasOperands constraint_limit left values (item_operands x)
+pub item_has_operands : (version : ℕ) (xtarget : Bool) (left values : ℕ) (bytes : List ℕ) (place : ℕ) (x : ConstraintItem) (next : ℕ) → item_at version xtarget left values bytes place ≡ Got x next → HasOperands CEXPR_MAXDEPTH left values (item_operands x)
 unfolding item_at
 item_has_operands version xtarget left values bytes place x next e =
     let made : ℕ → ℕ → ℕ → Option (List Node) × Option TypeSet → ConstraintItem = λ kind attr op sets. record { kind = kind; attr = attr; op = op; names = sets.0; type_set = sets.1 } in
@@ -25,8 +26,8 @@ item_has_operands version xtarget left values bytes place x next e =
     let f = and_then_got (sets_at version a.0 bytes d.1) (λ set p. Got (made a.0 b.0 d.0 set) p) x next d.3 in
     let g = got_is (made a.0 b.0 d.0 f.0) f.1 x next f.3 in
     let k = number_if_is CONSTRAINT_KIND 4 (kind_test left values) bytes place a.0 a.1 a.2 in
-    let t = guard_none (nat_le 1 a.0 && nat_le a.0 5) (operands_test constraint_limit left values (kind_operands a.0)) BadKind k.3 in
-    subst (λ (y : ConstraintItem). HasOperands constraint_limit left values (item_operands y)) g.0 (has_operands constraint_limit left values (kind_operands a.0) t.1)
+    let t = guard_none (nat_le 1 a.0 && nat_le a.0 5) (operands_test CEXPR_MAXDEPTH left values (kind_operands a.0)) BadKind k.3 in
+    subst (λ (y : ConstraintItem). HasOperands CEXPR_MAXDEPTH left values (item_operands y)) g.0 (has_operands CEXPR_MAXDEPTH left values (kind_operands a.0) t.1)
 
 -- ---- the items that stand there, one by one
 

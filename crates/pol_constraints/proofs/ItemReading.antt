@@ -10,19 +10,20 @@ use Rattle.pol_fields.specs.declared.fault.Cause.{Cause}
 use Rattle.pol_fields.specs.declared.fault.Cause.TheVariants.{BadKind}
 use Rattle.pol_cursor.proofs.Facts.{number_is}
 use Rattle.pol_cursor.proofs.Lists.{Gave}
+use Rattle.pol_constraints.specs.declared.codes.TheConstants.{CEXPR_MAXDEPTH}
 use Rattle.pol_constraints.specs.declared.constraint_rec.ConstraintItem.{ConstraintItem}
 use Rattle.pol_constraints.specs.declared.constraint_rec.TypeSet.{TypeSet}
 use Rattle.pol_bitmap.specs.declared.node.Node.{Node}
 use Rattle.pol_expr.specs.Postfix.{operands_test}
 use Rattle.pol_expr.proofs.PostfixReading.{guard_none}
-use Rattle.pol_constraints.specs.ConstraintRecord.{constraint_limit, kind_operands, kind_test, attr_test, op_test, sets_at, item_at, item_in, item_end, names_in, types_in, sets_end, HasSets, HasItem}
+use Rattle.pol_constraints.specs.ConstraintRecord.{kind_operands, kind_test, attr_test, op_test, sets_at, item_at, item_in, item_end, names_in, types_in, sets_end, HasSets, HasItem}
 
 -- a number that was read and meets its conditions
 kept : (d : Field) (test : ℕ → Option Cause) (o : Outcome ℕ) (place n next : ℕ) → o ≡ Got n next → test n ≡ None → and_then o (λ x m. judged (test x) d x place m) ≡ Got n next
 kept d test o place n next e t = ap (λ (o : Outcome ℕ). and_then o (λ x m. judged (test x) d x place m)) e ∙ ap (λ (t : Option Cause). judged t d n place next) t
 
 kind_known : (left values kind : ℕ) → kind_test left values kind ≡ None → 1 ≤ kind
-kind_known left values kind e = let known = (guard_none (nat_le 1 kind && nat_le kind 5) (operands_test constraint_limit left values (kind_operands kind)) BadKind e).0 in grind (arith, nat_tests)
+kind_known left values kind e = let known = (guard_none (nat_le 1 kind && nat_le kind 5) (operands_test CEXPR_MAXDEPTH left values (kind_operands kind)) BadKind e).0 in grind (arith, nat_tests)
 
 pub record IsItemRead (version : ℕ) (xtarget : Bool) (left values : ℕ) (first last : Position) (kind : ℕ) : Type 0 where
   pub exact : Gave (item_at version xtarget left values) (item_in version first.bytes first.place) first last

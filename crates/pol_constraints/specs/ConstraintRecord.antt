@@ -3,7 +3,7 @@ use Rattle.std.specs.Prelude.{◌≡◌, ℕ, zero, suc, ◌+◌, ◌^◌, ◌<�
 use Rattle.pol_fields.specs.declared.limits.TheConstants.{MAX_POLICY_BYTES}
 use Rattle.std.specs.List.{flat_map, list_any, AllByRecursion}
 use Rattle.pol_fields.specs.declared.fault.Cause.{Cause}
-use Rattle.pol_fields.specs.declared.fault.Cause.TheVariants.{BadKind, BadAttr, BadOp}
+use Rattle.pol_fields.specs.declared.fault.Cause.TheVariants.{BadAttr, BadOp}
 use Rattle.pol_fields.specs.declared.fields.TheConstants.{CONSTRAINT_PERMISSIONS, CONSTRAINT_NEXPR, CONSTRAINT_KIND, CONSTRAINT_ATTR, CONSTRAINT_OP, CONSTRAINT_FLAGS}
 use Rattle.pol_cursor.specs.Outcome.{Reader, ◌>>=◌, done}
 use Rattle.pol_cursor.specs.Parts.{num, number, number_if, list_of, optional, spell_optional, OptionFits, unless}
@@ -14,49 +14,53 @@ use Rattle.pol_bitmap.specs.Nodes.{bitmap_in, bitmap_size, HasBitmap}
 use Rattle.pol_constraints.specs.declared.constraint_rec.ConstraintItem.{ConstraintItem}
 use Rattle.pol_constraints.specs.declared.constraint_rec.ConstraintRec.{ConstraintRec}
 use Rattle.pol_constraints.specs.declared.constraint_rec.TypeSet.{TypeSet}
-use Rattle.pol_expr.specs.Postfix.{values_after, operands_test, item_count_test, IsPostfix}
+use Rattle.pol_constraints.specs.declared.codes.TheConstants.{CEXPR_NOT, CEXPR_AND, CEXPR_OR, CEXPR_ATTR, CEXPR_NAMES, CEXPR_MAXDEPTH}
+use Rattle.pol_constraints.specs.declared.codes.TheConstants.{CEXPR_USER, CEXPR_ROLE, CEXPR_TYPE, CEXPR_TARGET, CEXPR_XTARGET, CEXPR_L1L2, CEXPR_L1H2, CEXPR_H1L2, CEXPR_H1H2, CEXPR_L1H1, CEXPR_L2H2}
+use Rattle.pol_constraints.specs.declared.codes.TheConstants.{CEXPR_EQ, CEXPR_NEQ, CEXPR_INCOMP}
+use Rattle.pol_expr.specs.Postfix as postfix
+use Rattle.pol_expr.specs.Postfix.{values_after, item_count_test, IsExpression}
 
 -- ---- the conditions of its fields
 
--- libsepol's CEXPR_MAXDEPTH
-abbrev pub constraint_limit : ℕ
-constraint_limit = 5
-
--- how many operands an item has: kind 1 is not, 2 and 3 stand between two operands, 4 and 5 are leaves
+-- how many operands an item of a kind has: not one, and and or stand between two, and every other has none
 abbrev pub kind_operands : ℕ → ℕ
-kind_operands kind = if kind == 1 then 1 else if nat_le kind 3 then 2 else 0
+kind_operands kind = if kind == CEXPR_NOT then 1 else if kind == CEXPR_AND || kind == CEXPR_OR then 2 else 0
 
 abbrev pub item_operands : ConstraintItem → ℕ
 item_operands item = kind_operands item.kind
 
--- The kinds are 1 to 5.
 abbrev pub kind_test : ℕ → ℕ → ℕ → Option Cause
-kind_test left values kind = if nat_le 1 kind && nat_le kind 5 then operands_test constraint_limit left values (kind_operands kind) else Some BadKind
+kind_test left values kind = postfix.kind_test CEXPR_NOT CEXPR_NAMES kind_operands CEXPR_MAXDEPTH left values kind
 
--- what two sides of a comparison are: 1 user, 2 role, 4 type, and levels: 32 l1l2, 64 l1h2, 128 h1l2, 256 h1h2, 512 l1h1, 1024 l2h2
+-- what two sides of a comparison are: users, roles, types or levels
 abbrev pub is_pair : ℕ → Bool
-is_pair attr = list_any (nat_eq attr) (1 ∷ 2 ∷ 4 ∷ 32 ∷ 64 ∷ 128 ∷ 256 ∷ 512 ∷ 1024 ∷ [])
+is_pair attr =
+    list_any (nat_eq attr) (CEXPR_USER ∷ CEXPR_ROLE ∷ CEXPR_TYPE ∷ CEXPR_L1L2 ∷ CEXPR_L1H2 ∷ CEXPR_H1L2 ∷ CEXPR_H1H2 ∷ CEXPR_L1H1 ∷ CEXPR_L2H2 ∷ [])
 
--- what is looked for among names: 1 user, 2 role, 4 type, of the source, with 8 of the target, and with 16 of the third context
+-- a user, role or type of the context for which this is added, which is 0 for the source
+abbrev pub is_part_of : ℕ → ℕ → Bool
+is_part_of context attr = list_any (nat_eq attr) ((CEXPR_USER + context) ∷ (CEXPR_ROLE + context) ∷ (CEXPR_TYPE + context) ∷ [])
+
+-- what is looked for among names: a part of the source, of the target, or, where it is allowed, of the third context
 abbrev pub is_side : Bool → ℕ → Bool
-is_side xtarget attr = list_any (nat_eq attr) (1 ∷ 2 ∷ 4 ∷ 9 ∷ 10 ∷ 12 ∷ []) || (xtarget && list_any (nat_eq attr) (17 ∷ 18 ∷ 20 ∷ []))
+is_side xtarget attr = is_part_of 0 attr || is_part_of CEXPR_TARGET attr || (xtarget && is_part_of CEXPR_XTARGET attr)
 
 abbrev pub attr_test : Bool → ℕ → ℕ → Option Cause
-attr_test xtarget kind attr = unless (if kind == 4 then is_pair attr else if kind == 5 then is_side xtarget attr else true) BadAttr
+attr_test xtarget kind attr = unless (if kind == CEXPR_ATTR then is_pair attr else if kind == CEXPR_NAMES then is_side xtarget attr else true) BadAttr
 
--- 1 equal and 2 not equal; two sides also 3 dom, 4 domby and 5 incomp
+-- Two sides are compared in all five ways, and a side with names by the first two.
 abbrev pub op_test : ℕ → ℕ → Option Cause
-op_test kind op = unless (if kind == 4 then nat_le 1 op && nat_le op 5 else if kind == 5 then nat_le 1 op && nat_le op 2 else true) BadOp
+op_test kind op =
+    unless (if kind == CEXPR_ATTR then nat_le CEXPR_EQ op && nat_le op CEXPR_INCOMP else if kind == CEXPR_NAMES then nat_le CEXPR_EQ op && nat_le op CEXPR_NEQ else true) BadOp
 
 -- ---- reading and spelling
 
--- an item with names has the kind 5 (libsepol's CEXPR_NAMES)
 abbrev pub has_names : ℕ → Bool
-has_names kind = kind == 5
+has_names kind = kind == CEXPR_NAMES
 
 -- From version 29 on the names have behind them the types and attributes that they were written with.
 abbrev pub has_type_set : ℕ → ℕ → Bool
-has_type_set version kind = kind == 5 && nat_le 29 version
+has_type_set version kind = kind == CEXPR_NAMES && nat_le 29 version
 
 unfoldable pub type_set_at : Reader TypeSet
 type_set_at = do
@@ -108,7 +112,7 @@ pub record TypeSetFits (set : TypeSet) : Type 0 where
   pub negated : BitmapFits set.negated
   pub flags : set.flags < 2 ^ 32
 
--- The numbers of an item fit their fields, and it has names exactly where its kind is 5, and a type set where in such an item
+-- The numbers of an item fit their fields, and it has names exactly where its kind is CEXPR_NAMES, and a type set where in such an item
 -- the version is 29 or later.
 pub record ItemFits (version : ℕ) (item : ConstraintItem) : Type 0 where
   pub kind : item.kind < 2 ^ 32
@@ -178,7 +182,7 @@ HasTypeSet bytes place = HasBitmap bytes place × HasBitmap bytes (negated_place
 
 -- the names of an item of a kind stand there, and its type set behind them
 unfoldable pub HasSets : ℕ → ℕ → List ℕ → ℕ → Type 0
-HasSets version kind bytes place = (kind ≡ 5 → HasBitmap bytes place) × (has_type_set version kind ≡ true → HasTypeSet bytes (place + bitmap_size bytes place))
+HasSets version kind bytes place = (kind ≡ CEXPR_NAMES → HasBitmap bytes place) × (has_type_set version kind ≡ true → HasTypeSet bytes (place + bitmap_size bytes place))
 
 -- an item of a kind stands there, with its names where it has some
 abbrev pub HasItem : ℕ → List ℕ → ℕ → Type 0
@@ -189,11 +193,11 @@ HasItems version bytes place zero = Unit {0}
 HasItems version bytes place (suc n) = HasItem version bytes place × HasItems version bytes (item_end version bytes place) n
 
 -- The items of a constraint make one value.
-abbrev pub IsExpression : List ConstraintItem → Type 0
-IsExpression items = IsPostfix item_operands constraint_limit 0 items
+abbrev pub IsConstraint : List ConstraintItem → Type 0
+IsConstraint items = IsExpression item_operands CEXPR_MAXDEPTH items
 
 -- a constraint stands there, in a buffer of a policy's size
 abbrev pub HasConstraint : ℕ → List ℕ → ℕ → Type 0
 HasConstraint version bytes place =
     (place + 8 ≤ length bytes) × (length bytes ≤ MAX_POLICY_BYTES) × HasItems version bytes (place + 8) (num bytes (place + 4) 4)
-    × IsExpression (items_in version bytes (place + 8) (num bytes (place + 4) 4))
+    × IsConstraint (items_in version bytes (place + 8) (num bytes (place + 4) 4))

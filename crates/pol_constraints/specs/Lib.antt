@@ -1,2 +1,2 @@
 pub mod ConstraintRecord
-pub mod ConstraintMeaning
+pub mod ConstraintTexts

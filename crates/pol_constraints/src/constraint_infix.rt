@@ -1,14 +1,13 @@
 //! The text of a constraint.
 
-ghost use Rattle.std.specs.Prelude.{◌≡◌, ◌≤◌, ℕ, List, IfOk, OnOk, reverse, vec_len};
-ghost use Rattle.pol_expr.specs.declared.Symbol.{Symbol};
+ghost use Rattle.std.specs.Prelude.{◌≡◌, ◌≤◌, IfOk, OnOk, reverse, vec_len};
 ghost use Rattle.pol_expr.specs.declared.Symbol.TheVariants as symbols;
-ghost use Rattle.pol_constraints.specs.declared.junction.Junction.{Junction};
 ghost use Rattle.pol_expr.specs.Trees.{applied};
 ghost use Rattle.pol_expr.specs.Infix.{leaf_operand, negated_operand, joined_operands};
 ghost use Rattle.pol_constraints.specs.ConstraintRecord.{item_operands};
-ghost use Rattle.pol_constraints.specs.ConstraintMeaning.{IsConstraintText, IsSymbol, constraint_words};
+ghost use Rattle.pol_constraints.specs.ConstraintTexts.{constraint_symbol, constraint_text, constraint_words};
 
+use crate::codes::{CEXPR_AND, CEXPR_NOT, CEXPR_OR};
 use crate::constraint_item::ConstraintItemView;
 use crate::constraint_text::leaf_text;
 use crate::constraint_view::ConstraintView;
@@ -23,7 +22,7 @@ impl<'a> ConstraintView<'a> {
     ///
     /// Names stand in the order of their bytes, and those that no record declares are left out.
     pub fn infix<N: Names>(&self, alloc: Global, names: &N) -> Result<Vec<u8>, AllocError>
-        ensures { IfOk result (λ text. IsConstraintText (N.named names.now) self.now.items text.items) }
+        ensures { IfOk result (λ text. text.items ≡ constraint_text (N.named names.now) self.now.items) }
     {
         let mut operands = Vec::new(alloc);
         for item in self.items() {
@@ -41,12 +40,12 @@ fn apply<N: Names>(
     operands: &mut Vec<Operand>,
 ) -> Result<(), AllocError>
     requires { item_operands item.now ≤ vec_len operands.old }
-    ensures { OnOk result ((symbol : Symbol (List ℕ) Junction) × IsSymbol (N.named names.now) item.now symbol × (reverse operands.new.items ≡ applied (leaf_operand constraint_words) (negated_operand constraint_words) (joined_operands constraint_words) symbol (reverse operands.old.items))) }
+    ensures { OnOk result (reverse operands.new.items ≡ applied (leaf_operand constraint_words) (negated_operand constraint_words) (joined_operands constraint_words) (constraint_symbol (N.named names.now) item.now) (reverse operands.old.items)) }
 {
     match item.kind() {
-        1 => negate(operands),
-        2 => join(operands, Junction::And),
-        3 => join(operands, Junction::Or),
+        CEXPR_NOT => negate(operands),
+        CEXPR_AND => join(operands, Junction::And),
+        CEXPR_OR => join(operands, Junction::Or),
         _ => {
             operands.push(Operand::from_text(leaf_text(alloc, item, names)?))?;
             Ok(())

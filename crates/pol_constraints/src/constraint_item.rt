@@ -1,8 +1,11 @@
+//! The items of a constraint in the buffer.
+
 ghost use Rattle.std.specs.Prelude.{◌≡◌, ◌≤◌, IfOk, length};
 ghost use Rattle.pol_fields.specs.declared.limits.TheConstants.{MAX_POLICY_BYTES};
 ghost use Rattle.std.specs.Iterator.{YieldsFirst, item_count};
 ghost use Rattle.pol_constraints.specs.ConstraintRecord.{item_in, items_in, HasItem, HasItems};
 
+use crate::codes::CEXPR_NAMES;
 use crate::constraint_places::{bitmap_end, item_end};
 use crate::constraint_reading::TYPE_SETS;
 use crate::constraint_rec::ConstraintItem;
@@ -47,7 +50,7 @@ impl<'a> ConstraintItemView<'a> {
         }
     }
 
-    /// 1 is not; 2 and, 3 or stand between two operands; 4 compares two attributes, 5 an attribute with names.
+    /// What it is, `CEXPR_NOT` to `CEXPR_NAMES` of [`codes`](crate::codes).
     pub fn kind(&self) -> u32
         ensures exact { result ≡ self.now.kind }
         ensures known { 1 ≤ result }
@@ -55,38 +58,38 @@ impl<'a> ConstraintItemView<'a> {
         u32_in(self.bytes, self.place as usize)
     }
 
-    /// What is compared. It has no meaning for the kinds 1 to 3.
+    /// What is compared, by [`codes`](crate::codes). It has no meaning in an operator.
     pub fn attr(&self) -> u32
         ensures { result ≡ self.now.attr }
     {
         u32_in(self.bytes, self.place as usize + 4)
     }
 
-    /// 1 equal, 2 not equal, 3 dom, 4 domby, 5 incomp. It has no meaning for the kinds 1 to 3.
+    /// How it is compared, `CEXPR_EQ` to `CEXPR_INCOMP` of [`codes`](crate::codes). It has no meaning in an operator.
     pub fn op(&self) -> u32
         ensures { result ≡ self.now.op }
     {
         u32_in(self.bytes, self.place as usize + 8)
     }
 
-    /// The names, where the kind is 5: bit v - 1 stands for the user, role or type of value v.
+    /// The names, where the kind is [`CEXPR_NAMES`]: bit v - 1 stands for the user, role or type of value v.
     #[tactic(auto, unfolding(crate::specs::ConstraintRecord::names_in, crate::specs::ConstraintRecord::HasSets))]
     pub fn names(&self) -> Option<BitmapView<'a>>
         ensures { result ≡ self.now.names }
     {
-        if self.kind() == 5 {
+        if self.kind() == CEXPR_NAMES {
             Some(BitmapView::at(self.bytes, self.place + 12))
         } else {
             None
         }
     }
 
-    /// How the names were written, where the kind is 5 and the version is 29 or later.
+    /// How the names were written, where the kind is [`CEXPR_NAMES`] and the version is 29 or later.
     #[tactic(auto, unfolding(crate::specs::ConstraintRecord::types_in, crate::specs::ConstraintRecord::HasSets))]
     pub fn type_set(&self) -> Option<TypeSetView<'a>>
         ensures { result ≡ self.now.type_set }
     {
-        if self.kind() != 5 || self.version < TYPE_SETS {
+        if self.kind() != CEXPR_NAMES || self.version < TYPE_SETS {
             return None;
         }
         let place = bitmap_end(self.bytes, self.place + 12);

@@ -5,6 +5,7 @@ ghost use Rattle.pol_fields.specs.declared.limits.TheConstants.{MAX_POLICY_BYTES
 ghost use Rattle.pol_bitmap.specs.Nodes.{bitmap_size, HasBitmap};
 ghost use Rattle.pol_constraints.specs.ConstraintRecord.{flags_place, type_set_end, item_end, constraint_end, HasTypeSet, HasItem, HasConstraint};
 
+use crate::codes::CEXPR_NAMES;
 use crate::constraint_reading::TYPE_SETS;
 use pol_bitmap::BitmapView;
 use pol_cursor::u32_in;
@@ -29,7 +30,7 @@ pub fn item_end(bytes: &[u8], place: u32, version: u32) -> u32
     requires small { length bytes.now ≤ MAX_POLICY_BYTES }
     ensures { result ≡ item_end version bytes.now place }
 {
-    if u32_in(bytes, place as usize) != 5 {
+    if u32_in(bytes, place as usize) != CEXPR_NAMES {
         return place + 12;
     }
     let end = bitmap_end(bytes, place + 12);

@@ -1,9 +1,13 @@
+//! A constraint, as it is read.
+
 ghost use Rattle.std.specs.Prelude.{◌≡◌, ◌==◌, ◌≤◌, IfOk, OnOk, length};
 ghost use Rattle.pol_cursor.specs.Outcome.{Answers};
 ghost use Rattle.pol_cursor.specs.Parts.{num, optional};
 ghost use Rattle.pol_expr.specs.Postfix.{values_after};
-ghost use Rattle.pol_constraints.specs.ConstraintRecord.{type_set_at, type_set_in, type_set_end, sets_at, names_in, types_in, names_end, sets_end, item_at, item_in, item_end, items_at, items_in, items_end, kind_operands, HasTypeSet, HasSets, HasItem, HasItems, IsExpression};
+ghost use Rattle.pol_constraints.specs.declared.codes.TheConstants.{CEXPR_MAXDEPTH};
+ghost use Rattle.pol_constraints.specs.ConstraintRecord.{type_set_at, type_set_in, type_set_end, sets_at, names_in, types_in, names_end, sets_end, item_at, item_in, item_end, items_at, items_in, items_end, kind_operands, HasTypeSet, HasSets, HasItem, HasItems, IsConstraint};
 
+use crate::codes::CEXPR_NAMES;
 use crate::constraint_causes::{attr_cause, kind_cause, kind_operands, op_cause};
 use pol_bitmap::BitmapView;
 use pol_cursor::{Cursor, refuse};
@@ -34,7 +38,7 @@ fn pass_sets(c: &mut Cursor<'_>, version: u32, kind: u32) -> Result<(), Fault>
     ensures long { OnOk result (c.old.place ≤ length c.old.bytes → c.new.place ≤ length c.old.bytes) }
     ensures has { OnOk result (HasSets version kind c.old.bytes c.old.place) }
 {
-    if kind != 5 {
+    if kind != CEXPR_NAMES {
         return Ok(());
     }
     BitmapView::read(c)?;
@@ -53,11 +57,11 @@ pub fn pass_item(
     left: u32,
     values: u32,
 ) -> Result<u32, Fault>
-    requires { values ≤ 5 }
+    requires { values ≤ CEXPR_MAXDEPTH }
     ensures exact { Answers (λ _. item_in version c.old.bytes c.old.place) result (item_at version xtarget left values) c.old c.new }
     ensures next { OnOk result (c.new.place ≡ item_end version c.old.bytes c.old.place) }
     ensures has { OnOk result (HasItem version c.old.bytes c.old.place) }
-    ensures values { IfOk result (λ after. (after ≡ values_after values (kind_operands (num c.old.bytes c.old.place 4))) × (after ≤ 5)) }
+    ensures values { IfOk result (λ after. (after ≡ values_after values (kind_operands (num c.old.bytes c.old.place 4))) × (after ≤ CEXPR_MAXDEPTH)) }
 {
     let place = c.place();
     let kind = c.u32(CONSTRAINT_KIND)?;
@@ -76,7 +80,7 @@ pub fn pass_item(
 /// Reads the items and keeps nothing of them.
 pub fn pass_items(c: &mut Cursor<'_>, version: u32, xtarget: bool, count: u32) -> Result<(), Fault>
     ensures exact { Answers (λ _. items_in version c.old.bytes c.old.place count) result (items_at version xtarget count) c.old c.new }
-    ensures expression { OnOk result (1 ≤ count → IsExpression (items_in version c.old.bytes c.old.place count)) }
+    ensures expression { OnOk result (1 ≤ count → IsConstraint (items_in version c.old.bytes c.old.place count)) }
     ensures next { OnOk result (c.new.place ≡ items_end version c.old.bytes c.old.place count) }
     ensures has { OnOk result (HasItems version c.old.bytes c.old.place count) }
 {

@@ -1,3 +1,5 @@
+//! A constraint, owned.
+
 use pol_bitmap::Set;
 use pol_cursor::OwnedList;
 
@@ -16,15 +18,15 @@ pub struct ConstraintRec {
 /// An item of a constraint.
 #[derive(Drop)]
 pub struct ConstraintItem {
-    /// 1 is not; 2 and, 3 or stand between two operands; 4 compares two attributes, 5 an attribute with names.
+    /// What it is, `CEXPR_NOT` to `CEXPR_NAMES` of [`codes`](crate::codes).
     pub kind: u32,
-    /// What is compared. It has no meaning for the kinds 1 to 3.
+    /// What is compared, by [`codes`](crate::codes). It has no meaning in an operator.
     pub attr: u32,
-    /// 1 equal, 2 not equal, 3 dom, 4 domby, 5 incomp. It has no meaning for the kinds 1 to 3.
+    /// How it is compared, `CEXPR_EQ` to `CEXPR_INCOMP` of [`codes`](crate::codes). It has no meaning in an operator.
     pub op: u32,
-    /// The names, where the kind is 5: bit v - 1 stands for the user, role or type of value v.
+    /// The names, where the kind is `CEXPR_NAMES`: bit v - 1 stands for the user, role or type of value v.
     pub names: Option<Set>,
-    /// How the names were written, where the kind is 5 and the version is 29 or later.
+    /// How the names were written, where the kind is `CEXPR_NAMES` and the version is 29 or later.
     pub type_set: Option<TypeSet>,
 }
 

@@ -2,9 +2,14 @@
 
 ghost use Rattle.std.specs.Prelude.{◌≡◌, ◌+◌, ℕ, IfOk, map, option_map};
 ghost use Rattle.pol_bitmap.specs.Nodes.{bits_of};
-ghost use Rattle.pol_constraints.specs.ConstraintMeaning.{left_word, right_word, side_word, side_table, op_word, name_of_bit, names_of, IsSetText, IsLeafText};
+ghost use Rattle.pol_constraints.specs.ConstraintTexts.{left_word, right_word, side_word, side_table, op_word, name_of_bit, names_of, bit_names_text, comparison_text};
 ghost use Rattle.pol_texts.specs.SetTexts.{set_text};
 
+use crate::codes::{
+    CEXPR_DOM, CEXPR_DOMBY, CEXPR_EQ, CEXPR_H1H2, CEXPR_H1L2, CEXPR_L1H1, CEXPR_L1H2, CEXPR_L1L2,
+    CEXPR_NEQ, CEXPR_ROLE, CEXPR_TYPE, CEXPR_USER, TARGET_ROLE, TARGET_TYPE, TARGET_USER,
+    XTARGET_ROLE, XTARGET_USER,
+};
 use crate::constraint_item::ConstraintItemView;
 use pol_bitmap::BitmapView;
 use pol_cursor::Names;
@@ -18,7 +23,7 @@ pub fn leaf_text<N: Names>(
     item: &ConstraintItemView<'_>,
     names: &N,
 ) -> Result<Vec<u8>, AllocError>
-    ensures { IfOk result (λ text. IsLeafText (N.named names.now) item.now text.items) }
+    ensures { IfOk result (λ text. text.items ≡ comparison_text (N.named names.now) item.now item.now.names) }
 {
     let attr = item.attr();
     let op = op_word(item.op());
@@ -30,7 +35,7 @@ pub fn leaf_text<N: Names>(
             text.extend_from_slice(right_word(attr))?;
         }
         Some(listed) => {
-            let names = set_text(alloc, side_table(attr), &listed, names)?;
+            let names = bit_names_text(alloc, side_table(attr), &listed, names)?;
             text.extend_from_slice(side_word(attr))?;
             text.extend_from_slice(op)?;
             text.extend_from_slice(&names)?;
@@ -41,13 +46,13 @@ pub fn leaf_text<N: Names>(
 
 // The declared names that the bits of a bitmap stand for, in order of their bytes: one is itself, and otherwise they stand in
 // braces.
-fn set_text<N: Names>(
+fn bit_names_text<N: Names>(
     alloc: Global,
     table: TableKind,
     bitmap: &BitmapView<'_>,
     names: &N,
 ) -> Result<Vec<u8>, AllocError>
-    ensures { IfOk result (λ text. IsSetText (N.named names.now) table (bits_of bitmap.now) text.items) }
+    ensures { IfOk result (λ text. text.items ≡ bit_names_text (N.named names.now) table (bits_of bitmap.now)) }
 {
     let mut declared = names_of(alloc, table, bitmap, names)?;
     declared.sort()?;
@@ -92,11 +97,11 @@ fn left_word(attr: u32) -> &'static [u8]
     ensures { result.now ≡ left_word attr }
 {
     match attr {
-        1 => b"u1",
-        2 => b"r1",
-        4 => b"t1",
-        32 | 64 | 512 => b"l1",
-        128 | 256 => b"h1",
+        CEXPR_USER => b"u1",
+        CEXPR_ROLE => b"r1",
+        CEXPR_TYPE => b"t1",
+        CEXPR_L1L2 | CEXPR_L1H2 | CEXPR_L1H1 => b"l1",
+        CEXPR_H1L2 | CEXPR_H1H2 => b"h1",
         _ => b"l2",
     }
 }
@@ -105,11 +110,11 @@ fn right_word(attr: u32) -> &'static [u8]
     ensures { result.now ≡ right_word attr }
 {
     match attr {
-        1 => b"u2",
-        2 => b"r2",
-        4 => b"t2",
-        32 | 128 => b"l2",
-        512 => b"h1",
+        CEXPR_USER => b"u2",
+        CEXPR_ROLE => b"r2",
+        CEXPR_TYPE => b"t2",
+        CEXPR_L1L2 | CEXPR_H1L2 => b"l2",
+        CEXPR_L1H1 => b"h1",
         _ => b"h2",
     }
 }
@@ -118,14 +123,14 @@ fn side_word(attr: u32) -> &'static [u8]
     ensures { result.now ≡ side_word attr }
 {
     match attr {
-        1 => b"u1",
-        2 => b"r1",
-        4 => b"t1",
-        9 => b"u2",
-        10 => b"r2",
-        12 => b"t2",
-        17 => b"u3",
-        18 => b"r3",
+        CEXPR_USER => b"u1",
+        CEXPR_ROLE => b"r1",
+        CEXPR_TYPE => b"t1",
+        TARGET_USER => b"u2",
+        TARGET_ROLE => b"r2",
+        TARGET_TYPE => b"t2",
+        XTARGET_USER => b"u3",
+        XTARGET_ROLE => b"r3",
         _ => b"t3",
     }
 }
@@ -134,8 +139,8 @@ fn side_table(attr: u32) -> TableKind
     ensures { result ≡ side_table attr }
 {
     match attr {
-        1 | 9 | 17 => TableKind::Users,
-        2 | 10 | 18 => TableKind::Roles,
+        CEXPR_USER | TARGET_USER | XTARGET_USER => TableKind::Users,
+        CEXPR_ROLE | TARGET_ROLE | XTARGET_ROLE => TableKind::Roles,
         _ => TableKind::Types,
     }
 }
@@ -144,10 +149,10 @@ fn op_word(op: u32) -> &'static [u8]
     ensures { result.now ≡ op_word op }
 {
     match op {
-        1 => b" == ",
-        2 => b" != ",
-        3 => b" dom ",
-        4 => b" domby ",
+        CEXPR_EQ => b" == ",
+        CEXPR_NEQ => b" != ",
+        CEXPR_DOM => b" dom ",
+        CEXPR_DOMBY => b" domby ",
         _ => b" incomp ",
     }
 }

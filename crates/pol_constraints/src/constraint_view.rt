@@ -1,6 +1,8 @@
+//! The expression of a constraint in the buffer.
+
 ghost use Rattle.std.specs.Prelude.{◌≡◌, ◌<◌, IfOk, OnOk, Some, length, slice_get, option_map};
 ghost use Rattle.pol_cursor.specs.Outcome.{Answers};
-ghost use Rattle.pol_constraints.specs.ConstraintRecord.{constraint_at, constraint_in, constraint_end, HasConstraint, IsExpression};
+ghost use Rattle.pol_constraints.specs.ConstraintRecord.{constraint_at, constraint_in, constraint_end, HasConstraint, IsConstraint};
 
 use crate::constraint_item::{ConstraintItemView, ConstraintItems};
 use crate::constraint_reading::pass_items;
@@ -56,7 +58,7 @@ impl<'a> ConstraintView<'a> {
     #[tactic(auto, using(crate::proofs::ConstraintPlaces::length_items_in))]
     pub fn len(&self) -> u32
         ensures all { result ≡ length self.now.items }
-        ensures expression { IsExpression self.now.items }
+        ensures expression { IsConstraint self.now.items }
     {
         u32_in(self.bytes, self.place as usize + 4)
     }
@@ -64,7 +66,7 @@ impl<'a> ConstraintView<'a> {
     /// The items, in their order. They make one value.
     pub fn items(&self) -> ConstraintItems<'a>
         ensures all { result ≡ self.now.items }
-        ensures expression { IsExpression self.now.items }
+        ensures expression { IsConstraint self.now.items }
     {
         let count = u32_in(self.bytes, self.place as usize + 4);
         ConstraintItems::at(self.bytes, self.place + 8, self.version, count)
@@ -83,7 +85,7 @@ impl<'a> ConstraintView<'a> {
         items.next().unwrap()
     }
 
-    /// The kind of the item of that number: 1 not, 2 and, 3 or, 4 two attributes, 5 names.
+    /// The kind of the item of that number, `CEXPR_NOT` to `CEXPR_NAMES` of [`codes`](crate::codes).
     pub fn kind(&self, i: u32) -> u32
         requires { i < length self.now.items }
         ensures { option_map (λ item. item.kind) (slice_get self.now.items i) ≡ Some result }
@@ -91,7 +93,7 @@ impl<'a> ConstraintView<'a> {
         self.item(i).kind()
     }
 
-    /// What the item of that number compares. It has no meaning where the kind is 1 to 3.
+    /// What the item of that number compares, by [`codes`](crate::codes). It has no meaning in an operator.
     pub fn attr(&self, i: u32) -> u32
         requires { i < length self.now.items }
         ensures { option_map (λ item. item.attr) (slice_get self.now.items i) ≡ Some result }
@@ -99,8 +101,8 @@ impl<'a> ConstraintView<'a> {
         self.item(i).attr()
     }
 
-    /// How the item of that number compares: 1 equal, 2 not equal, 3 dom, 4 domby, 5 incomp. It has no meaning where the kind
-    /// is 1 to 3.
+    /// How the item of that number compares, `CEXPR_EQ` to `CEXPR_INCOMP` of [`codes`](crate::codes). It has no meaning in an
+    /// operator.
     pub fn op(&self, i: u32) -> u32
         requires { i < length self.now.items }
         ensures { option_map (λ item. item.op) (slice_get self.now.items i) ≡ Some result }
@@ -108,7 +110,7 @@ impl<'a> ConstraintView<'a> {
         self.item(i).op()
     }
 
-    /// The names of the item of that number, where its kind is 5: bit v - 1 stands for the user, role or type of value v.
+    /// The names of the item of that number, where its kind is `CEXPR_NAMES`: bit v - 1 stands for the user, role or type of value v.
     pub fn names(&self, i: u32) -> Option<BitmapView<'a>>
         requires { i < length self.now.items }
         ensures { option_map (λ item. item.names) (slice_get self.now.items i) ≡ Some result }
@@ -116,7 +118,7 @@ impl<'a> ConstraintView<'a> {
         self.item(i).names()
     }
 
-    /// The types and attributes that the names of the item of that number were written with, where its kind is 5 and the
+    /// The types and attributes that the names of the item of that number were written with, where its kind is `CEXPR_NAMES` and the
     /// version is 29 or later.
     pub fn types(&self, i: u32) -> Option<BitmapView<'a>>
         requires { i < length self.now.items }
@@ -125,7 +127,7 @@ impl<'a> ConstraintView<'a> {
         Some(self.item(i).type_set()?.types())
     }
 
-    /// The types and attributes that were excluded from the names of the item of that number, where its kind is 5 and the
+    /// The types and attributes that were excluded from the names of the item of that number, where its kind is `CEXPR_NAMES` and the
     /// version is 29 or later.
     pub fn negated(&self, i: u32) -> Option<BitmapView<'a>>
         requires { i < length self.now.items }
@@ -134,7 +136,7 @@ impl<'a> ConstraintView<'a> {
         Some(self.item(i).type_set()?.negated())
     }
 
-    /// The flags of the type set of the item of that number, where its kind is 5 and the version is 29 or later. They are kept.
+    /// The flags of the type set of the item of that number, where its kind is `CEXPR_NAMES` and the version is 29 or later. They are kept.
     pub fn flags(&self, i: u32) -> Option<u32>
         requires { i < length self.now.items }
         ensures { option_map (λ item. option_map (λ set. set.flags) item.type_set) (slice_get self.now.items i) ≡ Some result }
@@ -160,7 +162,7 @@ impl<'a> ConstraintView<'a> {
 /// The constraint at the cursor, which then stands behind it. Takes no memory.
 ///
 /// The items of a policy's version are read, and a third context is allowed or not. `NotOneValue` where there is no item. At an
-/// item, `BadKind` where its kind is not 1 to 5, `NotOneValue` where its operands do not stand before it or the last item leaves
+/// item, `BadKind` where its kind is none of [`codes`](crate::codes), `NotOneValue` where its operands do not stand before it or the last item leaves
 /// more than one value, `TooDeep` where a leaf makes more than 5 values, `BadAttr` where its attribute is none of its
 /// kind's, or of a third context that is not allowed, `BadOp` where its operator is none of its kind's, and the faults of
 /// `BitmapView::read`.

@@ -1,3 +1,5 @@
+//! A constraint, written.
+
 use crate::constraint_rec::{ConstraintItem, ConstraintRec, TypeSet};
 use pol_cursor::{Part, Written};
 use std::alloc::AllocError;

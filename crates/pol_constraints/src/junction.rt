@@ -1,5 +1,7 @@
+//! What stands between two operands of a constraint.
+
 ghost use Rattle.std.specs.Prelude.{◌≡◌};
-ghost use Rattle.pol_constraints.specs.ConstraintMeaning.{junction_text};
+ghost use Rattle.pol_constraints.specs.ConstraintTexts.{junction_text};
 
 /// The operators of constraints that stand between two operands.
 #[derive(Clone, Copy, Debug, PartialEq, Eq)]

@@ -1,6 +1,12 @@
 //! The constraints of a policy: on the permissions of a class, and on changes of context.
+//!
+//! ```
+//! let constraint = read_constraint(&mut cursor, version, false)?;
+//! let text = constraint.infix(alloc, &symbols)?; // u1 == u2 or t1 == { can_change_object_identity }
+//! ```
 #![tactic(auto)]
 
+pub mod codes;
 mod constraint_causes;
 mod constraint_infix;
 mod constraint_item;

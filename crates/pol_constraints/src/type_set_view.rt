@@ -1,3 +1,5 @@
+//! The type set of an item in the buffer.
+
 ghost use Rattle.std.specs.Prelude.{◌≡◌, IfOk};
 ghost use Rattle.pol_constraints.specs.ConstraintRecord.{type_set_in, HasTypeSet};
 

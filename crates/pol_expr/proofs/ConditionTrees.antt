@@ -8,14 +8,17 @@ use Rattle.std.proofs.lemmas.Map.Views.{list_any-from_Contains, Contains-from_an
 use Rattle.std.proofs.lemmas.Option.{slice_get-map}
 use Rattle.pol_bitmap.specs.declared.node.Node.{Node}
 use Rattle.pol_bitmap.specs.Nodes.{bits_of}
+use Rattle.pol_expr.specs.declared.codes.TheConstants.{COND_EXPR_MAXDEPTH}
 use Rattle.pol_expr.specs.declared.symbol.Symbol.TheVariants as symbols
 use Rattle.pol_expr.specs.declared.symbol.Operator.TheVariants.{Or, And, Xor, Equal, NotEqual}
 use Rattle.pol_expr.specs.declared.condition_rec.ConditionItem.{ConditionItem}
 use Rattle.pol_expr.specs.Postfix.{IsPostfix}
-use Rattle.pol_expr.specs.Trees.{operand_count}
-use Rattle.pol_expr.specs.ConditionRecord.{item_operands, condition_limit, IsExpression}
-use Rattle.pol_expr.specs.ConditionMeaning.{condition_symbol, condition_symbols, truth_of, value_of, is_in}
-use Rattle.pol_expr.proofs.Stacks.{IsMeaning, IsPostfix-map}
+use Rattle.pol_cursor.specs.References.{Named}
+use Rattle.pol_expr.specs.Infix.{infix_of, symbols_text}
+use Rattle.pol_expr.specs.Trees.{operand_count, postorder}
+use Rattle.pol_expr.specs.ConditionRecord.{item_operands, IsCondition}
+use Rattle.pol_expr.specs.ConditionMeaning.{ConditionTree, condition_symbol, condition_symbols, condition_words, expression_text, truth_of, value_of, is_in}
+use Rattle.pol_expr.proofs.Stacks.{IsMeaning, IsPostfix-map, some_tree, tree_of_symbols}
 
 -- ---- symbols of items
 
@@ -39,8 +42,21 @@ operands_by false false false false false false boolean = refl
 symbol_operands : (item : ConditionItem) → item_operands item ≡ operand_count (condition_symbol item)
 symbol_operands item = operands_by (item.kind == 1) (item.kind == 2) (item.kind == 3) (item.kind == 4) (item.kind == 5) (item.kind == 6) item.boolean
 
-pub symbols_postfix : (items : List ConditionItem) → IsExpression items → IsPostfix operand_count condition_limit 0 (condition_symbols items)
-symbols_postfix items h = IsPostfix-map condition_symbol item_operands operand_count condition_limit 0 items symbol_operands h
+pub symbols_postfix : (items : List ConditionItem) → IsCondition items → IsPostfix operand_count COND_EXPR_MAXDEPTH 0 (condition_symbols items)
+symbols_postfix items h = IsPostfix-map condition_symbol item_operands operand_count COND_EXPR_MAXDEPTH 0 items symbol_operands h
+
+-- ---- the tree
+
+pub condition_tree : (items : List ConditionItem) → IsCondition items → (t : ConditionTree) × (postorder t ≡ condition_symbols items)
+condition_tree items h = some_tree COND_EXPR_MAXDEPTH (condition_symbols items) (symbols_postfix items h)
+
+pub tree_is_text : (named : Named) (items : List ConditionItem) (t : ConditionTree) → postorder t ≡ condition_symbols items → expression_text named items ≡ infix_of (condition_words named) t
+unfolding expression_text
+tree_is_text named items t e = ap (symbols_text (condition_words named)) (sym e) ∙ tree_of_symbols (condition_words named) t
+
+-- what is the text of each tree that items stand for is theirs
+pub one_condition_text : (named : Named) (items : List ConditionItem) (text : List ℕ) → IsCondition items → ((t : ConditionTree) → postorder t ≡ condition_symbols items → text ≡ infix_of (condition_words named) t) → text ≡ expression_text named items
+one_condition_text named items text h each = let tree = condition_tree items h in each tree.0 tree.1 ∙ sym (tree_is_text named items tree.0 tree.1)
 
 -- ---- truth values
 

@@ -7,9 +7,10 @@ use Rattle.pol_cursor.specs.Outcome.{Got, and_then}
 use Rattle.pol_cursor.specs.Parts.{num, list_of, number, number_if}
 use Rattle.pol_cursor.proofs.Laws.{and_then_got}
 use Rattle.pol_cursor.proofs.Facts.{number_is, number_if_is}
+use Rattle.pol_expr.specs.declared.codes.TheConstants.{COND_EXPR_MAXDEPTH}
 use Rattle.pol_expr.specs.declared.condition_rec.ConditionItem.{ConditionItem}
 use Rattle.pol_expr.specs.Postfix.{operands_test}
-use Rattle.pol_expr.specs.ConditionRecord.{condition_limit, kind_operands, item_operands, kind_test, item_at, values_after_item, item_in, items_in}
+use Rattle.pol_expr.specs.ConditionRecord.{kind_operands, item_operands, kind_test, item_at, values_after_item, item_in, items_in}
 use Rattle.pol_expr.proofs.PostfixReading.{HasOperands, has_operands, guard_none, got_is}
 
 -- ---- items
@@ -18,7 +19,7 @@ pub record IsItem (left values : ℕ) (bytes : List ℕ) (place : ℕ) (item : C
   pub is : item ≡ item_in bytes place
   pub ends : next ≡ place + 8
   pub long : next ≤ length bytes
-  pub operands : HasOperands condition_limit left values (item_operands item)
+  pub operands : HasOperands COND_EXPR_MAXDEPTH left values (item_operands item)
 
 pub item_is : (left values : ℕ) (bytes : List ℕ) (place : ℕ) (item : ConditionItem) (next : ℕ) → item_at left values bytes place ≡ Got item next → IsItem left values bytes place item next
 unfolding item_at
@@ -29,12 +30,12 @@ item_is left values bytes place item next e =
     let g = got_is made b.1 item next b.3 in
     let p = number_if_is CONDNODE_KIND 4 (kind_test left values) bytes place a.0 a.1 a.2 in
     let q = number_is CONDNODE_BOOLEAN 4 bytes a.1 b.0 b.1 b.2 in
-    let t = guard_none (nat_le 1 a.0 && nat_le a.0 7) (operands_test condition_limit left values (kind_operands a.0)) BadKind p.3 in
+    let t = guard_none (nat_le 1 a.0 && nat_le a.0 7) (operands_test COND_EXPR_MAXDEPTH left values (kind_operands a.0)) BadKind p.3 in
     record {
       is = sym g.0 ∙ ap (λ (x : ℕ). record { kind = x; boolean = b.0 }) p.0 ∙ ap (λ (x : ℕ). record { kind = num bytes place 4; boolean = x }) (q.0 ∙ ap (λ (i : ℕ). num bytes i 4) p.1);
       ends = omega (arith, g.1, p.1, q.1);
       long = omega (arith, g.1, q.2);
-      operands = subst (λ (x : ConditionItem). HasOperands condition_limit left values (item_operands x)) g.0 (has_operands condition_limit left values (kind_operands a.0) t.1);
+      operands = subst (λ (x : ConditionItem). HasOperands COND_EXPR_MAXDEPTH left values (item_operands x)) g.0 (has_operands COND_EXPR_MAXDEPTH left values (kind_operands a.0) t.1);
     }
 
 pub record AreItems (bytes : List ℕ) (place count values : ℕ) (items : List ConditionItem) (next : ℕ) : Type 0 where

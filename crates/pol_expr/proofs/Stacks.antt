@@ -7,7 +7,7 @@ use Rattle.pol_expr.specs.declared.symbol.Symbol.{Symbol}
 use Rattle.pol_expr.specs.declared.symbol.Symbol.TheVariants as symbols
 use Rattle.pol_expr.specs.Postfix.{values_after, IsPostfix}
 use Rattle.pol_expr.specs.Trees.{Tree, Leaf, Not, Binary, postorder, operand_count, applied, trees_after}
-use Rattle.pol_expr.specs.Infix.{Words, is_binary, infix_of, tree_text, leaf_operand, negated_operand, joined_operands}
+use Rattle.pol_expr.specs.Infix.{Words, is_binary, infix_of, tree_text, symbols_text, leaf_operand, negated_operand, joined_operands}
 use Rattle.pol_expr.proofs.Dropped.{dropped}
 
 pub reverse_push : {A : Type 0} (xs : List A) (x : A) → reverse (xs ++ x ∷ []) ≡ x ∷ reverse xs
@@ -129,13 +129,9 @@ module _ {V O : Type 0} where
   pub some_tree : (limit : ℕ) (ss : List (Symbol V O)) → IsPostfix operand_count limit 0 ss → (t : Tree V O) × (postorder t ≡ ss)
   some_tree limit ss h = tree_after limit ss [] h
 
-  -- what is the text of each tree that symbols stand for is that of the one that they leave
-  pub one_text : (words : Words V O) (limit : ℕ) (ss : List (Symbol V O)) (text : List ℕ) → IsPostfix operand_count limit 0 ss
-      → ((t : Tree V O) → postorder t ≡ ss → text ≡ infix_of words t) → text ≡ tree_text words (trees_after ss [])
-  one_text words limit ss text one h =
-      let tree = some_tree limit ss one in
-      let left : trees_after ss [] ≡ tree.0 ∷ [] = ap (λ (us : List (Symbol V O)). trees_after us []) (sym tree.1) ∙ one_tree_left tree.0 in
-      h tree.0 tree.1 ∙ ap (tree_text words) (sym left)
+  -- the text of the symbols of a tree is that of the tree
+  pub tree_of_symbols : (words : Words V O) (t : Tree V O) → symbols_text words (postorder t) ≡ infix_of words t
+  tree_of_symbols words t = ap (tree_text words) (one_tree_left t)
 
 -- ---- texts
 

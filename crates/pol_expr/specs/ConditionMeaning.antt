@@ -10,22 +10,23 @@ use Rattle.pol_expr.specs.declared.symbol.Operator.TheVariants.{Or, And, Xor, Eq
 use Rattle.pol_expr.specs.declared.condition_rec.ConditionItem.{ConditionItem}
 use Rattle.pol_fields.specs.declared.table_kind.TableKind.TheVariants.{Booleans}
 use Rattle.pol_cursor.specs.References.{Named}
-use Rattle.pol_expr.specs.Infix.{Words}
+use Rattle.pol_expr.specs.declared.codes.TheConstants.{COND_BOOL, COND_NOT, COND_OR, COND_AND, COND_XOR, COND_EQ}
+use Rattle.pol_expr.specs.Infix.{Words, symbols_text}
 use Rattle.pol_expr.specs.Trees.{Tree, Leaf, Not, Binary}
 
 -- a tree whose leaves are values of booleans
 abbrev pub ConditionTree : Type 0
 ConditionTree = Tree ℕ Operator
 
--- an item by its kind, which is 1 to 7
+-- what an item stands for, by its kind
 abbrev pub condition_symbol : ConditionItem → Symbol ℕ Operator
 condition_symbol item =
-    if item.kind == 1 then symbols.Leaf item.boolean
-    else if item.kind == 2 then symbols.Not
-    else if item.kind == 3 then symbols.Binary Or
-    else if item.kind == 4 then symbols.Binary And
-    else if item.kind == 5 then symbols.Binary Xor
-    else if item.kind == 6 then symbols.Binary Equal
+    if item.kind == COND_BOOL then symbols.Leaf item.boolean
+    else if item.kind == COND_NOT then symbols.Not
+    else if item.kind == COND_OR then symbols.Binary Or
+    else if item.kind == COND_AND then symbols.Binary And
+    else if item.kind == COND_XOR then symbols.Binary Xor
+    else if item.kind == COND_EQ then symbols.Binary Equal
     else symbols.Binary NotEqual
 
 abbrev pub condition_symbols : List ConditionItem → List (Symbol ℕ Operator)
@@ -67,11 +68,15 @@ operator_text NotEqual = codes " != "
 abbrev pub condition_words : Named → Words ℕ Operator
 condition_words named = record { leaf = λ boolean. unwrap_or (named Booleans boolean) []; negation = codes "!"; between = operator_text }
 
+-- the text of items: that of the one tree that they stand for (`conditions_have_one_tree`)
+unfoldable pub expression_text : Named → List ConditionItem → List ℕ
+expression_text named items = symbols_text (condition_words named) (condition_symbols items)
+
 -- ---- the booleans
 
 -- the boolean that an item is, where it is one
 abbrev pub item_booleans : ConditionItem → List ℕ
-item_booleans item = if item.kind == 1 then item.boolean ∷ [] else []
+item_booleans item = if item.kind == COND_BOOL then item.boolean ∷ [] else []
 
 abbrev pub booleans_in : List ConditionItem → List ℕ
 booleans_in items = flat_map item_booleans items

@@ -1,9 +1,8 @@
 -- The expression of a conditional node: record 19 up to its items (libsepol's cond_read_node).
-use Rattle.std.specs.Prelude.{ℕ, zero, suc, ◌+◌, ◌*◌, ◌^◌, ◌<◌, ◌≤◌, ◌&&◌, ◌==◌, nat_le, if◌then◌else◌, Option, Some, List, [], ◌∷◌, ◌++◌, length}
+use Rattle.std.specs.Prelude.{ℕ, zero, suc, ◌+◌, ◌*◌, ◌^◌, ◌<◌, ◌≤◌, ◌==◌, if◌then◌else◌, Option, List, [], ◌∷◌, ◌++◌, length}
 use Rattle.pol_fields.specs.declared.limits.TheConstants.{MAX_POLICY_BYTES}
 use Rattle.std.specs.List.{flat_map, AllByRecursion}
 use Rattle.pol_fields.specs.declared.fault.Cause.{Cause}
-use Rattle.pol_fields.specs.declared.fault.Cause.TheVariants.{BadKind}
 use Rattle.pol_fields.specs.declared.table_kind.TableKind.TheVariants.{Booleans}
 use Rattle.pol_fields.specs.declared.fields.TheConstants.{CONDNODE_STATE, CONDNODE_NEXPR, CONDNODE_KIND, CONDNODE_BOOLEAN}
 use Rattle.pol_cursor.specs.Outcome.{Reader, ◌>>=◌, done}
@@ -12,24 +11,21 @@ use Rattle.pol_cursor.specs.References.{Placed, Reference}
 use Rattle.pol_cursor.specs.Spelling.{bytes_of}
 use Rattle.pol_expr.specs.declared.condition_rec.ConditionItem.{ConditionItem}
 use Rattle.pol_expr.specs.declared.condition_rec.ConditionRec.{ConditionRec}
-use Rattle.pol_expr.specs.Postfix.{values_after, operands_test, item_count_test, IsPostfix}
+use Rattle.pol_expr.specs.declared.codes.TheConstants.{COND_BOOL, COND_NOT, COND_NEQ, COND_EXPR_MAXDEPTH}
+use Rattle.pol_expr.specs.Postfix as postfix
+use Rattle.pol_expr.specs.Postfix.{values_after, item_count_test, IsExpression}
 
 -- ---- the conditions of its fields
 
--- libsepol's COND_EXPR_MAXDEPTH
-abbrev pub condition_limit : ℕ
-condition_limit = 10
-
--- how many operands an item has: kind 1 is a boolean, 2 is not, and those above stand between two operands
+-- how many operands an item of a kind has: a boolean none, not one, and every other stands between two operands
 abbrev pub kind_operands : ℕ → ℕ
-kind_operands kind = if kind == 1 then 0 else if kind == 2 then 1 else 2
+kind_operands kind = if kind == COND_BOOL then 0 else if kind == COND_NOT then 1 else 2
 
 abbrev pub item_operands : ConditionItem → ℕ
 item_operands item = kind_operands item.kind
 
--- The kinds are 1 to 7.
 abbrev pub kind_test : ℕ → ℕ → ℕ → Option Cause
-kind_test left values kind = if nat_le 1 kind && nat_le kind 7 then operands_test condition_limit left values (kind_operands kind) else Some BadKind
+kind_test left values kind = postfix.kind_test COND_BOOL COND_NEQ kind_operands COND_EXPR_MAXDEPTH left values kind
 
 -- ---- reading and spelling
 
@@ -87,18 +83,18 @@ abbrev pub condition_size : List ℕ → ℕ → ℕ
 condition_size bytes place = 8 + 8 * num bytes (place + 4) 4
 
 -- The items of a condition make one value.
-abbrev pub IsExpression : List ConditionItem → Type 0
-IsExpression items = IsPostfix item_operands condition_limit 0 items
+abbrev pub IsCondition : List ConditionItem → Type 0
+IsCondition items = IsExpression item_operands COND_EXPR_MAXDEPTH items
 
 -- a condition stands there, in a buffer of a policy's size
 abbrev pub HasCondition : List ℕ → ℕ → Type 0
-HasCondition bytes place = (place + condition_size bytes place ≤ length bytes) × (length bytes ≤ MAX_POLICY_BYTES) × IsExpression (items_in bytes (place + 8) (num bytes (place + 4) 4))
+HasCondition bytes place = (place + condition_size bytes place ≤ length bytes) × (length bytes ≤ MAX_POLICY_BYTES) × IsCondition (items_in bytes (place + 8) (num bytes (place + 4) 4))
 
 -- ---- its references
 
 -- the boolean that an item names, where it is one, and the first byte of the item is at a place
 unfoldable pub item_reference : ℕ → ConditionItem → List Reference
-item_reference place item = if item.kind == 1 then record { place = place + 4; field = CONDNODE_BOOLEAN; table = Booleans; value = item.boolean } ∷ [] else []
+item_reference place item = if item.kind == COND_BOOL then record { place = place + 4; field = CONDNODE_BOOLEAN; table = Booleans; value = item.boolean } ∷ [] else []
 
 -- those of items that stand from a place on
 unfoldable pub item_references : ℕ → List ConditionItem → List Reference

@@ -1,6 +1,7 @@
 -- The text of an expression.
 use Rattle.std.specs.Prelude.{ℕ, Bool, true, false, List, [], ◌∷◌, ◌++◌, codes}
-use Rattle.pol_expr.specs.Trees.{Tree, Leaf, Not, Binary}
+use Rattle.pol_expr.specs.declared.symbol.Symbol.{Symbol}
+use Rattle.pol_expr.specs.Trees.{Tree, Leaf, Not, Binary, trees_after}
 
 -- the words of a kind of expression: of its leaves, before the operand of a negation, and between two operands
 pub record Words (V O : Type 0) : Type 0 where
@@ -27,6 +28,10 @@ infix_of words (Binary o l r) = enclosed (is_binary l) (infix_of words l) ++ wor
 abbrev pub tree_text : {V O : Type 0} → Words V O → List (Tree V O) → List ℕ
 tree_text words [] = []
 tree_text words (t ∷ ts) = infix_of words t
+
+-- the text of the tree whose symbols these are, each operator after its operands
+abbrev pub symbols_text : {V O : Type 0} → Words V O → List (Symbol V O) → List ℕ
+symbols_text words ss = tree_text words (trees_after ss [])
 
 -- the text of an operand, and whether its own operator stands between two operands
 pub record Operand : Type 0 where

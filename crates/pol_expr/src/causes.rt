@@ -2,12 +2,11 @@
 
 ghost use Rattle.std.specs.Prelude.{◌≡◌, ◌≤◌, ◌<◌, ◌+◌, IfNone};
 ghost use Rattle.pol_expr.specs.Postfix.{operands_test, item_count_test, values_after};
+ghost use Rattle.pol_expr.specs.declared.codes.TheConstants.{COND_EXPR_MAXDEPTH};
 ghost use Rattle.pol_expr.specs.ConditionRecord.{kind_operands, kind_test};
 
+use crate::codes::{COND_BOOL, COND_EXPR_MAXDEPTH, COND_NEQ, COND_NOT};
 use pol_fields::Cause;
-
-/// libsepol's COND_EXPR_MAXDEPTH.
-const CONDITION_LIMIT: u32 = 10;
 
 /// `NotOneValue` where an expression has no item.
 pub fn item_count_cause(count: u32) -> Option<Cause>
@@ -25,19 +24,19 @@ pub fn kind_operands(kind: u32) -> u32
     ensures few { result ≤ 2 }
 {
     match kind {
-        1 => 0,
-        2 => 1,
+        COND_BOOL => 0,
+        COND_NOT => 1,
         _ => 2,
     }
 }
 
 pub fn kind_cause(left: u32, values: u32, kind: u32) -> Option<Cause>
-    requires { values ≤ 10 }
+    requires { values ≤ COND_EXPR_MAXDEPTH }
     ensures exact { result ≡ kind_test left values kind }
-    ensures fits { IfNone result ((kind_operands kind ≤ values) × (values_after values (kind_operands kind) ≤ 10)) }
+    ensures fits { IfNone result ((kind_operands kind ≤ values) × (values_after values (kind_operands kind) ≤ COND_EXPR_MAXDEPTH)) }
 {
-    if kind >= 1 && kind <= 7 {
-        operands_cause(CONDITION_LIMIT, left, values, kind_operands(kind))
+    if kind >= COND_BOOL && kind <= COND_NEQ {
+        operands_cause(COND_EXPR_MAXDEPTH, left, values, kind_operands(kind))
     } else {
         Some(Cause::BadKind)
     }

@@ -4,6 +4,7 @@ ghost use Rattle.std.specs.Prelude.{◌≡◌, ◌↔◌, ◌++◌, ℕ, IfOk, O
 ghost use Rattle.pol_bitmap.specs.Nodes.{bits_of};
 ghost use Rattle.pol_expr.specs.ConditionMeaning.{item_booleans, booleans_in};
 
+use crate::codes::COND_BOOL;
 use crate::condition_rec::ConditionItem;
 use crate::condition_view::ConditionView;
 use pol_bitmap::Set;
@@ -26,7 +27,7 @@ impl<'a> ConditionView<'a> {
 fn push_boolean(booleans: &mut Vec<u32>, item: ConditionItem) -> Result<(), AllocError>
     ensures { OnOk result (booleans.new.items ≡ booleans.old.items ++ item_booleans item) }
 {
-    if item.kind == 1 {
+    if item.kind == COND_BOOL {
         booleans.push(item.boolean)?;
     }
     Ok(())

@@ -2,9 +2,9 @@
 
 ghost use Rattle.std.specs.Prelude.{◌≡◌, ◌≤◌, ◌++◌, [], IfOk, OnOk, length, reverse, unwrap_or, vec_len};
 ghost use Rattle.pol_fields.specs.declared.table_kind.TableKind.TheVariants.{Booleans};
-ghost use Rattle.pol_expr.specs.Trees.{applied, postorder, operand_count};
-ghost use Rattle.pol_expr.specs.Infix.{infix_of, leaf_operand, negated_operand, joined_operands};
-ghost use Rattle.pol_expr.specs.ConditionMeaning.{ConditionTree, condition_symbols, condition_words, operator_text};
+ghost use Rattle.pol_expr.specs.Trees.{applied, operand_count};
+ghost use Rattle.pol_expr.specs.Infix.{leaf_operand, negated_operand, joined_operands};
+ghost use Rattle.pol_expr.specs.ConditionMeaning.{condition_words, expression_text, operator_text};
 
 use crate::condition_view::ConditionView;
 use crate::operand::Operand;
@@ -17,7 +17,7 @@ impl<'a> ConditionView<'a> {
     /// The text of the expression. A boolean is its name, `!` stands before its operand, and `||`, `&&`, `^`, `==` and `!=`
     /// between theirs, with a space on each side. An operand that has one of these five is put in parentheses.
     pub fn infix<N: Names>(&self, alloc: Global, names: &N) -> Result<Vec<u8>, AllocError>
-        ensures { IfOk result (λ text. (t : ConditionTree) → postorder t ≡ condition_symbols self.now.value.items → text.items ≡ infix_of (condition_words (N.named names.now)) t) }
+        ensures { IfOk result (λ text. text.items ≡ expression_text (N.named names.now) self.now.value.items) }
     {
         let mut operands = Vec::new(alloc);
         for i in 0..self.len() {

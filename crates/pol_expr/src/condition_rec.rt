@@ -1,11 +1,13 @@
+//! A condition, owned.
+
 use pol_cursor::OwnedList;
 
 /// An item of a condition.
 #[derive(Clone, Copy, Debug, PartialEq, Eq)]
 pub struct ConditionItem {
-    /// 1 is a boolean, 2 is not; 3 or, 4 and, 5 xor, 6 equal and 7 not equal stand between two operands.
+    /// One of [`codes`](crate::codes).
     pub kind: u32,
-    /// The value of the boolean. It is kept for the other kinds and has no meaning there.
+    /// The value of the boolean. It is kept for other kinds than [`COND_BOOL`](crate::codes::COND_BOOL) and has no meaning there.
     pub boolean: u32,
 }
 

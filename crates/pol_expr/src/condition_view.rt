@@ -1,11 +1,14 @@
+//! The condition of a conditional node in the buffer.
+
 ghost use Rattle.std.specs.Prelude.{◌≡◌, ◌<◌, ◌≤◌, ◌+◌, ◌*◌, ◌^◌, IfOk, OnOk, Some, length, slice_get, option_map};
 ghost use Rattle.pol_fields.specs.declared.limits.TheConstants.{MAX_POLICY_BYTES};
 ghost use Rattle.pol_cursor.specs.Outcome.{Answers};
 ghost use Rattle.pol_cursor.specs.References.{dangling_of};
-ghost use Rattle.pol_expr.specs.ConditionRecord.{condition_at, condition_in, condition_size, condition_references, item_reference, HasCondition, IsExpression};
+ghost use Rattle.pol_expr.specs.ConditionRecord.{condition_at, condition_in, condition_size, condition_references, item_reference, HasCondition, IsCondition};
 ghost use Rattle.pol_expr.specs.ConditionMeaning.{condition_symbols};
 
 use crate::causes::item_count_cause;
+use crate::codes::COND_BOOL;
 use crate::condition_reading::pass_items;
 use crate::condition_rec::{ConditionItem, ConditionRec};
 use crate::symbol::{Operator, Symbol, condition_symbol};
@@ -54,7 +57,7 @@ impl<'a> ConditionView<'a> {
     #[tactic(auto, using(crate::proofs::ItemPlaces::length_items_in))]
     pub fn len(&self) -> u32
         ensures all { result ≡ length self.now.value.items }
-        ensures expression { IsExpression self.now.value.items }
+        ensures expression { IsCondition self.now.value.items }
     {
         u32_in(self.bytes, self.place as usize + 4)
     }
@@ -72,7 +75,7 @@ impl<'a> ConditionView<'a> {
         }
     }
 
-    /// The kind of the item of that number: 1 a boolean, 2 not, 3 or, 4 and, 5 xor, 6 equal, 7 not equal.
+    /// The kind of the item of that number, one of [`codes`](crate::codes).
     pub fn kind(&self, i: u32) -> u32
         requires { i < length self.now.value.items }
         ensures { option_map (λ item. item.kind) (slice_get self.now.value.items i) ≡ Some result }
@@ -80,7 +83,7 @@ impl<'a> ConditionView<'a> {
         self.item(i).kind
     }
 
-    /// The boolean of the item of that number, which has no meaning where the kind is not 1.
+    /// The boolean of the item of that number, which has no meaning where the kind is not [`COND_BOOL`].
     pub fn boolean(&self, i: u32) -> u32
         requires { i < length self.now.value.items }
         ensures { option_map (λ item. item.boolean) (slice_get self.now.value.items i) ≡ Some result }
@@ -141,7 +144,7 @@ fn item_dangling<N: Names>(names: &N, place: u32, item: ConditionItem) -> Option
     requires { place + 4 < 2 ^ 32 }
     ensures { result ≡ dangling_of (N.named names.now) (item_reference place item) }
 {
-    if item.kind != 1 {
+    if item.kind != COND_BOOL {
         return None;
     }
     dangling(
@@ -155,7 +158,7 @@ fn item_dangling<N: Names>(names: &N, place: u32, item: ConditionItem) -> Option
 
 /// The condition at the cursor, which then stands behind it. Takes no memory.
 ///
-/// `NotOneValue` where it has no item. At an item, `BadKind` where its kind is not 1 to 7, `NotOneValue` where its operands do
+/// `NotOneValue` where it has no item. At an item, `BadKind` where its kind is none of [`codes`](crate::codes), `NotOneValue` where its operands do
 /// not stand before it or the last item leaves more than one value, and `TooDeep` where a boolean makes more than 10 values.
 #[tactic(auto, unfolding(crate::specs::ConditionRecord::condition_at), using(pol_cursor::proofs::Facts::number_is, crate::proofs::PostfixReading::some_item))]
 pub fn read_condition<'a>(c: &mut Cursor<'a>) -> Result<ConditionView<'a>, Fault>

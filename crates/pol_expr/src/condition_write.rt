@@ -1,3 +1,5 @@
+//! A condition, written.
+
 use crate::condition_rec::{ConditionItem, ConditionRec};
 use pol_cursor::{Part, Written};
 use std::alloc::AllocError;

@@ -1,7 +1,16 @@
 //! What the expressions of a policy share, and the conditions of conditional rules.
+//!
+//! An expression is a list of items, each operator after its operands. [`Operand`] makes its text, as a reader of such items meets them:
+//!
+//! ```
+//! let left = Operand::leaf(alloc, b"allow_execmem")?;
+//! let right = Operand::leaf(alloc, b"secure_mode")?.negated(b"!")?;
+//! let text = left.joined(b" && ", right)?.into_text(); // allow_execmem && !secure_mode
+//! ```
 #![tactic(auto)]
 
 mod causes;
+pub mod codes;
 mod condition_booleans;
 mod condition_infix;
 mod condition_reading;

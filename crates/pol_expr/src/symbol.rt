@@ -1,6 +1,9 @@
+//! What the items of expressions stand for.
+
 ghost use Rattle.std.specs.Prelude.{◌≡◌, ◌≤◌};
 ghost use Rattle.pol_expr.specs.ConditionMeaning.{condition_symbol, operator_text, truth_of};
 
+use crate::codes::{COND_AND, COND_BOOL, COND_EQ, COND_NOT, COND_OR, COND_XOR};
 use crate::condition_rec::ConditionItem;
 
 /// What an item of an expression is: a leaf, a negation, or an operator that stands between two operands.
@@ -54,12 +57,12 @@ pub fn condition_symbol(item: ConditionItem) -> Symbol<u32, Operator>
     ensures { result ≡ condition_symbol item }
 {
     match item.kind {
-        1 => Symbol::Leaf(item.boolean),
-        2 => Symbol::Not,
-        3 => Symbol::Binary(Operator::Or),
-        4 => Symbol::Binary(Operator::And),
-        5 => Symbol::Binary(Operator::Xor),
-        6 => Symbol::Binary(Operator::Equal),
+        COND_BOOL => Symbol::Leaf(item.boolean),
+        COND_NOT => Symbol::Not,
+        COND_OR => Symbol::Binary(Operator::Or),
+        COND_AND => Symbol::Binary(Operator::And),
+        COND_XOR => Symbol::Binary(Operator::Xor),
+        COND_EQ => Symbol::Binary(Operator::Equal),
         _ => Symbol::Binary(Operator::NotEqual),
     }
 }

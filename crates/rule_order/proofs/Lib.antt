@@ -5,3 +5,4 @@ pub mod KeyWords
 pub mod KeyOrder
 pub mod SortedNumbers
 pub mod GatheredKeys
+pub mod ListedOnce

@@ -2,18 +2,11 @@
 -- words of the policy language).
 use Rattle.std.specs.Prelude.{ℕ, Bool, true, false, Option, Some, None, List, [], ◌++◌, codes, slice_get}
 use Rattle.pol_cursor.specs.References.{Named, Placed}
-use Rattle.pol_expr.specs.declared.ConditionItem.{ConditionItem}
-use Rattle.pol_expr.specs.Infix.{tree_text}
-use Rattle.pol_expr.specs.Trees.{trees_after}
-use Rattle.pol_expr.specs.ConditionMeaning.{condition_symbols, condition_words}
+use Rattle.pol_expr.specs.ConditionMeaning.{expression_text}
 use Rattle.pol_conditionals.specs.declared.CondNodeRec.{CondNodeRec}
 use Rattle.pol_read.specs.declared.rule.Condition.{Condition}
 
--- The items of a condition leave one tree, and this is its text.
-unfoldable pub expression_text : Named → List ConditionItem → List ℕ
-expression_text named items = tree_text (condition_words named) (trees_after (condition_symbols items) [])
-
--- that of the condition of a node
+-- the text of the condition of a node
 abbrev pub node_text : Named → Option (Placed CondNodeRec) → List ℕ
 node_text named None = []
 node_text named (Some node) = expression_text named node.value.condition.items

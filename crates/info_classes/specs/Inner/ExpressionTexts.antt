@@ -1,20 +1,20 @@
 -- The texts of expressions that are kept, since many constraints share few expressions.
-use Rattle.std.specs.Prelude.{◌≡◌, ℕ, List, Option, Some, None, map, slice_get}
+use Rattle.std.specs.Prelude.{◌≡◌, ℕ, List, Option, Some, None, slice_get}
 use Rattle.pol_cursor.specs.References.{Named}
 use Rattle.pol_constraints.specs.declared.ConstraintItem.{ConstraintItem}
 use Rattle.pol_symbols.specs.declared.symbols.Symbols.{Symbols}
 use Rattle.pol_symbols.specs.PolicySymbols.{name_in}
 use Rattle.info_classes.specs.declared.constraint_entry.ConstraintEntry.{ConstraintEntry}
 use Rattle.info_classes.specs.declared.expression_texts.ExpressionText.{ExpressionText}
-use Rattle.info_classes.specs.ConstraintTexts.{constraint_text, item_symbol}
+use Rattle.pol_constraints.specs.ConstraintTexts.{constraint_symbol, constraint_symbols, constraint_text}
 
 -- two items stand for the same, whatever names the values have
 pub record IsAlike (item other : ConstraintItem) : Type 0 where
-  pub symbol : (named : Named) → item_symbol named item ≡ item_symbol named other
+  pub symbol : (named : Named) → constraint_symbol named item ≡ constraint_symbol named other
 
 -- so do two lists of items, one by one
 pub record SayTheSame (items others : List ConstraintItem) : Type 0 where
-  pub symbols : (named : Named) → map (item_symbol named) items ≡ map (item_symbol named) others
+  pub symbols : (named : Named) → constraint_symbols named items ≡ constraint_symbols named others
 
 -- a text is that of the expression of an entry
 abbrev pub IsTextOf : Symbols → List ℕ → Option ConstraintEntry → Type 0

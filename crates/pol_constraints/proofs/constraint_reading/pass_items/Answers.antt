@@ -1,7 +1,8 @@
 use Rattle.std.proofs.Common.{arith}
 use Rattle.std.proofs.lemmas.Result.{err_from_is_err_and}
 use Rattle.pol_cursor.proofs.Lists.{Going-bad, Going-end}
-use Rattle.pol_constraints.specs.ConstraintRecord.{item_at, item_operands, values_after_item, items_at, items_in, constraint_limit}
+use Rattle.pol_constraints.specs.declared.codes.TheConstants.{CEXPR_MAXDEPTH}
+use Rattle.pol_constraints.specs.ConstraintRecord.{item_at, item_operands, values_after_item, items_at, items_in}
 use Rattle.pol_expr.proofs.PostfixReading.{list_postfix}
 use Rattle.pol_constraints.proofs.ConstraintPlaces.{Passed-start, Passed-next, Passed-end, item_has_operands}
 use Rattle.pol_constraints.proofs.constraint_reading.pass_items.Goals as goal
@@ -28,7 +29,7 @@ returns c =
     let e = Going-end (item_at c.args.version c.args.xtarget) values_after_item c.args.count 0 c.args.c.now c.args.count c.loop-i.values c.loop-i.c (items_in c.args.version c.args.c.now.bytes c.args.c.now.place c.args.count) (omega arith) h.going in
     record {
       exact = (e, h.going.same);
-      expression = λ some. list_postfix (item_at c.args.version c.args.xtarget) item_operands constraint_limit (item_has_operands c.args.version c.args.xtarget) c.args.count 0 c.args.c.now.bytes c.args.c.now.place _ c.loop-i.c.place e (omega arith) (λ none. omega arith);
+      expression = λ some. list_postfix (item_at c.args.version c.args.xtarget) item_operands CEXPR_MAXDEPTH (item_has_operands c.args.version c.args.xtarget) c.args.count 0 c.args.c.now.bytes c.args.c.now.place _ c.loop-i.c.place e (omega arith) (λ none. omega arith);
       next = h.ends;
       has = h.has;
     }

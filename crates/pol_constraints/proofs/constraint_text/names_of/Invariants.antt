@@ -1,6 +1,6 @@
 use Rattle.std.proofs.Common.{◌≡◌, ◌++◌, map}
 use Rattle.pol_bitmap.specs.Nodes.{bits_of}
-use Rattle.pol_constraints.specs.ConstraintMeaning.{names_of}
+use Rattle.pol_constraints.specs.ConstraintTexts.{names_of}
 use Rattle.pol_constraints.proofs.constraint_text.names_of.Given as goal
 
 abbrev pub invariant-loop-bit : goal.invariant-loop-bit

@@ -2,8 +2,9 @@ use Rattle.std.proofs.Common.{List, ap, ◌∙◌, subst, arith}
 use Rattle.std.proofs.lemmas.Result.{err_from_is_err_and}
 use Rattle.pol_cursor.specs.Outcome.{Got}
 use Rattle.pol_cursor.proofs.Lists.{Passing-start, Passing-next, Passing-bad, Passing-end}
+use Rattle.pol_expr.specs.declared.codes.TheConstants.{COND_EXPR_MAXDEPTH}
 use Rattle.pol_expr.specs.declared.condition_rec.ConditionItem.{ConditionItem}
-use Rattle.pol_expr.specs.ConditionRecord.{item_at, item_operands, values_after_item, items_at, condition_limit, IsExpression}
+use Rattle.pol_expr.specs.ConditionRecord.{item_at, item_operands, values_after_item, items_at, IsCondition}
 use Rattle.pol_expr.proofs.ItemPlaces.{are_items, item_is}
 use Rattle.pol_expr.proofs.PostfixReading.{list_postfix}
 use Rattle.pol_expr.proofs.condition_reading.pass_items.Goals as goal
@@ -29,4 +30,4 @@ unfolding items_at
 returns c =
     let s = Passing-end item_at values_after_item c.args.count 0 c.args.c.now c.loop-i.i c.loop-i.values c.loop-i.c c.loop-i-test.false c.loop-i.invariant.passing in
     let p = are_items c.args.count 0 c.args.c.now.bytes c.args.c.now.place s.value c.loop-i.c.place s.read in
-    record { exact = (s.read ∙ ap (λ (items : List ConditionItem). Got items c.loop-i.c.place) p.are, s.same); expression = λ some. subst IsExpression p.are (list_postfix item_at item_operands condition_limit (λ left values bytes place x next e. (item_is left values bytes place x next e).operands) c.args.count 0 c.args.c.now.bytes c.args.c.now.place s.value c.loop-i.c.place s.read (omega arith) (λ none. omega arith)); next = p.ends; long = λ le. omega (arith, p.long le) }
+    record { exact = (s.read ∙ ap (λ (items : List ConditionItem). Got items c.loop-i.c.place) p.are, s.same); expression = λ some. subst IsCondition p.are (list_postfix item_at item_operands COND_EXPR_MAXDEPTH (λ left values bytes place x next e. (item_is left values bytes place x next e).operands) c.args.count 0 c.args.c.now.bytes c.args.c.now.place s.value c.loop-i.c.place s.read (omega arith) (λ none. omega arith)); next = p.ends; long = λ le. omega (arith, p.long le) }
