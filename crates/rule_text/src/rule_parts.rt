@@ -4,7 +4,7 @@ ghost use Rattle.std.specs.Prelude.{◌≡◌, ◌++◌, OnOk, option_map};
 ghost use Rattle.pol_cursor.specs.References.{name_of};
 ghost use Rattle.pol_mls.specs.MlsTexts.{range_text};
 ghost use Rattle.pol_symbols.specs.PolicySymbols.{name_in, permissions_in_class};
-ghost use Rattle.pol_read.specs.RuleOrder.{target_table};
+ghost use Rattle.pol_read.specs.RuleKinds.{target_table};
 ghost use Rattle.rule_text.specs.Inner.ClassPermissions.{ShowsPart};
 ghost use Rattle.rule_text.specs.Inner.RuleFrames.{head_text};
 ghost use Rattle.rule_text.specs.RuleTexts.{keyword, class_text, part_text, file_name_text};
