@@ -1,4 +1,4 @@
--- A rule's line in pieces, and with its ends left open: what serves the code alone.
+-- The line of a rule in pieces, and with its ends left open.
 use Rattle.std.specs.Prelude.{ℕ, List, ◌++◌, codes}
 use Rattle.pol_cursor.specs.References.{name_of}
 use Rattle.pol_symbols.specs.PolicySymbols.{name_in}
