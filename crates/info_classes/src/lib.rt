@@ -1,4 +1,8 @@
 //! The listings that come from the records of classes, line by line: constraints and default rules. And the bounds of types.
+//!
+//! ```
+//! let mut lines = constraint_lines(alloc, symbols, ConstraintKind::OnPermissions, None)?;
+//! ```
 #![tactic(auto)]
 
 mod bounds;

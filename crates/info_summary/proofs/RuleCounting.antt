@@ -19,7 +19,7 @@ use Rattle.pol_file.specs.declared.Parts.{Parts}
 use Rattle.pol_read.specs.declared.RuleKind.{RuleKind}
 use Rattle.pol_read.specs.declared.RuleKind.TheVariants.{Allow, Auditallow, Dontaudit, AllowXperm, AuditallowXperm, DontauditXperm, TypeTransition, TypeChange, TypeMember, RoleAllow, RoleTransition, RangeTransition}
 use Rattle.pol_read.specs.StoredRules.{StoredRule, av_rule, rules_of_node, rules_of_nodes, role_trans_rule, role_allow_rule, name_rules, name_trans_rule, rules_of_group, rules_of_datum, range_trans_rule, stored_rules}
-use Rattle.pol_read.specs.RuleOrder.{kind_number}
+use Rattle.pol_read.specs.RuleKinds.{kind_number}
 use Rattle.info_summary.specs.RuleCounts.{kind_counts}
 use Rattle.info_summary.proofs.Counting.{more_of_number, within}
 

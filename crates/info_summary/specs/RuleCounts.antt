@@ -4,7 +4,7 @@ use Rattle.std.specs.List.{count_by, range_with_len}
 use Rattle.pol_read.specs.declared.RuleKind.{RuleKind}
 use Rattle.pol_file.specs.declared.Parts.{Parts}
 use Rattle.pol_read.specs.StoredRules.{StoredRule, stored_rules}
-use Rattle.pol_read.specs.RuleOrder.{kind_number}
+use Rattle.pol_read.specs.RuleKinds.{kind_number}
 
 -- a rule is of the kind of that number
 abbrev pub is_of_kind : ℕ → StoredRule → Bool

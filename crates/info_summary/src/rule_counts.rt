@@ -1,7 +1,7 @@
 // How many rules there are of each kind.
 ghost use Rattle.std.specs.Prelude.{◌≡◌, ◌+◌, ◌<◌, ◌≤◌, ◌^◌, get_or, length, map, slice_set, take};
 ghost use Rattle.pol_read.specs.StoredRules.{stored_rules, rules_of_nodes};
-ghost use Rattle.pol_read.specs.RuleOrder.{kind_number};
+ghost use Rattle.pol_read.specs.RuleKinds.{kind_number};
 ghost use Rattle.info_summary.specs.SummaryLines.{count_line, entry_line};
 ghost use Rattle.info_summary.specs.RuleCounts.{kind_counts};
 ghost use Rattle.info_summary.specs.Summary.{rule_lines};

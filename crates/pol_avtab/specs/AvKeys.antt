@@ -1,12 +1,13 @@
 -- The keys of a table of access vectors, by which libsepol's avtab_insert finds an earlier rule.
-use Rattle.std.specs.Prelude.{ℕ, ◌+◌, ◌*◌, Bool, ◌==◌, ◌&&◌, List, [], ◌∷◌, ◌++◌, bit_and, if◌then◌else◌}
+use Rattle.std.specs.Prelude.{ℕ, ◌+◌, ◌-◌, ◌*◌, Bool, ◌==◌, ◌&&◌, List, [], ◌∷◌, ◌++◌, bit_and, if◌then◌else◌}
 use Rattle.std.specs.List.{list_any}
+use Rattle.pol_avtab.specs.declared.codes.TheConstants.{AVTAB_ENABLED}
 use Rattle.pol_avtab.specs.declared.av_key.AvKey.{AvKey}
 use Rattle.pol_avtab.specs.declared.av_rec.AvRec.{AvRec}
 
--- what a rule specifies, without the mark of the running system (libsepol's AVTAB_ENABLED_OLD, 0x8000)
+-- what a rule specifies, without the mark of the running system: the bits below it
 abbrev pub kind_of : ℕ → ℕ
-kind_of specified = bit_and specified 0x7FFF
+kind_of specified = bit_and specified (AVTAB_ENABLED - 1)
 
 -- source, target, class and what is specified, without the mark
 abbrev pub key_of : AvRec → AvKey

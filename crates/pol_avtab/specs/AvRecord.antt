@@ -13,23 +13,25 @@ use Rattle.pol_avtab.specs.declared.av_key.AvKey.{AvKey}
 use Rattle.pol_avtab.specs.declared.av_rec.AvRec.{AvRec}
 use Rattle.pol_avtab.specs.declared.av_rec.AvPart.{AvPart}
 use Rattle.pol_avtab.specs.declared.av_rec.AvPart.TheVariants.{Data, Extended}
+use Rattle.pol_avtab.specs.declared.codes.TheConstants.{AVTAB_ALLOWED, AVTAB_AUDITALLOW, AVTAB_AUDITDENY, AVTAB_TRANSITION, AVTAB_MEMBER, AVTAB_CHANGE}
+use Rattle.pol_avtab.specs.declared.codes.TheConstants.{AVTAB_XPERMS_ALLOWED, AVTAB_XPERMS_AUDITALLOW, AVTAB_XPERMS_DONTAUDIT, AVTAB_XPERMS, AVTAB_XPERMS_IOCTLFUNCTION, AVTAB_XPERMS_IOCTLDRIVER}
 use Rattle.pol_avtab.specs.AvKeys.{kind_of, has_key}
 
 -- ---- what it specifies
 
--- one of the extended kinds (libsepol's AVTAB_XPERMS)
+-- one of the extended kinds
 abbrev pub is_extended : ℕ → Bool
-is_extended specified = not (bit_and specified 0x700 == 0)
+is_extended specified = not (bit_and specified AVTAB_XPERMS == 0)
 
 -- a default type, which is the data, and no permissions (libsepol's AVTAB_TYPE)
 abbrev pub is_default : ℕ → Bool
-is_default specified = let kind = kind_of specified in kind == 0x10 || kind == 0x20 || kind == 0x40
+is_default specified = let kind = kind_of specified in kind == AVTAB_TRANSITION || kind == AVTAB_MEMBER || kind == AVTAB_CHANGE
 
--- exactly one kind: allow, auditallow, auditdeny, transition, member, change, and from version 30 on the three extended ones
+-- exactly one kind, and from version 30 on also an extended one
 abbrev pub is_kind : ℕ → ℕ → Bool
 is_kind version kind =
-    kind == 0x1 || kind == 0x2 || kind == 0x4 || kind == 0x10 || kind == 0x20 || kind == 0x40
-    || nat_le 30 version && (kind == 0x100 || kind == 0x200 || kind == 0x400)
+    kind == AVTAB_ALLOWED || kind == AVTAB_AUDITALLOW || kind == AVTAB_AUDITDENY || kind == AVTAB_TRANSITION || kind == AVTAB_MEMBER || kind == AVTAB_CHANGE
+    || nat_le 30 version && (kind == AVTAB_XPERMS_ALLOWED || kind == AVTAB_XPERMS_AUDITALLOW || kind == AVTAB_XPERMS_DONTAUDIT)
 
 -- ---- the conditions of its fields
 
@@ -57,7 +59,7 @@ specified_test version earlier key = kind_test version (option_map (λ keys. has
 
 -- Extended permissions are those of one driver, or whole drivers.
 abbrev pub xkind_test : ℕ → Option Cause
-xkind_test xkind = unless (xkind == 1 || xkind == 2) BadExtendedKind
+xkind_test xkind = unless (xkind == AVTAB_XPERMS_IOCTLFUNCTION || xkind == AVTAB_XPERMS_IOCTLDRIVER) BadExtendedKind
 
 -- ---- reading and spelling
 

@@ -5,6 +5,7 @@ use Rattle.std.specs.Int.{bit_at}
 use Rattle.pol_cursor.specs.Parts.{num}
 use Rattle.pol_avtab.specs.declared.av_rec.AvPart.{AvPart}
 use Rattle.pol_avtab.specs.declared.av_rec.AvPart.TheVariants.{Data, Extended}
+use Rattle.pol_avtab.specs.declared.codes.TheConstants.{AVTAB_AUDITDENY, AVTAB_XPERMS_IOCTLFUNCTION}
 use Rattle.pol_avtab.specs.AvKeys.{kind_of}
 
 -- the extended part of an access vector: its kind, its driver, and the 32 bytes of its bits
@@ -31,10 +32,10 @@ xperms_in bytes place = record { xkind = num bytes place 1; driver = num bytes (
 abbrev pub has_xbit : List ℕ → ℕ → Bool
 has_xbit bits b = bit_at (num bits (4 * (b / 32)) 4) (b % 32) == 1
 
--- One of kind 1 holds the numbers of its driver, which is their high byte, whose low byte is a bit of it. One of kind 2
--- holds all the numbers of each driver that is a bit of it (libsepol's AVTAB_XPERMS_IOCTLFUNCTION and _IOCTLDRIVER).
+-- Numbers of one driver are those with the driver as their high byte whose low byte is a bit of it. Whole drivers are all the numbers
+-- of each driver that is a bit of it.
 abbrev pub holds : Numbers → ℕ → Bool
-holds x number = if x.xkind == 1 then number / 256 == x.driver && has_xbit x.bits (number % 256) else has_xbit x.bits (number / 256)
+holds x number = if x.xkind == AVTAB_XPERMS_IOCTLFUNCTION then number / 256 == x.driver && has_xbit x.bits (number % 256) else has_xbit x.bits (number / 256)
 
 -- the numbers of 16 bits that it holds from one on, rising
 unfoldable pub numbers_from : Numbers → ℕ → List ℕ
@@ -47,7 +48,7 @@ numbers_of x = numbers_from x 0
 -- the permissions that a rule shows: the data of auditdeny are those that are audited, and it shows the others (the SETools
 -- manual page of sesearch, of dontaudit)
 abbrev pub shown_mask : ℕ → ℕ → ℕ
-shown_mask specified mask = if kind_of specified == 0x4 then 2 ^ 32 - 1 - mask else mask
+shown_mask specified mask = if kind_of specified == AVTAB_AUDITDENY then 2 ^ 32 - 1 - mask else mask
 
 -- the least bit at or above one of them
 pub record IsNextBit (bits : List ℕ) (from found : ℕ) : Type 0 where

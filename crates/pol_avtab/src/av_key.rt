@@ -15,7 +15,7 @@ pub struct AvKey {
     pub target: u16,
     /// The value of a class.
     pub class: u16,
-    /// The kind of the rule, without the mark 0x8000.
+    /// The kind of the rule, one of [`codes`](crate::codes), without the mark `AVTAB_ENABLED`.
     pub specified: u16,
 }
 

@@ -12,7 +12,7 @@ pub struct AvRec {
     pub target: u16,
     /// The value of a class.
     pub class: u16,
-    /// The kind of the rule, and the mark 0x8000, which is kept and has no meaning.
+    /// The kind of the rule, one of [`codes`](crate::codes), and the mark `AVTAB_ENABLED`, which is kept and has no meaning.
     pub specified: u16,
     /// What it grants, audits or makes.
     pub part: AvPart,
@@ -25,9 +25,9 @@ pub enum AvPart {
     Data(u32),
     /// The ioctl numbers of an extended rule.
     Extended {
-        /// 1 for numbers of one driver, 2 for whole drivers.
+        /// `AVTAB_XPERMS_IOCTLFUNCTION` or `AVTAB_XPERMS_IOCTLDRIVER` of [`codes`](crate::codes).
         xkind: u8,
-        /// The driver, which is the high byte of the numbers. It is kept for kind 2 and has no meaning there.
+        /// The driver, which is the high byte of the numbers. It is kept in whole drivers and has no meaning there.
         driver: u8,
         /// Bit b is bit b mod 8 of byte b / 8.
         bits: [u8; 32],

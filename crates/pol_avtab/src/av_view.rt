@@ -11,6 +11,7 @@ use crate::av_key::AvKey;
 use crate::av_keys::AvKeys;
 use crate::av_rec::{AvPart, AvRec};
 use crate::causes::{is_default, is_extended, is_kind, kind_cause, kind_of, xkind_cause};
+use crate::codes::AVTAB_ALLOWED;
 use crate::parts::u8_in;
 use crate::xperms::XPerms;
 use pol_cursor::{
@@ -22,9 +23,6 @@ use pol_fields::fields::{
 use pol_fields::{Fault, TableKind};
 use std::alloc::{AllocError, Global};
 use std::marker::Model;
-
-// What an allow rule specifies.
-const ALLOW: u16 = 0x1;
 
 // The mark in the number that the first eight bytes are: the highest bit of what is specified.
 const MARK: u64 = 1 << 63;
@@ -93,7 +91,7 @@ impl<'a> AvView<'a> {
         u16_in(self.bytes, self.place as usize + 4)
     }
 
-    /// The kind of the rule, and the mark 0x8000, which has no meaning.
+    /// The kind of the rule, one of [`codes`](crate::codes), and the mark `AVTAB_ENABLED`, which has no meaning.
     pub fn specified(&self) -> u16
         ensures { result ≡ self.now.value.specified }
     {
@@ -311,7 +309,7 @@ fn has_plain_kind(bytes: &[u8], place: usize) -> bool
 pub(crate) fn is_plain_kind(kind: u16) -> bool
     ensures { result ≡ is_kind 0 kind }
 {
-    kind == ALLOW || is_kind(0, kind)
+    kind == AVTAB_ALLOWED || is_kind(0, kind)
 }
 
 // Passes over its parts, one after the other.

@@ -5,13 +5,15 @@ ghost use Rattle.pol_avtab.specs.AvKeys.{kind_of};
 ghost use Rattle.pol_avtab.specs.AvRecord.{is_extended, is_default, is_kind, kind_test, xkind_test};
 
 use crate::av_key::AvKey;
+use crate::codes::{
+    AVTAB_ALLOWED, AVTAB_AUDITALLOW, AVTAB_AUDITDENY, AVTAB_CHANGE, AVTAB_ENABLED, AVTAB_MEMBER,
+    AVTAB_TRANSITION, AVTAB_XPERMS, AVTAB_XPERMS_ALLOWED, AVTAB_XPERMS_AUDITALLOW,
+    AVTAB_XPERMS_DONTAUDIT, AVTAB_XPERMS_IOCTLDRIVER, AVTAB_XPERMS_IOCTLFUNCTION,
+};
 use pol_fields::Cause;
 
-// All bits but libsepol's AVTAB_ENABLED_OLD.
-const KIND_BITS: u16 = 0x7fff;
-
-// The three extended kinds, libsepol's AVTAB_XPERMS.
-const EXTENDED_BITS: u16 = 0x700;
+// The bits below the mark.
+const KIND_BITS: u16 = AVTAB_ENABLED - 1;
 
 /// What a rule specifies, without the mark.
 pub fn kind_of(specified: u16) -> u16
@@ -24,7 +26,7 @@ pub fn kind_of(specified: u16) -> u16
 pub fn is_extended(specified: u16) -> bool
     ensures { result ≡ is_extended specified }
 {
-    specified & EXTENDED_BITS != 0
+    specified & AVTAB_XPERMS != 0
 }
 
 /// Whether the data of a rule is a default type.
@@ -32,7 +34,7 @@ pub fn is_default(specified: u16) -> bool
     ensures { result ≡ is_default specified }
 {
     let kind = kind_of(specified);
-    kind == 0x10 || kind == 0x20 || kind == 0x40
+    kind == AVTAB_TRANSITION || kind == AVTAB_MEMBER || kind == AVTAB_CHANGE
 }
 
 /// Whether a version has the kind.
@@ -40,8 +42,9 @@ pub fn is_kind(version: u32, kind: u16) -> bool
     ensures { result ≡ is_kind version kind }
 {
     match kind {
-        0x1 | 0x2 | 0x4 | 0x10 | 0x20 | 0x40 => true,
-        0x100 | 0x200 | 0x400 => version >= 30,
+        AVTAB_ALLOWED | AVTAB_AUDITALLOW | AVTAB_AUDITDENY => true,
+        AVTAB_TRANSITION | AVTAB_MEMBER | AVTAB_CHANGE => true,
+        AVTAB_XPERMS_ALLOWED | AVTAB_XPERMS_AUDITALLOW | AVTAB_XPERMS_DONTAUDIT => version >= 30,
         _ => false,
     }
 }
@@ -64,7 +67,7 @@ pub fn xkind_cause(xkind: u8) -> Option<Cause>
     ensures { result ≡ xkind_test xkind }
 {
     match xkind {
-        1 | 2 => None,
+        AVTAB_XPERMS_IOCTLFUNCTION | AVTAB_XPERMS_IOCTLDRIVER => None,
         _ => Some(Cause::BadExtendedKind),
     }
 }

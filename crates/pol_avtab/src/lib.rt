@@ -1,4 +1,10 @@
-//! Access vectors and their table: records of the policy format.
+//! Access vectors, which are most rules of a policy, and their table.
+//!
+//! ```
+//! let table = read_table(alloc, &mut cursor, version)?;
+//! let first = table.view(0);
+//! let permissions = first.mask(); // of an allow rule: bit v - 1 stands for the permission of value v
+//! ```
 #![tactic(auto)]
 
 mod av_key;
@@ -9,6 +15,7 @@ mod av_table;
 mod av_view;
 mod av_write;
 mod causes;
+pub mod codes;
 mod even_rules;
 mod key_order;
 mod parts;

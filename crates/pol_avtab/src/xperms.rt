@@ -5,6 +5,7 @@ ghost use Rattle.pol_bitmap.specs.Nodes.{IsLeastFrom};
 ghost use Rattle.pol_avtab.specs.XPerms.{xperms_in, has_xbit, holds, numbers_of, shown_mask, IsNextBit};
 
 use crate::causes::kind_of;
+use crate::codes::{AVTAB_AUDITDENY, AVTAB_XPERMS_IOCTLFUNCTION};
 use crate::parts::u8_in;
 use crate::xnumbers::XNumbers;
 use pol_cursor::{array_in, u32_in};
@@ -40,14 +41,14 @@ impl<'a> XPerms<'a> {
         XPerms { bytes, place }
     }
 
-    /// 1 for numbers of one driver, 2 for whole drivers.
+    /// `AVTAB_XPERMS_IOCTLFUNCTION` or `AVTAB_XPERMS_IOCTLDRIVER` of [`codes`](crate::codes).
     pub fn xkind(&self) -> u8
         ensures { result ≡ self.now.xkind }
     {
         u8_in(self.bytes, self.place as usize)
     }
 
-    /// The driver, which is the high byte of the numbers. It has no meaning where the kind is 2.
+    /// The driver, which is the high byte of the numbers. It has no meaning in whole drivers.
     pub fn driver(&self) -> u8
         ensures { result ≡ self.now.driver }
     {
@@ -66,7 +67,7 @@ impl<'a> XPerms<'a> {
         ensures { result ≡ holds self.now number }
     {
         let high = number / 256;
-        if self.xkind() == 1 {
+        if self.xkind() == AVTAB_XPERMS_IOCTLFUNCTION {
             high == self.driver() as u16 && self.has_bit(number % 256)
         } else {
             self.has_bit(high)
@@ -78,7 +79,7 @@ impl<'a> XPerms<'a> {
         ensures some { IfSome result (IsLeastFrom (numbers_of self.now) number) }
         ensures none { IfNone result (All (λ n. n < number) (numbers_of self.now)) }
     {
-        if self.xkind() == 1 {
+        if self.xkind() == AVTAB_XPERMS_IOCTLFUNCTION {
             let first = self.driver() as u16 * 256;
             Some(first + self.next_bit(number.saturating_sub(first))?)
         } else if self.has_bit(number / 256) {
@@ -124,7 +125,7 @@ impl<'a> XPerms<'a> {
 pub fn shown_mask(specified: u16, mask: u32) -> u32
     ensures { result ≡ shown_mask specified mask }
 {
-    if kind_of(specified) == 0x4 {
+    if kind_of(specified) == AVTAB_AUDITDENY {
         !mask
     } else {
         mask

@@ -24,7 +24,8 @@ use Rattle.pol_read.specs.declared.rule.RuleKind.TheVariants.{Allow, Auditallow,
 use Rattle.pol_read.specs.declared.rule_order.RuleKey.{RuleKey}
 use Rattle.pol_file.specs.declared.Parts.{Parts}
 use Rattle.pol_read.specs.StoredRules.{StoredRule, stored_rules}
-use Rattle.pol_read.specs.RuleOrder.{kind_number, source_table, target_table, name_cmp, names_cmp, rule_key, rank_key, rank_key_of, keys_cmp, AreInRuleOrder}
+use Rattle.pol_read.specs.RuleOrder.{name_cmp, names_cmp, rule_names, rule_key, rule_key_of, keys_cmp, AreInRuleOrder}
+use Rattle.pol_read.specs.RuleKinds.{kind_number, source_table, target_table}
 
 -- ---- numbers
 
@@ -143,7 +144,7 @@ both_alike : (o o' p p' : Ordering) → o ≡ o' → p ≡ p' → ordering_then 
 both_alike o o' p p' e f = rw (e, f) refl
 
 -- a key of ranks is below another exactly where the key of names is
-pub keys_as_names : (symbols : Symbols) (m n : ℕ) (r s : StoredRule) → keys_cmp (rank_key symbols m r) (rank_key symbols n s) ≡ names_cmp (rule_key symbols m r) (rule_key symbols n s)
+pub keys_as_names : (symbols : Symbols) (m n : ℕ) (r s : StoredRule) → keys_cmp (rule_key symbols m r) (rule_key symbols n s) ≡ names_cmp (rule_names symbols m r) (rule_names symbols n s)
 keys_as_names symbols m n r s =
     then_alike (nat_cmp (kind_number r.kind) (kind_number s.kind)) _ _ λ e.
     let kinds = equal_numbers (kind_number r.kind) (kind_number s.kind) e in
@@ -160,7 +161,7 @@ not_behind Greater e = absurd cc
 
 -- keys that there may be compare alike too
 rules_alike : (symbols : Symbols) (m n : ℕ) (r s : Option StoredRule)
-    → option_cmp keys_cmp (option_map (rank_key symbols m) r) (option_map (rank_key symbols n) s) ≡ option_cmp names_cmp (option_map (rule_key symbols m) r) (option_map (rule_key symbols n) s)
+    → option_cmp keys_cmp (option_map (rule_key symbols m) r) (option_map (rule_key symbols n) s) ≡ option_cmp names_cmp (option_map (rule_names symbols m) r) (option_map (rule_names symbols n) s)
 rules_alike symbols m n None None = refl
 rules_alike symbols m n None (Some s) = refl
 rules_alike symbols m n (Some r) None = refl
@@ -170,11 +171,11 @@ behind_at : (p : ℕ → ℕ → Bool) (x y m n : ℕ) → x ≡ m → y ≡ n �
 behind_at p x y m n e f h = rw (e, f) at h
 
 -- what is sorted by ranks is in the order of names
-pub in_rule_order : (policy : Parts) (numbers : List ℕ) → IsSortedByKey (rank_key_of policy) (option_cmp keys_cmp) numbers → AreInRuleOrder policy numbers
+pub in_rule_order : (policy : Parts) (numbers : List ℕ) → IsSortedByKey (rule_key_of policy) (option_cmp keys_cmp) numbers → AreInRuleOrder policy numbers
 in_rule_order policy numbers sorted i j m n lt at at' =
     let keys = options_total keys_total in
-    let below = λ (x y : ℕ). is_lt (option_cmp keys_cmp (rank_key_of policy x) (rank_key_of policy y)) in
+    let below = λ (x y : ℕ). is_lt (option_cmp keys_cmp (rule_key_of policy x) (rule_key_of policy y)) in
     let back = behind_at below (get_or numbers j 0) (get_or numbers i 0) n m (get_or_from_slice_get numbers j n 0 at') (get_or_from_slice_get numbers i m 0 at)
-    (sorted_far below (ranks_by keys (rank_key_of policy)) numbers sorted i j 0 (omega (arith, lt)) (slice_get_within numbers j n at')) in
+    (sorted_far below (ranks_by keys (rule_key_of policy)) numbers sorted i j 0 (omega (arith, lt)) (slice_get_within numbers j n at')) in
     ap is_le (sym (rules_alike policy.symbols m n (slice_get (stored_rules policy) m) (slice_get (stored_rules policy) n)))
-    ∙ not_behind (option_cmp keys_cmp (rank_key_of policy m) (rank_key_of policy n)) (ap is_lt (sym (keys.antisymm (rank_key_of policy n) (rank_key_of policy m))) ∙ back)
+    ∙ not_behind (option_cmp keys_cmp (rule_key_of policy m) (rule_key_of policy n)) (ap is_lt (sym (keys.antisymm (rule_key_of policy n) (rule_key_of policy m))) ∙ back)

@@ -47,8 +47,8 @@ use Rattle.pol_read.specs.declared.rule.RulePart.TheVariants as parts
 use Rattle.pol_read.specs.declared.rule.Condition.{Condition}
 use Rattle.pol_read.specs.declared.rule.RuleEnds.{RuleEnds}
 use Rattle.pol_read.specs.StoredRules.{StoredRule, ends_of, rule_kind, rule_part, av_rule, rules_of_branch, rules_of_node, rules_of_nodes, role_trans_rule, role_allow_rule, range_trans_rule, name_rule, name_trans_rule, is_declared_type, declared_sources, rules_of_datum, rules_of_group, name_rules, stored_rules}
-use Rattle.pol_read.specs.RuleOrder.{source_table, target_table}
-use Rattle.pol_read.specs.DeclaredRules.{IsDeclaredIn, ClassIsDeclared, default_table, DefaultIsDeclared, StandsUnder, IsDeclaredRule, AreDeclaredEnds}
+use Rattle.pol_read.specs.RuleKinds.{source_table, target_table, default_table}
+use Rattle.pol_read.specs.DeclaredRules.{IsDeclaredIn, ClassIsDeclared, DefaultIsDeclared, StandsUnder, IsDeclaredRule, AreDeclaredEnds}
 use Rattle.pol_read.proofs.RuleParts.{HasRightPart, HaveRightParts, HaveParts, parts_read}
 
 -- ---- what is true of all items

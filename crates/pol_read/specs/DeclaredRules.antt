@@ -3,7 +3,7 @@
 use Rattle.std.specs.Prelude.{◌≡◌, ℕ, ◌<◌, Bool, true, false, is_some, Option, Some, None, List, length}
 use Rattle.pol_cursor.specs.References.{Placed}
 use Rattle.pol_fields.specs.declared.TableKind.{TableKind}
-use Rattle.pol_fields.specs.declared.TableKind.TheVariants.{Roles, Types, Classes}
+use Rattle.pol_fields.specs.declared.TableKind.TheVariants.{Classes}
 use Rattle.pol_symbols.specs.PolicySymbols.{name_in}
 use Rattle.pol_symbols.specs.declared.Symbols.{Symbols}
 use Rattle.pol_conditionals.specs.declared.CondNodeRec.{CondNodeRec}
@@ -15,7 +15,7 @@ use Rattle.pol_read.specs.declared.rule.Condition.{Condition}
 use Rattle.pol_read.specs.declared.rule.RuleEnds.{RuleEnds}
 use Rattle.pol_file.specs.declared.Parts.{Parts}
 use Rattle.pol_read.specs.StoredRules.{StoredRule}
-use Rattle.pol_read.specs.RuleOrder.{source_table, target_table}
+use Rattle.pol_read.specs.RuleKinds.{source_table, target_table, default_table}
 
 -- a primary record of the table has the value
 abbrev pub IsDeclaredIn : Symbols → TableKind → ℕ → Type 0
@@ -41,11 +41,6 @@ goes_with RoleAllow Nothing = true
 goes_with RoleTransition (Default value) = true
 goes_with RangeTransition (Range range) = true
 goes_with other part = false
-
--- The default of a role transition is a role, and that of the other rules a type.
-abbrev pub default_table : RuleKind → TableKind
-default_table RoleTransition = Roles
-default_table other = Types
 
 -- The default of a rule is declared, where it has one.
 abbrev pub DefaultIsDeclared : Symbols → RuleKind → RulePart → Type 0

@@ -1,3 +1,4 @@
+pub mod RuleKinds
 pub mod StoredRules
 pub mod RuleOrder
 pub mod DeclaredRules

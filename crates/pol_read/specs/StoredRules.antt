@@ -7,6 +7,7 @@ use Rattle.pol_fields.specs.declared.TableKind.TheVariants.{Types}
 use Rattle.pol_bitmap.specs.Nodes.{bits_of}
 use Rattle.pol_symbols.specs.PolicySymbols.{name_in}
 use Rattle.pol_symbols.specs.declared.Symbols.{Symbols}
+use Rattle.pol_avtab.specs.declared.codes.TheConstants.{AVTAB_ALLOWED, AVTAB_AUDITALLOW, AVTAB_AUDITDENY, AVTAB_TRANSITION, AVTAB_MEMBER, AVTAB_CHANGE, AVTAB_XPERMS_ALLOWED, AVTAB_XPERMS_AUDITALLOW}
 use Rattle.pol_avtab.specs.declared.AvRec.{AvRec}
 use Rattle.pol_avtab.specs.declared.AvPart.{AvPart}
 use Rattle.pol_avtab.specs.declared.AvPart.TheVariants.{Data, Extended}
@@ -56,14 +57,14 @@ ends_of rule = record { kind = rule.kind; source = rule.source; target = rule.ta
 -- what an access vector specifies, without the mark of the running system
 abbrev pub rule_kind : ℕ → RuleKind
 rule_kind kind =
-    if kind == 0x1 then Allow else
-    if kind == 0x2 then Auditallow else
-    if kind == 0x4 then Dontaudit else
-    if kind == 0x10 then TypeTransition else
-    if kind == 0x20 then TypeMember else
-    if kind == 0x40 then TypeChange else
-    if kind == 0x100 then AllowXperm else
-    if kind == 0x200 then AuditallowXperm else
+    if kind == AVTAB_ALLOWED then Allow else
+    if kind == AVTAB_AUDITALLOW then Auditallow else
+    if kind == AVTAB_AUDITDENY then Dontaudit else
+    if kind == AVTAB_TRANSITION then TypeTransition else
+    if kind == AVTAB_MEMBER then TypeMember else
+    if kind == AVTAB_CHANGE then TypeChange else
+    if kind == AVTAB_XPERMS_ALLOWED then AllowXperm else
+    if kind == AVTAB_XPERMS_AUDITALLOW then AuditallowXperm else
     DontauditXperm
 
 -- its default type, or the permissions that it shows

@@ -1,4 +1,12 @@
 //! A policy that was accepted, with its stored rules by their numbers, and the order in which these are listed.
+//!
+//! ```
+//! let policy = read(alloc, &bytes)?;
+//! for number in 0..policy.rule_count() {
+//!     let rule = policy.rule(number);
+//!     let source = policy.symbols().name_of(rule.kind.source_table(), rule.source);
+//! }
+//! ```
 #![tactic(auto)]
 
 mod declared_law;

@@ -1,6 +1,5 @@
 ghost use Rattle.std.specs.Prelude.{◌≡◌};
-ghost use Rattle.pol_read.specs.DeclaredRules.{default_table};
-ghost use Rattle.pol_read.specs.RuleOrder.{source_table, target_table};
+ghost use Rattle.pol_read.specs.RuleKinds.{default_table, source_table, target_table};
 
 use pol_avtab::XPerms;
 use pol_fields::TableKind;

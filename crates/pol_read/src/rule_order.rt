@@ -1,7 +1,8 @@
 // The order in which rules are listed, by ranks in place of names: no name is compared.
 ghost use Rattle.std.specs.Prelude.{◌≡◌};
 ghost use Rattle.pol_read.specs.StoredRules.{stored};
-ghost use Rattle.pol_read.specs.RuleOrder.{kind_number, rank_key};
+ghost use Rattle.pol_read.specs.RuleOrder.{rule_key};
+ghost use Rattle.pol_read.specs.RuleKinds.{kind_number};
 
 use crate::rule::{Rule, RuleKind};
 use pol_fields::TableKind;
@@ -27,7 +28,7 @@ fn number_of(kind: RuleKind) -> u32
 
 /// The key of a rule that has that number.
 pub fn rule_key(symbols: &Symbols<'_>, number: u32, rule: &Rule<'_>) -> RuleKey
-    ensures { result ≡ rank_key symbols.now number (stored rule.now) }
+    ensures { result ≡ rule_key symbols.now number (stored rule.now) }
 {
     RuleKey {
         kind: number_of(rule.kind),

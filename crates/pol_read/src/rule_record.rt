@@ -5,6 +5,10 @@ ghost use Rattle.pol_read.specs.StoredRules.{StoredRule, stored, ends_of, rule_k
 ghost use Rattle.pol_read.specs.Inner.RuleRecords.{rule_of};
 
 use crate::rule::{Condition, Rule, RuleEnds, RuleKind, RulePart};
+use pol_avtab::codes::{
+    AVTAB_ALLOWED, AVTAB_AUDITALLOW, AVTAB_AUDITDENY, AVTAB_CHANGE, AVTAB_MEMBER, AVTAB_TRANSITION,
+    AVTAB_XPERMS_ALLOWED, AVTAB_XPERMS_AUDITALLOW,
+};
 use pol_avtab::{AvKey, AvView, shown_mask};
 use pol_trans::{
     NameDatumView, NameGroupView, NameTransView, RangeTransView, RoleAllowView, RoleTransView,
@@ -167,21 +171,21 @@ pub fn vector_ends(key: AvKey) -> RuleEnds
     }
 }
 
-/// The kind of rule that an access vector is which specifies this, without the mark 0x8000, which has no meaning in a file. What no
+/// The kind of rule that an access vector is which specifies this, without the mark `AVTAB_ENABLED`, which has no meaning in a file. What no
 /// other kind specifies is that of dontaudit rules with ioctl numbers.
 #[inline(always)]
 pub fn rule_kind(kind: u16) -> RuleKind
     ensures { result ≡ rule_kind kind }
 {
     match kind {
-        0x1 => RuleKind::Allow,
-        0x2 => RuleKind::Auditallow,
-        0x4 => RuleKind::Dontaudit,
-        0x10 => RuleKind::TypeTransition,
-        0x20 => RuleKind::TypeMember,
-        0x40 => RuleKind::TypeChange,
-        0x100 => RuleKind::AllowXperm,
-        0x200 => RuleKind::AuditallowXperm,
+        AVTAB_ALLOWED => RuleKind::Allow,
+        AVTAB_AUDITALLOW => RuleKind::Auditallow,
+        AVTAB_AUDITDENY => RuleKind::Dontaudit,
+        AVTAB_TRANSITION => RuleKind::TypeTransition,
+        AVTAB_MEMBER => RuleKind::TypeMember,
+        AVTAB_CHANGE => RuleKind::TypeChange,
+        AVTAB_XPERMS_ALLOWED => RuleKind::AllowXperm,
+        AVTAB_XPERMS_AUDITALLOW => RuleKind::AuditallowXperm,
         _ => RuleKind::DontauditXperm,
     }
 }
@@ -209,7 +213,7 @@ fn plain_part<'a>(specified: u16, kind: u16, mask: u32) -> RulePart<'a>
     ensures { result ≡ plain_part specified mask }
 {
     match kind {
-        0x10 | 0x20 | 0x40 => RulePart::Default(mask),
+        AVTAB_TRANSITION | AVTAB_MEMBER | AVTAB_CHANGE => RulePart::Default(mask),
         _ => RulePart::Perms(shown_mask(specified, mask)),
     }
 }

@@ -1,7 +1,7 @@
 // Numbers of rules, put in the order in which the rules are listed.
 ghost use Rattle.std.specs.Prelude.{◌≡◌};
 ghost use Rattle.std.specs.List.Sorted.{IsPermutation};
-ghost use Rattle.pol_read.specs.RuleOrder.{AreInRuleOrder, rank_key_of};
+ghost use Rattle.pol_read.specs.RuleOrder.{AreInRuleOrder, rule_key_of};
 
 use crate::policy::Policy;
 use crate::rule_order::{RuleKey, rule_key};
@@ -9,7 +9,7 @@ use crate::rule_order::{RuleKey, rule_key};
 impl<'a> Policy<'a> {
     // The key of the rule of a number, where there is one.
     fn key_of(&self, number: u32) -> Option<RuleKey>
-        ensures { result ≡ rank_key_of self.now number }
+        ensures { result ≡ rule_key_of self.now number }
     {
         if number < self.rule_count() {
             Some(rule_key(self.symbols(), number, &self.rule(number)))

@@ -19,7 +19,7 @@ use Rattle.pol_file.specs.TypeValues.{IsTypeValue, HasTypeValues}
 use Rattle.pol_read.specs.declared.RuleKind.{RuleKind}
 use Rattle.pol_read.specs.declared.RuleKind.TheVariants.{RoleAllow, RoleTransition}
 use Rattle.pol_read.specs.StoredRules.{StoredRule, stored_rules}
-use Rattle.pol_read.specs.RuleOrder.{source_table, target_table}
+use Rattle.pol_read.specs.RuleKinds.{source_table, target_table}
 use Rattle.pol_read.specs.DeclaredRules.{IsDeclaredRule, IsDeclaredIn}
 use Rattle.rule_ends.specs.ChosenRules.{passes, rule_passes, has_type_ends, is_between_types}
 use Rattle.rule_ends.specs.Inner.EndTables.{IsEnd, AreEndsOf, has_ends}

@@ -7,7 +7,7 @@ use Rattle.pol_read.specs.StoredRules.{StoredRule, av_rule, ends_of, stored_rule
 use Rattle.pol_read.proofs.RuleSums.{table_first}
 use Rattle.pol_symbols.specs.PolicySymbols.{name_in}
 use Rattle.rule_text.specs.ConditionTexts.{condition_text}
-use Rattle.rule_text.specs.Inner.RuleFrames.{given_text}
+use Rattle.rule_text.specs.RuleFrames.{given_text}
 use Rattle.rule_text.specs.RuleTexts.{rest_text, rule_text, text_found, text_of_rule}
 use Rattle.rule_listing.specs.Inner.KeptTexts.{begun_text, ended_text}
 

@@ -1,2 +1,1 @@
 pub mod KeptTexts
-pub mod ReadRules

@@ -1,1 +1,2 @@
+pub mod ReadRules
 pub mod Inner

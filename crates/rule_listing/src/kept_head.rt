@@ -2,7 +2,7 @@
 
 ghost use Rattle.std.specs.Prelude.{◌≡◌, ◌++◌, Some, OnOk};
 ghost use Rattle.pol_symbols.specs.declared.Symbols.{Symbols};
-ghost use Rattle.rule_text.specs.Inner.RuleFrames.{head_text};
+ghost use Rattle.rule_text.specs.RuleFrames.{head_text};
 ghost use Rattle.rule_listing.specs.Inner.KeptTexts.{IsHead};
 
 use pol_read::RuleKind;

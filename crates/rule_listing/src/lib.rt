@@ -1,4 +1,13 @@
 //! The lines of stored rules where many are listed, one after the other: what they have in common is made once.
+//!
+//! ```
+//! let mut texts = ListedTexts::new(alloc, &policy)?;
+//! let mut ahead = RulesAhead::new(&policy, &numbers);
+//! while let Some(rule) = ahead.front() {
+//!     texts.push_rule(rule, &mut line)?;
+//!     ahead.pass();
+//! }
+//! ```
 #![tactic(auto)]
 
 mod kept_head;

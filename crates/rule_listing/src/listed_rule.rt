@@ -1,7 +1,7 @@
 //! Rules whose lines are to be made.
 
 ghost use Rattle.std.specs.Prelude.{◌≡◌, Some, IfSome, slice_get};
-ghost use Rattle.rule_listing.specs.Inner.ReadRules.{is_plain};
+ghost use Rattle.rule_listing.specs.ReadRules.{is_plain};
 
 use pol_avtab::AvView;
 use pol_read::Policy;

@@ -90,7 +90,7 @@ impl<'p, 'a> ListedTexts<'p, 'a> {
     }
 
     // Adds the class of a rule, its default, and the end.
-    #[tactic(auto, unfolding(rule_text::specs::Inner::RuleFrames::given_text, rule_text::specs::RuleTexts::part_text, rule_text::specs::RuleTexts::file_name_text))]
+    #[tactic(auto, unfolding(rule_text::specs::RuleFrames::given_text, rule_text::specs::RuleTexts::part_text, rule_text::specs::RuleTexts::file_name_text))]
     #[inline(always)]
     fn push_default(
         &mut self,
@@ -128,7 +128,7 @@ impl<'p, 'a> ListedTexts<'p, 'a> {
     }
 
     // Adds the first word of a rule, and its ends.
-    #[tactic(auto, unfolding(rule_text::specs::RuleTexts::ends_text, rule_text::specs::Inner::RuleFrames::head_text))]
+    #[tactic(auto, unfolding(rule_text::specs::RuleTexts::ends_text, rule_text::specs::RuleFrames::head_text))]
     #[inline(always)]
     fn push_ends(&mut self, ends: RuleEnds, buffer: &mut Vec<u8>) -> Result<(), AllocError>
         ensures policy { self.new ≡ self.old }

@@ -2,7 +2,7 @@
 
 ghost use Rattle.std.specs.Prelude.{◌≡◌, ◌<◌, ◌≤◌, [], All, MatchOption, length, map, take};
 ghost use Rattle.pol_read.specs.StoredRules.{stored_rules};
-ghost use Rattle.rule_listing.specs.Inner.ReadRules.{IsOfFirst, PassesNumber, is_plain};
+ghost use Rattle.rule_listing.specs.ReadRules.{IsOfFirst, PassesNumber, is_plain};
 
 use crate::listed_rule::{ListedRule, is_plain};
 use pol_read::Policy;
@@ -28,7 +28,7 @@ pub struct RulesAhead<'q, 'p, 'a> {
 
 impl<'q, 'p, 'a> Model for RulesAhead<'q, 'p, 'a> {
     ghost use Rattle.std.specs.Prelude.{◌≤◌, drop, length};
-    ghost use Rattle.rule_listing.specs.Inner.ReadRules.{AreNumbers, RulesLeft};
+    ghost use Rattle.rule_listing.specs.ReadRules.{AreNumbers, RulesLeft};
 
     ghost Value = { RulesLeft };
 

@@ -1,2 +1,3 @@
 pub mod ListedOrder
+pub mod RuleKeys
 pub mod Inner

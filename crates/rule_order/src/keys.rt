@@ -5,8 +5,9 @@ ghost use Rattle.std.specs.Cmp.{partial_order_from_own_ties, partial_order_from_
 ghost use Rattle.std.specs.Cmp.Rules.{comparing};
 ghost use Rattle.std.specs.Ordering.{as_partial_cmp};
 ghost use Rattle.pol_symbols.specs.PolicySymbols.{rank_in};
-ghost use Rattle.pol_read.specs.RuleOrder.{source_table, target_table};
-ghost use Rattle.rule_order.specs.Inner.Keys.{AreWords, key_of_ends, key_of_word, keys_total, names_number, plain_cmp, rank_or_zero};
+ghost use Rattle.pol_read.specs.RuleKinds.{source_table, target_table};
+ghost use Rattle.rule_order.specs.Inner.Keys.{AreWords, key_of_word, names_number};
+ghost use Rattle.rule_order.specs.RuleKeys.{key_of_ends, keys_total, plain_cmp, rank_or_zero};
 
 use pol_fields::TableKind;
 use pol_read::{RuleEnds, RuleKind};

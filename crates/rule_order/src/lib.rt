@@ -1,4 +1,10 @@
-//! Numbers of stored rules in the order in which the rules are listed.
+//! Numbers of stored rules in the order in which the rules are listed: by kind, then by the names of source, target and class, then by
+//! number.
+//!
+//! ```
+//! let numbers = [7, 3, 12];
+//! let listed = sort_by_rule_order(alloc, &policy, &numbers)?; // the same numbers, each once, rising by their rules
+//! ```
 #![tactic(auto)]
 
 mod key_list;

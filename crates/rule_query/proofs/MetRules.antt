@@ -11,7 +11,7 @@ use Rattle.pol_read.specs.DeclaredRules.{IsDeclaredRule}
 use Rattle.pol_read.specs.StoredRules.{StoredRule, av_rule, rules_of_branch, rules_of_node, stored_rules}
 use Rattle.pol_read.proofs.RuleSums.{get_left, get_right}
 use Rattle.rule_order.specs.declared.keys.Key.{Key}
-use Rattle.rule_order.specs.Inner.Keys.{AreGathered}
+use Rattle.rule_order.specs.RuleKeys.{AreGathered}
 use Rattle.rule_query.specs.declared.query.Query.{Query}
 use Rattle.rule_query.specs.Inner.Gathering.{HasMet, StandFrom}
 use Rattle.rule_query.specs.Meeting.{meets}

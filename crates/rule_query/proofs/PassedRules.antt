@@ -13,7 +13,7 @@ use Rattle.pol_file.specs.declared.Parts.{Parts}
 use Rattle.pol_file.specs.Acceptance.{accept}
 use Rattle.pol_fields.specs.declared.TableKind.{TableKind}
 use Rattle.pol_fields.specs.declared.TableKind.TheVariants.{Types}
-use Rattle.pol_read.specs.RuleOrder.{source_table, target_table}
+use Rattle.pol_read.specs.RuleKinds.{source_table, target_table}
 use Rattle.pol_read.specs.StoredRules.{StoredRule, av_rule, stored_rules}
 use Rattle.pol_read.proofs.RuleSums.{section_sizes, table_first}
 use Rattle.pol_read.proofs.RulesDeclared.{rule_is_declared, source_of, target_of}

@@ -13,7 +13,7 @@ use Rattle.pol_read.specs.declared.RuleKind.TheVariants.{RoleAllow}
 use Rattle.pol_read.specs.declared.RulePart.{RulePart}
 use Rattle.pol_read.specs.declared.RulePart.TheVariants.{Default}
 use Rattle.pol_read.specs.declared.Condition.{Condition}
-use Rattle.pol_read.specs.DeclaredRules.{default_table}
+use Rattle.pol_read.specs.RuleKinds.{default_table}
 use Rattle.pol_file.specs.declared.Parts.{Parts}
 use Rattle.named_values.specs.Named.{is_named}
 use Rattle.named_values.specs.Found.{is_found}

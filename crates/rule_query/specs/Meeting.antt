@@ -3,7 +3,7 @@
 use Rattle.std.specs.Prelude.{ℕ, Bool, false, ◌&&◌, Option, Some, None, List, length, slice_get}
 use Rattle.std.specs.List.{filter, list_all, range_with_len}
 use Rattle.pol_file.specs.declared.Parts.{Parts}
-use Rattle.pol_read.specs.RuleOrder.{source_table, target_table}
+use Rattle.pol_read.specs.RuleKinds.{source_table, target_table}
 use Rattle.pol_read.specs.StoredRules.{StoredRule, stored_rules}
 use Rattle.rule_criteria.specs.declared.Criteria.{Criteria}
 use Rattle.rule_criteria.specs.declared.Criterion.{Criterion}

@@ -9,8 +9,7 @@ use Rattle.pol_symbols.specs.PolicySymbols.{value_in}
 use Rattle.pol_symbols.specs.declared.Symbols.{Symbols}
 use Rattle.pol_read.specs.declared.RuleKind.{RuleKind}
 use Rattle.pol_read.specs.declared.RuleKind.TheVariants.{Allow, Auditallow, Dontaudit, AllowXperm, AuditallowXperm, DontauditXperm, TypeTransition, TypeChange, TypeMember, RoleAllow, RoleTransition, RangeTransition}
-use Rattle.pol_read.specs.DeclaredRules.{default_table}
-use Rattle.pol_read.specs.RuleOrder.{source_table, target_table}
+use Rattle.pol_read.specs.RuleKinds.{default_table, source_table, target_table}
 use Rattle.rule_criteria.specs.Elements.{elements_of}
 use Rattle.rule_criteria.specs.Modes.{is_pattern}
 use Rattle.rule_query.specs.declared.given.Aspect.{Aspect}

@@ -1,7 +1,7 @@
 // The rules that meet a query, gathered section by section, where they stand.
 ghost use Rattle.std.specs.Prelude.{◌≡◌, ◌+◌, ◌<◌, ◌≤◌, [], Some, IfOk, OnOk, length, option_map, slice_get};
 ghost use Rattle.pol_read.specs.StoredRules.{av_rule, ends_of, rules_of_branch, rules_of_node, stored_rules};
-ghost use Rattle.rule_order.specs.Inner.Keys.{AreGathered};
+ghost use Rattle.rule_order.specs.RuleKeys.{AreGathered};
 ghost use Rattle.rule_query.specs.Inner.Gathering.{HasMet, PassesOver, StandFrom};
 ghost use Rattle.rule_query.specs.Inner.MarkedSets.{AreMarksOfSome};
 ghost use Rattle.rule_query.specs.Inner.Tests.{first_of, types_of};

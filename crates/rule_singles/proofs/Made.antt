@@ -13,7 +13,7 @@ use Rattle.set_products.specs.declared.Entry.{Entry}
 use Rattle.set_products.specs.Members.{AreNumbers, HasNumbers, Product, bits_at, product_of, products_of}
 use Rattle.pol_read.specs.declared.rule.RuleEnds.{RuleEnds}
 use Rattle.pol_read.specs.DeclaredRules.{AreDeclaredEnds, IsDeclaredIn}
-use Rattle.pol_read.specs.RuleOrder.{source_table, target_table}
+use Rattle.pol_read.specs.RuleKinds.{source_table, target_table}
 use Rattle.pol_read.specs.StoredRules.{StoredRule, ends_of, stored_rules}
 use Rattle.rule_criteria.specs.declared.Criteria.{Criteria}
 use Rattle.rule_criteria.specs.declared.Criterion.{Criterion}

@@ -8,7 +8,7 @@ use Rattle.pol_file.specs.declared.Parts.{Parts}
 use Rattle.pol_expand.specs.PolicyMap.{expand}
 use Rattle.set_products.specs.declared.Single.{Single}
 use Rattle.set_products.specs.Members.{Product, members}
-use Rattle.pol_read.specs.RuleOrder.{source_table, target_table}
+use Rattle.pol_read.specs.RuleKinds.{source_table, target_table}
 use Rattle.pol_read.specs.StoredRules.{StoredRule, stored_rules}
 use Rattle.rule_criteria.specs.declared.Criteria.{Criteria}
 use Rattle.rule_criteria.specs.declared.Criterion.{Criterion}

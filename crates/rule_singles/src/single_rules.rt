@@ -10,10 +10,10 @@ ghost use Rattle.rule_singles.specs.Singles.{ends_of_rule};
 use crate::end_sets::EndSets;
 use pol_bitmap::Pool;
 use pol_expand::TypeMap;
-use set_products::{CountedSets, Entry, Places};
 use pol_read::Policy;
 use rule_criteria::Criteria;
 use rule_query::Query;
+use set_products::{CountedSets, Entry, Places};
 use std::alloc::{AllocError, Global};
 use std::marker::Model;
 

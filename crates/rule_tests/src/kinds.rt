@@ -1,6 +1,6 @@
 // The kinds of rules that are asked.
 ghost use Rattle.std.specs.Prelude.{◌≡◌, ◌<◌};
-ghost use Rattle.pol_read.specs.RuleOrder.{kind_number};
+ghost use Rattle.pol_read.specs.RuleKinds.{kind_number};
 ghost use Rattle.rule_tests.specs.AskedKinds.{is_kind_asked};
 ghost use Rattle.rule_tests.specs.Inner.AskedVectors.{is_any_asked};
 

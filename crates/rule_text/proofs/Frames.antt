@@ -5,9 +5,9 @@ use Rattle.pol_cursor.specs.References.{name_of}
 use Rattle.pol_symbols.specs.PolicySymbols.{name_in}
 use Rattle.pol_symbols.specs.declared.Symbols.{Symbols}
 use Rattle.pol_file.specs.declared.Parts.{Parts}
-use Rattle.pol_read.specs.RuleOrder.{source_table, target_table}
+use Rattle.pol_read.specs.RuleKinds.{source_table, target_table}
 use Rattle.pol_read.specs.StoredRules.{StoredRule, stored_rules}
-use Rattle.rule_text.specs.Inner.RuleFrames.{head_text}
+use Rattle.rule_text.specs.RuleFrames.{head_text}
 use Rattle.rule_text.specs.RuleTexts.{keyword, ends_text, rest_text, rule_text, single_text}
 
 joined : (word space source target rest end : List ℕ) → word ++ space ++ source ++ space ++ target ++ (rest ++ end) ≡ word ++ space ++ (source ++ space ++ target) ++ rest ++ end

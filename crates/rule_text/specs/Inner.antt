@@ -1,4 +1,3 @@
 pub mod ClassPermissions
 pub mod IoctlRuns
-pub mod RuleFrames
 pub mod ShownNames

@@ -1,4 +1,5 @@
 pub mod IoctlTexts
 pub mod ConditionTexts
 pub mod RuleTexts
+pub mod RuleFrames
 pub mod Inner

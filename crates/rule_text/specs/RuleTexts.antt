@@ -13,8 +13,7 @@ use Rattle.pol_read.specs.declared.rule.RuleKind.TheVariants.{Allow, Auditallow,
 use Rattle.pol_read.specs.declared.rule.RulePart.{RulePart}
 use Rattle.pol_read.specs.declared.rule.RulePart.TheVariants.{Perms, Numbers, Default, Range, Nothing}
 use Rattle.pol_read.specs.StoredRules.{StoredRule, stored_rules}
-use Rattle.pol_read.specs.RuleOrder.{source_table, target_table}
-use Rattle.pol_read.specs.DeclaredRules.{default_table}
+use Rattle.pol_read.specs.RuleKinds.{source_table, target_table, default_table}
 use Rattle.info_lines.specs.PermissionSets.{permissions_text}
 use Rattle.rule_text.specs.IoctlTexts.{ioctl_text}
 use Rattle.rule_text.specs.ConditionTexts.{condition_text}

@@ -1,4 +1,9 @@
 //! The text of a stored rule: a line of a search, and what transitions and flows print of a rule.
+//!
+//! ```
+//! let mut line = Vec::new(alloc);
+//! push_rule(&policy, number, &mut line)?; // allow init_t etc_t:file { getattr read };
+//! ```
 #![tactic(auto)]
 
 mod class_permissions;

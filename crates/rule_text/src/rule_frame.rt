@@ -1,7 +1,7 @@
 //! The line of a rule with its ends left open.
 
 ghost use Rattle.std.specs.Prelude.{◌≡◌, ◌++◌, OnOk};
-ghost use Rattle.rule_text.specs.Inner.RuleFrames.{frame_head, frame_target};
+ghost use Rattle.rule_text.specs.RuleFrames.{frame_head, frame_target};
 
 use crate::rule_parts::push_head;
 use pol_cursor::push_name;
@@ -19,7 +19,7 @@ pub struct RuleFrame<'p, 'a> {
 
 impl<'p, 'a> RuleFrame<'p, 'a> {
     /// Adds what stands before the targets of a source: a type, or a role where the sources of such rules are roles.
-    #[tactic(auto, unfolding(crate::specs::Inner::RuleFrames::frame_head))]
+    #[tactic(auto, unfolding(crate::specs::RuleFrames::frame_head))]
     pub fn push_head(&self, source: u32, head: &mut Vec<u8>) -> Result<(), AllocError>
         ensures { OnOk result (head.new.items ≡ head.old.items ++ frame_head self.now source) }
     {
@@ -27,7 +27,7 @@ impl<'p, 'a> RuleFrame<'p, 'a> {
     }
 
     /// Adds a target by its name.
-    #[tactic(auto, unfolding(crate::specs::Inner::RuleFrames::frame_target))]
+    #[tactic(auto, unfolding(crate::specs::RuleFrames::frame_target))]
     pub fn push_target(&self, target: u32, buffer: &mut Vec<u8>) -> Result<(), AllocError>
         ensures { OnOk result (buffer.new.items ≡ buffer.old.items ++ frame_target self.now target) }
     {

@@ -4,9 +4,9 @@ ghost use Rattle.std.specs.Prelude.{◌≡◌, ◌++◌, OnOk, option_map};
 ghost use Rattle.pol_cursor.specs.References.{name_of};
 ghost use Rattle.pol_mls.specs.MlsTexts.{range_text};
 ghost use Rattle.pol_symbols.specs.PolicySymbols.{name_in, permissions_in_class};
-ghost use Rattle.pol_read.specs.RuleOrder.{target_table};
+ghost use Rattle.pol_read.specs.RuleKinds.{target_table};
 ghost use Rattle.rule_text.specs.Inner.ClassPermissions.{ShowsPart};
-ghost use Rattle.rule_text.specs.Inner.RuleFrames.{head_text};
+ghost use Rattle.rule_text.specs.RuleFrames.{head_text};
 ghost use Rattle.rule_text.specs.RuleTexts.{keyword, class_text, part_text, file_name_text};
 
 use crate::ioctl_texts::push_ioctl_text;
@@ -41,7 +41,7 @@ fn keyword(kind: RuleKind) -> &'static [u8]
 }
 
 /// Adds the first word of the rules of a kind and a source, each with the space behind it.
-#[tactic(auto, unfolding(crate::specs::Inner::RuleFrames::head_text))]
+#[tactic(auto, unfolding(crate::specs::RuleFrames::head_text))]
 pub fn push_head(
     buffer: &mut Vec<u8>,
     symbols: &Symbols<'_>,

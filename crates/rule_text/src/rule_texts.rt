@@ -4,8 +4,8 @@ ghost use Rattle.std.specs.Prelude.{◌≡◌, ◌<◌, ◌++◌, ℕ, OnOk, IfO
 ghost use Rattle.pol_symbols.specs.PolicySymbols.{permissions_in_class};
 ghost use Rattle.pol_read.specs.StoredRules.{stored_rules};
 ghost use Rattle.rule_text.specs.Inner.ClassPermissions.{ShowsPart};
-ghost use Rattle.rule_text.specs.Inner.RuleFrames.{given_text};
-ghost use Rattle.rule_text.specs.Inner.RuleFrames.{frame_line};
+ghost use Rattle.rule_text.specs.RuleFrames.{given_text};
+ghost use Rattle.rule_text.specs.RuleFrames.{frame_line};
 ghost use Rattle.rule_text.specs.RuleTexts.{text_of_rule, single_text};
 
 use crate::permission_table::PermissionTable;

@@ -5,7 +5,7 @@ ghost use Rattle.pol_symbols.specs.PolicySymbols.{permissions_in_class};
 ghost use Rattle.pol_read.specs.StoredRules.{stored};
 ghost use Rattle.pol_read.specs.DeclaredRules.{StandsUnder};
 ghost use Rattle.rule_text.specs.Inner.ClassPermissions.{ShowsPart};
-ghost use Rattle.rule_text.specs.Inner.RuleFrames.{end_text, given_text};
+ghost use Rattle.rule_text.specs.RuleFrames.{end_text, given_text};
 ghost use Rattle.rule_text.specs.RuleTexts.{between, ends_text, keyword, rest_text, rule_text};
 
 use crate::condition_texts::push_condition;
@@ -35,7 +35,7 @@ pub(crate) fn push_between(
 }
 
 // Adds the first word of the rules of a kind, and two ends.
-#[tactic(auto, unfolding(crate::specs::RuleTexts::ends_text, crate::specs::Inner::RuleFrames::head_text))]
+#[tactic(auto, unfolding(crate::specs::RuleTexts::ends_text, crate::specs::RuleFrames::head_text))]
 fn push_ends(
     buffer: &mut Vec<u8>,
     symbols: &Symbols<'_>,
@@ -50,7 +50,7 @@ fn push_ends(
 }
 
 /// Adds what stands behind the ends of a rule.
-#[tactic(auto, unfolding(crate::specs::RuleTexts::rest_text, crate::specs::Inner::RuleFrames::given_text))]
+#[tactic(auto, unfolding(crate::specs::RuleTexts::rest_text, crate::specs::RuleFrames::given_text))]
 pub(crate) fn push_rest(
     buffer: &mut Vec<u8>,
     policy: &Policy<'_>,
@@ -67,7 +67,7 @@ pub(crate) fn push_rest(
 }
 
 /// Adds the class of a rule and what the rule gives.
-#[tactic(auto, unfolding(crate::specs::Inner::RuleFrames::given_text))]
+#[tactic(auto, unfolding(crate::specs::RuleFrames::given_text))]
 pub(crate) fn push_given(
     buffer: &mut Vec<u8>,
     symbols: &Symbols<'_>,

@@ -6,7 +6,7 @@ use Rattle.pol_file.specs.declared.Parts.{Parts}
 use Rattle.pol_expand.specs.PolicyMap.{expand}
 use Rattle.set_products.specs.declared.Single.{Single}
 use Rattle.set_products.specs.Members.{single_rules}
-use Rattle.pol_read.specs.RuleOrder.{source_table, target_table}
+use Rattle.pol_read.specs.RuleKinds.{source_table, target_table}
 use Rattle.pol_read.specs.StoredRules.{StoredRule, stored_rules}
 
 -- what an end of a table stands for: a type or an attribute for the types that it expands to, and a role for itself

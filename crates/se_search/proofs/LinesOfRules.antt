@@ -3,7 +3,7 @@ use Rattle.std.proofs.Common.{◌≡◌, ◌∙◌, ℕ, ◌<◌, Bool, true, fa
 use Rattle.pol_file.specs.declared.Parts.{Parts}
 use Rattle.rule_listing.specs.declared.listed_rule.ListedRule.{ListedRule}
 use Rattle.pol_read.specs.StoredRules.{stored_rules}
-use Rattle.rule_listing.specs.Inner.ReadRules.{IsOfFirst, PassesNumber}
+use Rattle.rule_listing.specs.ReadRules.{IsOfFirst, PassesNumber}
 use Rattle.se_items.specs.Inner.Items.{Passes, PushesItem}
 use Rattle.se_search.specs.SearchAnswer.{rule_line}
 

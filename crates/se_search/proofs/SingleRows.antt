@@ -14,7 +14,7 @@ use Rattle.set_products.specs.Members.{Product, members, members_of}
 use Rattle.set_products.specs.Standing.{IsRowAt, RowGives, StandsAt, member_in}
 use Rattle.set_products.proofs.Products.{get_dropped}
 use Rattle.pol_read.specs.StoredRules.{stored_rules}
-use Rattle.rule_text.specs.Inner.RuleFrames.{frame_target}
+use Rattle.rule_text.specs.RuleFrames.{frame_target}
 use Rattle.se_items.specs.Paging.{limited, most_items, page}
 use Rattle.se_search.specs.declared.row_lines.RowLines.{RowLines}
 use Rattle.se_search.specs.declared.row_lines.SourceFrame.{SourceFrame}

@@ -2,7 +2,7 @@
 ghost use Rattle.std.specs.Prelude.{◌≡◌, ◌++◌, ◌<◌, ℕ, IfOk, length};
 ghost use Rattle.pol_file.specs.declared.Parts.{Parts};
 ghost use Rattle.pol_read.specs.StoredRules.{stored_rules};
-ghost use Rattle.rule_text.specs.Inner.RuleFrames.{frame_target};
+ghost use Rattle.rule_text.specs.RuleFrames.{frame_target};
 ghost use Rattle.se_search.specs.Inner.RowLines.{IsFrameOf, IsHeadOf, IsLast, PushesTargets};
 
 use pol_bitmap::SetBits;

@@ -14,7 +14,7 @@ use Rattle.rule_listing.specs.declared.kept_head.KeptHead.{KeptHead}
 use Rattle.rule_listing.specs.declared.kept_texts.KeptText.{KeptText}
 use Rattle.rule_listing.specs.declared.kept_texts.TextKey.{TextKey}
 use Rattle.rule_listing.specs.declared.kept_texts.TextKey.TheVariants.{Perms, Under}
-use Rattle.rule_text.specs.Inner.RuleFrames.{head_text, given_text}
+use Rattle.rule_text.specs.RuleFrames.{head_text, given_text}
 use Rattle.rule_text.specs.RuleTexts.{ends_text, file_name_text, keyword}
 use Rattle.rule_text.specs.ConditionTexts.{condition_text}
 

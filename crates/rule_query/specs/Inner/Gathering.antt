@@ -9,7 +9,7 @@ use Rattle.pol_read.specs.declared.Condition.{Condition}
 use Rattle.pol_read.specs.StoredRules.{StoredRule, av_rule, stored_rules}
 use Rattle.rule_criteria.specs.declared.Criteria.{Criteria}
 use Rattle.rule_order.specs.declared.keys.Key.{Key}
-use Rattle.rule_order.specs.Inner.Keys.{AreGathered}
+use Rattle.rule_order.specs.RuleKeys.{AreGathered}
 use Rattle.rule_tests.specs.Inner.AskedVectors.{VectorMarks, may_be_asked}
 use Rattle.rule_query.specs.declared.query.Query.{Query}
 use Rattle.rule_query.specs.Meeting.{meets}

@@ -5,8 +5,7 @@ use Rattle.pol_fields.specs.declared.TableKind.{TableKind}
 use Rattle.pol_fields.specs.declared.TableKind.TheVariants as tables
 use Rattle.pol_symbols.specs.declared.Symbols.{Symbols}
 use Rattle.pol_read.specs.declared.RuleKind.{RuleKind}
-use Rattle.pol_read.specs.DeclaredRules.{default_table}
-use Rattle.pol_read.specs.RuleOrder.{source_table, target_table}
+use Rattle.pol_read.specs.RuleKinds.{default_table, source_table, target_table}
 use Rattle.rule_query.specs.declared.given.Aspect.{Aspect}
 use Rattle.rule_query.specs.declared.given.Aspect.TheVariants.{Source, Target, Permissions, Numbers, Booleans}
 use Rattle.rule_query.specs.declared.refusing.Refusal.{Refusal}

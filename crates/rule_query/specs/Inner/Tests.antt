@@ -16,8 +16,8 @@ use Rattle.pol_read.specs.declared.RuleKind.TheVariants.{RoleAllow}
 use Rattle.pol_read.specs.declared.RulePart.{RulePart}
 use Rattle.pol_read.specs.declared.RulePart.TheVariants as parts
 use Rattle.pol_read.specs.declared.Condition.{Condition}
-use Rattle.pol_read.specs.DeclaredRules.{IsDeclaredIn, default_table}
-use Rattle.pol_read.specs.RuleOrder.{source_table, target_table}
+use Rattle.pol_read.specs.DeclaredRules.{IsDeclaredIn}
+use Rattle.pol_read.specs.RuleKinds.{default_table, source_table, target_table}
 use Rattle.pol_read.specs.StoredRules.{StoredRule}
 use Rattle.regex.specs.declared.string.regex.Regex.{Regex}
 use Rattle.se_outside.specs.Patterns.{IsBuiltFrom}

@@ -2,7 +2,7 @@
 use Rattle.std.specs.Prelude.{◌≡◌, ◌++◌, ℕ, List, Option, Some, None, ⊤, codes, drop, length, min, take}
 use Rattle.std.specs.List.{flat_map}
 use Rattle.pol_file.specs.declared.Parts.{Parts}
-use Rattle.rule_text.specs.Inner.RuleFrames.{frame_head, frame_line}
+use Rattle.rule_text.specs.RuleFrames.{frame_head, frame_line}
 use Rattle.rule_text.specs.RuleTexts.{single_text}
 use Rattle.se_search.specs.declared.row_lines.SourceFrame.{SourceFrame}
 

@@ -1,7 +1,7 @@
 use Rattle.std.proofs.Common.{◌+◌, get_or, refl, slice_set, sym, take, ap, ◌∙◌}
 use Rattle.pol_read.specs.declared.rule.RuleKind.{RuleKind}
 use Rattle.pol_read.specs.declared.rule.RuleEnds.{RuleEnds}
-use Rattle.pol_read.specs.RuleOrder.{kind_number}
+use Rattle.pol_read.specs.RuleKinds.{kind_number}
 use Rattle.pol_read.specs.StoredRules.{stored_rules}
 use Rattle.pol_read.proofs.RulesDeclared.{rule_with_ends}
 use Rattle.info_summary.specs.RuleCounts.{kind_counts}

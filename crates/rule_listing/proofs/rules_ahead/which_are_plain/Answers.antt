@@ -1,5 +1,5 @@
 use Rattle.std.proofs.Common.{◌∙◌, length-set, arith}
-use Rattle.rule_listing.specs.Inner.ReadRules.{is_plain}
+use Rattle.rule_listing.specs.ReadRules.{is_plain}
 use Rattle.rule_listing.proofs.ReadAhead.{looked_more}
 use Rattle.rule_listing.proofs.rules_ahead.which_are_plain.Goals as goal
 

@@ -1,5 +1,5 @@
 use Rattle.std.proofs.Common.{◌≡◌, length, map, take}
-use Rattle.rule_listing.specs.Inner.ReadRules.{is_plain}
+use Rattle.rule_listing.specs.ReadRules.{is_plain}
 use Rattle.rule_listing.proofs.rules_ahead.which_are_plain.Given as goal
 
 -- those of the numbers before are looked at

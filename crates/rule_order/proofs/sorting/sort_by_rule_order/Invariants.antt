@@ -1,5 +1,5 @@
 use Rattle.std.proofs.Common.{take}
-use Rattle.rule_order.specs.Inner.Keys.{AreGathered}
+use Rattle.rule_order.specs.RuleKeys.{AreGathered}
 use Rattle.rule_order.proofs.sorting.sort_by_rule_order.Given as goal
 
 abbrev pub invariant-loop-number : goal.invariant-loop-number

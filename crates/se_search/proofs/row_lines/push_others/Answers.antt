@@ -1,5 +1,5 @@
 use Rattle.std.proofs.Common.{◌++◌, arith}
-use Rattle.rule_text.specs.Inner.RuleFrames.{frame_target}
+use Rattle.rule_text.specs.RuleFrames.{frame_target}
 use Rattle.se_search.proofs.RowTexts.{none_given, others_all, others_end, others_next}
 use Rattle.se_search.proofs.row_lines.push_others.Goals as goal
 

@@ -1,5 +1,5 @@
 use Rattle.std.proofs.Common.{◌++◌}
-use Rattle.rule_text.specs.Inner.RuleFrames.{frame_target}
+use Rattle.rule_text.specs.RuleFrames.{frame_target}
 use Rattle.se_search.proofs.RowTexts.{OthersPushed}
 use Rattle.se_search.proofs.row_lines.push_others.Given as goal
 

@@ -1,5 +1,5 @@
 use Rattle.std.proofs.Common.{◌∙◌, ◌++◌, ℕ, List, ap}
-use Rattle.rule_text.specs.Inner.RuleFrames.{frame_target}
+use Rattle.rule_text.specs.RuleFrames.{frame_target}
 use Rattle.se_search.proofs.RowTexts.{none_given, none_pushed, targets_pushed}
 use Rattle.se_search.proofs.row_lines.push_targets.Goals as goal
 

@@ -1,6 +1,6 @@
 use Rattle.std.proofs.Common.{◌∙◌, get_or, ap, arith, sym}
 use Rattle.std.proofs.lemmas.List.{drop_more}
-use Rattle.rule_listing.specs.Inner.ReadRules.{RulesLeft}
+use Rattle.rule_listing.specs.ReadRules.{RulesLeft}
 use Rattle.rule_listing.proofs.rules_ahead.RulesAhead.pass.Goals as goal
 
 pub returns-clause-numbers : goal.returns-clause-numbers

@@ -1,6 +1,7 @@
 use Rattle.std.proofs.Common.{◌≡◌, ℕ, List}
 use Rattle.std.proofs.lemmas.Result.{IfOk-weaker}
-use Rattle.rule_order.specs.Inner.Keys.{AreGathered, AreSortedNumbers}
+use Rattle.rule_order.specs.Inner.Keys.{AreSortedNumbers}
+use Rattle.rule_order.specs.RuleKeys.{AreGathered}
 use Rattle.rule_order.specs.ListedOrder.{AreRules, in_rule_order}
 use Rattle.rule_order.proofs.GatheredKeys.{numbers_in_order, numbers_are_rules}
 use Rattle.rule_order.proofs.SortedNumbers.{are_declared}

@@ -3,9 +3,9 @@ use Rattle.std.specs.Prelude.{codes}
 use Rattle.pol_cursor.specs.References.{name_of}
 use Rattle.pol_symbols.specs.PolicySymbols.{name_in}
 use Rattle.pol_file.specs.declared.Parts.{Parts}
-use Rattle.pol_read.specs.RuleOrder.{target_table}
+use Rattle.pol_read.specs.RuleKinds.{target_table}
 use Rattle.pol_read.specs.StoredRules.{stored}
-use Rattle.rule_text.specs.Inner.RuleFrames.{frame_head, frame_target, head_text}
+use Rattle.rule_text.specs.RuleFrames.{frame_head, frame_target, head_text}
 use Rattle.rule_text.specs.RuleTexts.{single_text}
 use Rattle.rule_text.proofs.Frames.{framed}
 use Rattle.rule_text.proofs.rule_texts.RuleTexts.frame.Goals as goal

@@ -1,6 +1,6 @@
 use Rattle.std.proofs.Common.{subst}
 use Rattle.pol_file.specs.declared.Parts.{Parts}
-use Rattle.rule_listing.specs.Inner.ReadRules.{IsOfFirst, PassesNumber, RulesLeft}
+use Rattle.rule_listing.specs.ReadRules.{IsOfFirst, PassesNumber, RulesLeft}
 use Rattle.se_search.proofs.LinesOfRules.{first_stored, line-pushed}
 use Rattle.se_search.proofs.rule_lines.RuleLinesItems.push_next.Goals as goal
 

@@ -1,9 +1,9 @@
--- A rule's line in pieces, and with its ends left open: what serves the code alone.
+-- The line of a rule in pieces, and with its ends left open.
 use Rattle.std.specs.Prelude.{ℕ, List, ◌++◌, codes}
 use Rattle.pol_cursor.specs.References.{name_of}
 use Rattle.pol_symbols.specs.PolicySymbols.{name_in}
 use Rattle.pol_symbols.specs.declared.Symbols.{Symbols}
-use Rattle.pol_read.specs.RuleOrder.{source_table, target_table}
+use Rattle.pol_read.specs.RuleKinds.{source_table, target_table}
 use Rattle.pol_read.specs.declared.rule.RuleKind.{RuleKind}
 use Rattle.pol_read.specs.declared.rule.RulePart.{RulePart}
 use Rattle.pol_read.specs.StoredRules.{StoredRule}

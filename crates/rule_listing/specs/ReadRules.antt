@@ -1,4 +1,4 @@
--- Rules that are looked at before their texts are made: what serves the code alone.
+-- Rules that are looked at before their texts are made.
 use Rattle.std.specs.Prelude.{◌≡◌, ◌<◌, ℕ, Bool, true, false, List, [], ◌∷◌, ◌==◌, ◌&&◌, not, Option, Some, None, length, slice_get}
 use Rattle.std.specs.List.{All}
 use Rattle.pol_cursor.specs.References.{Placed}
