@@ -4,9 +4,9 @@ use Rattle.std.specs.List.{AllByRecursion}
 use Rattle.std.proofs.lemmas.Bool.{eq-eqb}
 use Rattle.pol_fields.specs.declared.Field.{Field}
 use Rattle.pol_avtab.specs.declared.AvRec.{AvRec}
-use Rattle.pol_laws.specs.OptionalParts.{first_of, first_in}
-use Rattle.pol_laws.specs.RecordShapes.{shape_of_av}
-use Rattle.pol_laws.proofs.ShapedParts.{none-first}
+use Rattle.pol_tree.specs.OptionalParts.{first_of, first_in}
+use Rattle.pol_tree.specs.RecordShapes.{shape_of_av}
+use Rattle.pol_tree.proofs.Wrongs.{none-first}
 use Rattle.pol_tree.specs.TreeShape.{shape_of_symbols, shape_of_rules, shape_of_contexts, shape_of_labels, shape}
 use Rattle.pol_make.specs.MadeSymbols.{process_constraints, made_nprims, made_classes, made_users}
 use Rattle.pol_make.specs.MadeRules.{made_rules, made_sids}

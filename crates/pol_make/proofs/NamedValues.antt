@@ -33,7 +33,7 @@ infixl 10 ◌⊕◌
 pub ◌⊕◌ : {named : Named} {first second : List Reference} → AreNamed named first → AreNamed named second → AreNamed named (first ++ second)
 ◌⊕◌ {named} {first} {second} h k = record { each = all-append (λ r. is_some (named r.table r.value) ≡ true) first second h.each k.each }
 
--- those of records, by what holds of their values
+-- the values of records, by what holds of them
 pub each-named : {A : Type 0} (named : Named) (references : Placed A → List Reference) (P : A → Type 0) → ((place : ℕ) (x : A) → P x → AreNamed named (references (record { place = place; value = x }))) → (records : List (Placed A)) (xs : List A)
     → values_of records ≡ xs → AllByRecursion P xs → AreNamed named (references_in references records)
 each-named {A} named references P each records xs are h = go records (rw are h)

@@ -1,8 +1,9 @@
 -- The set of bits that rise has just these bits.
-use Rattle.std.proofs.Common.{◌≡◌, inl, inr, ℕ, ◌+◌, ◌-◌, ◌%◌, ◌^◌, ◌<◌, ◌≤◌, max, Bool, true, false, ◌||◌, Result, Ok, Err, IfOk, List, [], ◌∷◌, refl, sym, ap, ◌∙◌, arith}
-use Rattle.std.specs.Prelude.{bit_or, ◌==◌, ◌&&◌, nat_le, nat_lt}
+use Rattle.std.proofs.Common.{◌≡◌, inl, inr, ℕ, zero, suc, ◌+◌, ◌-◌, ◌%◌, ◌^◌, ◌<◌, ◌≤◌, max, Bool, true, false, ◌||◌, Result, Ok, Err, IfOk, List, [], ◌∷◌, length, refl, sym, ap, ◌∙◌, arith}
+use Rattle.std.specs.Prelude.{bit_or, ◌==◌, ◌&&◌, nat_le, nat_lt, slice_index}
 use Rattle.std.specs.Int.{bit_at}
 use Rattle.std.specs.List.{All, AllByRecursion, Contains}
+use Rattle.std.specs.List.Sorted.{IsStrictlyIncreasing}
 use Rattle.std.proofs.lemmas.Nat.{or_lt, le_or_l, pow_below, pow_pos}
 use Rattle.std.proofs.lemmas.Nat.Bits.{bit_at_or, bit_at-lt, bit_at-pow_same, bit_at-pow_other}
 use Rattle.std.proofs.lemmas.Bool.{cases_eq, cases_Bool, eqb-true, eq-eqb, ne_eqb, and_from, and_parts, le-leb, lt-ltb, leb-true, ltb-true, or_cases, or_left, or_right}
@@ -155,3 +156,21 @@ set_with_bits s bits h e = set_of_its_bits s h ∙ ap set_of e
 pub made_of_bits : {E : Type 0} (r : Result (List Node) E) (bits : List ℕ) → IfOk r IsSet → IfOk r (λ s. bits_of s ≡ bits) → IfOk r (λ s. s ≡ set_of bits)
 made_of_bits (Ok s) bits h e = set_with_bits s bits h e
 made_of_bits (Err f) bits h e = tt
+
+-- ---- of bits that rise
+
+increasing-rises : (least : ℕ) (bits : List ℕ) → IsStrictlyIncreasing bits → (0 < length bits → least ≤ slice_index bits 0) → RisesFrom least bits
+increasing-rises least [] h low = tt
+increasing-rises least (bit ∷ bits) h low = (
+  low (omega arith),
+  increasing-rises (bit + 1) bits (λ k lt. let e : suc k + 1 ≡ suc (k + 1) = omega arith in rw e at (h (suc k) (omega (arith, lt)))) (λ some. omega (arith, h 0 (omega (arith, some)))),
+)
+
+rising : (bits : List ℕ) → IsStrictlyIncreasing bits → RisesFrom 0 bits
+rising bits h = increasing-rises 0 bits h (λ some. omega arith)
+
+pub rising_set : (bits : List ℕ) → IsStrictlyIncreasing bits → All (λ bit. bit < 2 ^ 32) bits → IsSet (set_of bits)
+rising_set bits h fit = set_of-set 0 bits (rising bits h) (each-fits bits fit)
+
+pub rising_bits : (bits : List ℕ) → IsStrictlyIncreasing bits → All (λ bit. bit < 2 ^ 32) bits → bits_of (set_of bits) ≡ bits
+rising_bits bits h fit = set_of-bits 0 bits (rising bits h) (each-fits bits fit)

@@ -35,7 +35,7 @@ transition_rules n i =
 abbrev pub file_rule : ℕ → ℕ → ℕ → AvRec
 file_rule n i places = allow (ring_value n i 0) (ring_value n i places) 1 6
 
--- those of fifteen types
+-- reading and writing the files of fifteen types
 abbrev pub file_rules : ℕ → ℕ → List AvRec
 file_rules n i = map (file_rule n i) (range_with_len 4 15)
 

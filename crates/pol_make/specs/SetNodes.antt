@@ -1,4 +1,4 @@
--- The nodes of a set by its bits.
+-- The nodes of a set by its bits, which rise: the one bitmap in the form of a set that has just these (made_sets_have_their_bits).
 use Rattle.std.specs.Prelude.{ℕ, ◌-◌, ◌%◌, ◌^◌, ◌==◌, bit_or, List, [], ◌∷◌, if◌then◌else◌}
 use Rattle.std.specs.List.{range_with_len}
 use Rattle.pol_bitmap.specs.declared.Node.{Node}

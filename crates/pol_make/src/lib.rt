@@ -1,4 +1,11 @@
-//! Policies that are made: of so many types in a ring, for measurements and tests.
+//! Policies that are made: of so many types in a ring, for measurements and tests. Each of them is sound, so `write` of `pol_write` writes
+//! it.
+//!
+//! ```text
+//! let tree = make(alloc, 200)?;
+//! let mut out = Vec::new(alloc);
+//! write(alloc, &tree, &mut out)?;
+//! ```
 #![tactic(auto)]
 
 mod made_laws;
@@ -10,5 +17,5 @@ mod making;
 mod names;
 mod sets;
 
-pub use made_laws::made_policies_are_sound;
+pub use made_laws::{made_policies_are_sound, made_sets_have_their_bits};
 pub use making::make;

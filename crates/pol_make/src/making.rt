@@ -1,3 +1,4 @@
+// A policy of so many types, made part by part.
 ghost use Rattle.std.specs.Prelude.{◌≡◌, ◌∷◌, [], IfOk, OnOk};
 ghost use Rattle.pol_make.specs.Made.{Allowed, made};
 ghost use Rattle.pol_make.specs.SetNodes.{set_of};

@@ -9,7 +9,7 @@ use Rattle.pol_constraints.specs.declared.TypeSet.{TypeSet}
 use Rattle.pol_constraints.specs.declared.ConstraintItem.{ConstraintItem}
 use Rattle.pol_constraints.specs.declared.ConstraintRec.{ConstraintRec}
 use Rattle.pol_constraints.specs.ConstraintRecord.{has_names, has_type_set, spell_type_set, spell_item, spell_constraint, TypeSetFits, ItemFits, ConstraintFits}
-use Rattle.pol_laws.specs.RecordShapes.{shape_of_item, shape_of_constraint}
+use Rattle.pol_tree.specs.RecordShapes.{shape_of_item, shape_of_constraint}
 use Rattle.pol_tree.specs.Inner.Fitting.{IsFitting, AreFitting}
 use Rattle.pol_tree.proofs.FittingLists.{optional_fits}
 use Rattle.pol_tree.proofs.Wrongs.{none_each}

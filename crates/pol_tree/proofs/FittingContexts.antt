@@ -22,7 +22,7 @@ use Rattle.pol_contexts.specs.IbEndPortRecord.{spell_ibendport, IbEndPortFits}
 use Rattle.pol_genfs.specs.declared.GenfsPathRec.{GenfsPathRec}
 use Rattle.pol_genfs.specs.declared.GenfsRec.{GenfsRec}
 use Rattle.pol_genfs.specs.GenfsRecord.{spell_path, PathFits, spell_genfs, GenfsFits}
-use Rattle.pol_laws.specs.RecordShapes.{shape_of_range, shape_of_context, shape_of_sid, shape_of_named, shape_of_port, shape_of_address, shape_of_fsuse, shape_of_ibpkey, shape_of_ibendport, shape_of_path, shape_of_genfs}
+use Rattle.pol_tree.specs.RecordShapes.{shape_of_range, shape_of_context, shape_of_sid, shape_of_named, shape_of_port, shape_of_address, shape_of_fsuse, shape_of_ibpkey, shape_of_ibendport, shape_of_path, shape_of_genfs}
 use Rattle.pol_tree.specs.Inner.Fitting.{IsFitting, AreFitting}
 use Rattle.pol_tree.proofs.Wrongs.{none_each}
 

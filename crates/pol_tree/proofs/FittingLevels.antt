@@ -11,7 +11,7 @@ use Rattle.pol_mls.specs.declared.LevelRec.{LevelRec}
 use Rattle.pol_mls.specs.declared.RangeRec.{RangeRec}
 use Rattle.pol_mls.specs.LevelRecord.{spell_level, LevelFits}
 use Rattle.pol_mls.specs.RangeRecord.{spell_range, RangeFits}
-use Rattle.pol_laws.specs.RecordShapes.{shape_of_range}
+use Rattle.pol_tree.specs.RecordShapes.{shape_of_range}
 use Rattle.pol_tree.specs.Inner.Fitting.{IsFitting}
 use Rattle.pol_tree.proofs.FittingLists.{optional_fits}
 

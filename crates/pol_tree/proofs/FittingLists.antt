@@ -6,7 +6,7 @@ use Rattle.std.proofs.lemmas.List.{length-append}
 use Rattle.std.proofs.lemmas.List.Concat.{flat_map-cons}
 use Rattle.pol_fields.specs.declared.Field.{Field}
 use Rattle.pol_cursor.specs.Parts.{spell_optional, OptionFits}
-use Rattle.pol_laws.specs.OptionalParts.{shape_of_part, first_in}
+use Rattle.pol_tree.specs.OptionalParts.{shape_of_part, first_in}
 use Rattle.pol_tree.specs.Inner.Fitting.{IsFitting, AreFitting}
 use Rattle.pol_tree.proofs.Wrongs.{none_each}
 
@@ -33,7 +33,7 @@ module _ {A : Type 0} (shape : A → Option Field) (fits : A → Type 0) (spell 
       let both : length (spell x) + length (flat_map spell xs) < 2 ^ 32 = simp (flat_map-cons, length-append) at few in
       (each.0.fitting rights.0 (omega (arith, both)), items xs each.1 rights.1 (omega (arith, both)))
 
-  -- those of which none is wrong were all looked at
+  -- records of which none is wrong were all looked at
   pub list_fits : (xs : List A) (wrong : Option Field) → wrong ≡ first_in shape xs → (wrong ≡ None → AllByRecursion (IsFitting shape fits spell) xs) → AreFitting shape fits spell xs
   list_fits xs wrong is looked = record {
     fitting = λ right few.

@@ -14,8 +14,8 @@ use Rattle.pol_avtab.specs.AvRecord.{is_extended, spell_av, PartFits, AvFits}
 use Rattle.pol_avtab.specs.XPerms.{xperms_of}
 use Rattle.pol_conditionals.specs.declared.CondNodeRec.{CondNodeRec}
 use Rattle.pol_conditionals.specs.CondNodeRecord.{spell_condnode, CondNodeFits}
-use Rattle.pol_laws.specs.OptionalParts.{shape_of_part}
-use Rattle.pol_laws.specs.RecordShapes.{shape_of_av, shape_of_condnode}
+use Rattle.pol_tree.specs.OptionalParts.{shape_of_part}
+use Rattle.pol_tree.specs.RecordShapes.{shape_of_av, shape_of_condnode}
 use Rattle.pol_tree.specs.Inner.Fitting.{IsFitting, AreFitting}
 use Rattle.pol_tree.proofs.Wrongs.{none_each, none_in}
 

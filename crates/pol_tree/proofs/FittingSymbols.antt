@@ -11,7 +11,7 @@ use Rattle.pol_mls.specs.LevelRecord.{spell_level, LevelFits}
 use Rattle.pol_mls.specs.RangeRecord.{spell_range, RangeFits}
 use Rattle.pol_symbols.specs.declared.UserRec.{UserRec}
 use Rattle.pol_symbols.specs.UserRecord.{spell_user, UserFits}
-use Rattle.pol_laws.specs.RecordShapes.{shape_of_range, shape_of_constraint, shape_of_class, shape_of_user}
+use Rattle.pol_tree.specs.RecordShapes.{shape_of_range, shape_of_constraint, shape_of_class, shape_of_user}
 use Rattle.pol_tree.specs.Inner.Fitting.{IsFitting, AreFitting}
 use Rattle.pol_tree.proofs.Wrongs.{none_each, none_in}
 

@@ -15,7 +15,7 @@ use Rattle.pol_trans.specs.RoleAllowRecord.{spell_role_allow, RoleAllowFits}
 use Rattle.pol_trans.specs.NameTransRecord.{spell_name_trans, NameTransFits}
 use Rattle.pol_trans.specs.NameGroupRecord.{spell_name_datum, NameDatumFits, spell_name_group, NameGroupFits}
 use Rattle.pol_trans.specs.RangeTransRecord.{spell_range_trans, RangeTransFits}
-use Rattle.pol_laws.specs.RecordShapes.{shape_of_range, shape_of_range_trans}
+use Rattle.pol_tree.specs.RecordShapes.{shape_of_range, shape_of_range_trans}
 use Rattle.pol_tree.specs.Inner.Fitting.{IsFitting, AreFitting}
 use Rattle.pol_tree.proofs.Wrongs.{none_in}
 

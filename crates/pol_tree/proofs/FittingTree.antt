@@ -9,9 +9,9 @@ use Rattle.pol_cursor.specs.Parts.{spell_counted, CountedFits}
 use Rattle.pol_symtab.specs.SymbolTables.{BareTable, TableFits}
 use Rattle.pol_trans.specs.NameTransitions.{has_groups}
 use Rattle.pol_contexts.specs.ContextTables.{has_infiniband}
-use Rattle.pol_laws.specs.PolicySpelling.{spell_if}
-use Rattle.pol_laws.specs.OptionalParts.{shape_of_list, first_in}
-use Rattle.pol_laws.specs.RecordShapes.{shape_of_class, shape_of_user, shape_of_av, shape_of_condnode, shape_of_range_trans, shape_of_genfs, shape_of_sid, shape_of_named, shape_of_port, shape_of_address, shape_of_fsuse, shape_of_ibpkey, shape_of_ibendport}
+use Rattle.pol_tree.specs.TreeSpelling.{spell_if}
+use Rattle.pol_tree.specs.OptionalParts.{shape_of_list, first_in}
+use Rattle.pol_tree.specs.RecordShapes.{shape_of_class, shape_of_user, shape_of_av, shape_of_condnode, shape_of_range_trans, shape_of_genfs, shape_of_sid, shape_of_named, shape_of_port, shape_of_address, shape_of_fsuse, shape_of_ibpkey, shape_of_ibendport}
 use Rattle.pol_tree.specs.Inner.Fitting.{AreFitting}
 use Rattle.pol_tree.proofs.Wrongs.{none_each}
 use Rattle.pol_tree.specs.declared.tree.Tree.{Tree}
@@ -107,7 +107,7 @@ pub few_if : {A : Type 0} (spell : A → List ℕ) (there : Bool) (xs : List A) 
 few_if spell true xs text few e = let each = simp length-append at few in omega (arith, each)
 few_if spell false xs text few e = absurd cc
 
--- the same where the other text is there
+-- a list is in the file where the other text is not
 pub few_unless : {A : Type 0} (spell : A → List ℕ) (there : Bool) (xs : List A) (text : List ℕ) → length (if there then text else spell_counted spell xs) < 2 ^ 32 → not there ≡ true → length (flat_map spell xs) < 2 ^ 32
 few_unless spell true xs text few e = absurd cc
 few_unless spell false xs text few e = let each = simp length-append at few in omega (arith, each)

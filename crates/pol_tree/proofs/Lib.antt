@@ -10,5 +10,3 @@ pub mod FittingContexts
 pub mod FittingSymbols
 pub mod FittingTree
 pub mod Rows
-pub mod ShapedTree
-pub mod SpelledTree

@@ -4,7 +4,7 @@ use Rattle.std.specs.List.{AllByRecursion}
 use Rattle.std.proofs.Math.Seq.{drop-cons}
 use Rattle.std.proofs.lemmas.List.{drop_all}
 use Rattle.pol_fields.specs.declared.Field.{Field}
-use Rattle.pol_laws.specs.OptionalParts.{first_of, first_in}
+use Rattle.pol_tree.specs.OptionalParts.{first_of, first_in}
 
 -- ---- of parts
 
@@ -13,6 +13,15 @@ pub none_each : (part : Option Field) (others : List (Option Field)) → first_o
 unfolding first_of
 none_each None others e = (refl, e)
 none_each (Some field) others e = absurd cc
+
+-- none of the parts is wrong, if the first is not and none of the others is
+pub none-first : (part : Option Field) (others : List (Option Field)) → part ≡ None → first_of others ≡ None → first_of (part ∷ others) ≡ None
+unfolding first_of
+none-first part others e h = rw e h
+
+pub none-last : first_of [] ≡ None
+unfolding first_of
+none-last = refl
 
 -- a part that is right
 pub first_none : (parts : List (Option Field)) → first_of (None ∷ parts) ≡ first_of parts

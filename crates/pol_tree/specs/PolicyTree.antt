@@ -14,7 +14,7 @@ abbrev pub entries_of : NameTrans → List NameTransRec
 entries_of (Entries entries) = values_of entries
 entries_of (Groups groups) = []
 
--- those that stand as groups
+-- the file-name transitions that stand as groups
 abbrev pub groups_of : NameTrans → List NameGroupRec
 groups_of (Entries entries) = []
 groups_of (Groups groups) = values_of groups

@@ -5,8 +5,8 @@ use Rattle.pol_fields.specs.declared.field.Field.{Field}
 use Rattle.pol_fields.specs.declared.fields.TheConstants.{BITMAP_UNIT, NAMETRANS_COUNT, NAMEGROUP_COUNT, IBPKEY_COUNT, IBENDPORT_COUNT}
 use Rattle.pol_trans.specs.NameTransitions.{has_groups}
 use Rattle.pol_contexts.specs.ContextTables.{has_infiniband}
-use Rattle.pol_laws.specs.OptionalParts.{wrong_if, shape_of_list, first_of, first_in}
-use Rattle.pol_laws.specs.RecordShapes.{shape_of_class, shape_of_user, shape_of_av, shape_of_condnode, shape_of_range_trans, shape_of_genfs, shape_of_sid, shape_of_named, shape_of_port, shape_of_address, shape_of_fsuse, shape_of_ibpkey, shape_of_ibendport}
+use Rattle.pol_tree.specs.OptionalParts.{wrong_if, shape_of_list, first_of, first_in}
+use Rattle.pol_tree.specs.RecordShapes.{shape_of_class, shape_of_user, shape_of_av, shape_of_condnode, shape_of_range_trans, shape_of_genfs, shape_of_sid, shape_of_named, shape_of_port, shape_of_address, shape_of_fsuse, shape_of_ibpkey, shape_of_ibendport}
 use Rattle.pol_tree.specs.declared.tree.Tree.{Tree}
 
 -- classes and users; the records of the other symbol tables have no optional part

@@ -1,5 +1,5 @@
 -- How a tree is spelled: its parts in the order of the file (libsepol's policydb_write).
-use Rattle.std.specs.Prelude.{ℕ, List, ◌++◌, slice_index, if◌then◌else◌}
+use Rattle.std.specs.Prelude.{ℕ, Bool, true, false, List, [], ◌++◌, slice_index, if◌then◌else◌}
 use Rattle.std.specs.List.{flat_map}
 use Rattle.pol_cursor.specs.Parts.{spell_counted}
 use Rattle.pol_bitmap.specs.Bitmap.{spell_bitmap}
@@ -31,7 +31,6 @@ use Rattle.pol_contexts.specs.IbPkeyRecord.{spell_ibpkey}
 use Rattle.pol_contexts.specs.IbEndPortRecord.{spell_ibendport}
 use Rattle.pol_contexts.specs.ContextTables.{has_infiniband}
 use Rattle.pol_genfs.specs.GenfsRecord.{spell_genfs}
-use Rattle.pol_laws.specs.PolicySpelling.{spell_if}
 use Rattle.pol_tree.specs.declared.tree.Tree.{Tree}
 
 -- the header of a tree
@@ -70,6 +69,11 @@ spell_rules tree =
     ++ spell_counted spell_role_trans tree.roletrans
     ++ spell_counted spell_role_allow tree.roleallow
     ++ spell_name_transitions tree
+
+-- lists that are in the file or are not
+abbrev pub spell_if : Bool → List ℕ → List ℕ
+spell_if true text = text
+spell_if false text = []
 
 -- the tables of InfiniBand, in the versions that have them
 abbrev pub spell_infiniband : Tree → List ℕ

@@ -43,7 +43,7 @@ pub fn copy_entries(alloc: Global, trans: &NameTrans<'_>) -> Result<NameTransRec
     }
 }
 
-/// Copies those that stand as groups.
+/// Copies the file-name transitions that stand as groups.
 pub fn copy_groups(alloc: Global, trans: &NameTrans<'_>) -> Result<NameGroupRecList, AllocError>
     ensures { IfOk result (λ list. list ≡ groups_of trans.now) }
 {

@@ -1,3 +1,4 @@
+// The tree of a policy, copied part by part.
 ghost use Rattle.std.specs.Prelude.{◌≡◌, IfOk, OnOk};
 ghost use Rattle.pol_cursor.specs.References.{values_of};
 ghost use Rattle.pol_tree.specs.PolicyTree.{entries_of, groups_of, nprims_of, tree_of};

@@ -2,7 +2,7 @@
 ghost use Rattle.std.specs.Prelude.{◌≡◌, ℕ, IfSome, Option, None, length, option_and_then};
 ghost use Rattle.std.specs.List.{AllByRecursion};
 ghost use Rattle.pol_fields.specs.declared.Field.{Field};
-ghost use Rattle.pol_laws.specs.OptionalParts.{wrong_if, shape_of_part, shape_of_list, first_of, first_in};
+ghost use Rattle.pol_tree.specs.OptionalParts.{wrong_if, shape_of_part, shape_of_list, first_of, first_in};
 ghost use Rattle.pol_tree.specs.Inner.Fitting.{IsFitting, AreFitting};
 
 use pol_cursor::{OwnedList, Written};
@@ -32,7 +32,7 @@ pub fn wrong_in<T: Fitting + Drop>(list: &OwnedList<T>, version: u32) -> Option<
     wrong_record(list.as_slice(), version)
 }
 
-// The same of records, each of which was looked at where none is wrong.
+// The field of the first wrong optional part of records, each of which was looked at where none is wrong.
 fn wrong_record<T: Fitting>(records: &[T], version: u32) -> Option<Field>
     ensures shape { result ≡ first_in (T.shape version) records.now }
     ensures fits { result ≡ None → AllByRecursion (IsFitting (T.shape version) (T.fits version) T.spelling) records.now }

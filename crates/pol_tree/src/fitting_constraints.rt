@@ -1,7 +1,7 @@
 // Constraints.
 ghost use Rattle.std.specs.Prelude.{◌≡◌, None};
 ghost use Rattle.pol_constraints.specs.ConstraintRecord.{has_type_set, TypeSetFits, ItemFits, ConstraintFits};
-ghost use Rattle.pol_laws.specs.RecordShapes.{shape_of_item, shape_of_constraint};
+ghost use Rattle.pol_tree.specs.RecordShapes.{shape_of_item, shape_of_constraint};
 
 use crate::fitting::{Fitting, first_wrong, wrong_in, wrong_presence, wrong_within};
 use pol_constraints::{ConstraintItem, ConstraintRec, TypeSet};
@@ -13,7 +13,7 @@ impl Fitting for TypeSet {
 
     ghost fits = { λ version set. TypeSetFits set };
 
-    #[tactic(auto, using(crate::proofs::FittingConstraints::type_set_fits), unfolding(pol_laws::specs::OptionalParts::first_of))]
+    #[tactic(auto, using(crate::proofs::FittingConstraints::type_set_fits), unfolding(crate::specs::OptionalParts::first_of))]
     fn wrong_part(&self, version: u32) -> Option<Field> {
         let _flags = self.flags;
         first_wrong(&[

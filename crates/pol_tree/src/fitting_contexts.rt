@@ -8,7 +8,7 @@ ghost use Rattle.pol_contexts.specs.FsUseRecord.{FsUseFits};
 ghost use Rattle.pol_contexts.specs.IbPkeyRecord.{IbPkeyFits};
 ghost use Rattle.pol_contexts.specs.IbEndPortRecord.{IbEndPortFits};
 ghost use Rattle.pol_genfs.specs.GenfsRecord.{PathFits, GenfsFits};
-ghost use Rattle.pol_laws.specs.RecordShapes.{shape_of_context, shape_of_sid, shape_of_named, shape_of_port, shape_of_address, shape_of_fsuse, shape_of_ibpkey, shape_of_ibendport, shape_of_path, shape_of_genfs};
+ghost use Rattle.pol_tree.specs.RecordShapes.{shape_of_context, shape_of_sid, shape_of_named, shape_of_port, shape_of_address, shape_of_fsuse, shape_of_ibpkey, shape_of_ibendport, shape_of_path, shape_of_genfs};
 
 use crate::fitting::{Fitting, first_wrong, look_at_bytes, wrong_in};
 use pol_contexts::{AddressRec, FsUseRec, IbEndPortRec, IbPkeyRec, NamedRec, PortRec, SidRec};

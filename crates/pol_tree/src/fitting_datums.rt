@@ -43,7 +43,7 @@ impl Fitting for RoleRec {
 
     ghost fits = { λ version role. RoleFits role };
 
-    #[tactic(auto, using(crate::proofs::FittingDatums::role_fits), unfolding(pol_laws::specs::OptionalParts::first_of))]
+    #[tactic(auto, using(crate::proofs::FittingDatums::role_fits), unfolding(crate::specs::OptionalParts::first_of))]
     fn wrong_part(&self, version: u32) -> Option<Field> {
         let _value = self.value;
         let _bounds = self.bounds;

@@ -3,7 +3,7 @@ ghost use Rattle.std.specs.Prelude.{None};
 ghost use Rattle.pol_bitmap.specs.Bitmap.{BitmapFits};
 ghost use Rattle.pol_mls.specs.LevelRecord.{LevelFits};
 ghost use Rattle.pol_mls.specs.RangeRecord.{RangeFits};
-ghost use Rattle.pol_laws.specs.RecordShapes.{shape_of_range};
+ghost use Rattle.pol_tree.specs.RecordShapes.{shape_of_range};
 
 use crate::fitting::{Fitting, first_wrong, wrong_presence, wrong_within};
 use pol_bitmap::Set;

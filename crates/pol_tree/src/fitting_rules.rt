@@ -4,7 +4,7 @@ ghost use Rattle.pol_avtab.specs.AvRecord.{PartFits, AvFits};
 ghost use Rattle.pol_avtab.specs.XPerms.{xperms_of};
 ghost use Rattle.pol_expr.specs.ConditionRecord.{ItemFits, ConditionFits};
 ghost use Rattle.pol_conditionals.specs.CondNodeRecord.{CondNodeFits};
-ghost use Rattle.pol_laws.specs.RecordShapes.{shape_of_av, shape_of_condnode};
+ghost use Rattle.pol_tree.specs.RecordShapes.{shape_of_av, shape_of_condnode};
 
 use crate::fitting::{Fitting, first_wrong, look_at_bytes, wrong_in, wrong_where};
 use pol_avtab::{AvPart, AvRec};
@@ -58,7 +58,7 @@ impl Fitting for CondNodeRec {
 
     ghost fits = { λ version node. CondNodeFits node };
 
-    #[tactic(auto, using(crate::proofs::FittingRules::condnode_fits), unfolding(pol_laws::specs::OptionalParts::first_of))]
+    #[tactic(auto, using(crate::proofs::FittingRules::condnode_fits), unfolding(crate::specs::OptionalParts::first_of))]
     fn wrong_part(&self, version: u32) -> Option<Field> {
         first_wrong(&[
             self.condition.wrong_part(version),

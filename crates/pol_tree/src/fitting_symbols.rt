@@ -2,7 +2,7 @@
 ghost use Rattle.std.specs.Prelude.{◌<◌, ◌^◌};
 ghost use Rattle.pol_classes.specs.ClassRecord.{ClassFits};
 ghost use Rattle.pol_symbols.specs.UserRecord.{UserFits};
-ghost use Rattle.pol_laws.specs.RecordShapes.{shape_of_class, shape_of_user};
+ghost use Rattle.pol_tree.specs.RecordShapes.{shape_of_class, shape_of_user};
 
 use crate::fitting::{Fitting, first_wrong, wrong_in};
 use pol_classes::ClassRec;

@@ -5,7 +5,7 @@ ghost use Rattle.pol_trans.specs.RoleAllowRecord.{RoleAllowFits};
 ghost use Rattle.pol_trans.specs.NameTransRecord.{NameTransFits};
 ghost use Rattle.pol_trans.specs.NameGroupRecord.{NameDatumFits, NameGroupFits};
 ghost use Rattle.pol_trans.specs.RangeTransRecord.{RangeTransFits};
-ghost use Rattle.pol_laws.specs.RecordShapes.{shape_of_range_trans};
+ghost use Rattle.pol_tree.specs.RecordShapes.{shape_of_range_trans};
 
 use crate::fitting::{Fitting, wrong_in};
 use pol_fields::Field;

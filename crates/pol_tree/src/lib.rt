@@ -1,5 +1,13 @@
-//! Whole policies as trees of owned records: how a tree is copied from a policy, how it is spelled, and its first wrong optional
-//! part, without which its numbers fit.
+//! Whole policies as trees of owned records, to be changed and written: how a tree is copied from a policy, how it is spelled, and its
+//! first wrong optional part, without which its numbers fit.
+//!
+//! A tree is changed by its members, and `write` of `pol_write` writes it:
+//!
+//! ```text
+//! let mut tree = tree_of(alloc, &policy)?;
+//! tree.permissive = Set::empty(alloc)?;
+//! write(alloc, &tree, &mut out)?;
+//! ```
 #![tactic(auto)]
 
 mod copied_lists;

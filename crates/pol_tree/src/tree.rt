@@ -1,3 +1,4 @@
+// The tree: a policy as lists of owned records.
 ghost use Rattle.std.specs.Prelude.{◌≡◌, [], IfOk};
 ghost use Rattle.pol_bitmap.specs.Nodes.{bits_of};
 ghost use Rattle.pol_tree.specs.PolicyTree.{empty_tree};

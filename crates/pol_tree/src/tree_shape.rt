@@ -46,8 +46,8 @@ fn look_at_numbers(numbers: &[u32])
     ensures { (i : ℕ) → slice_index numbers.now i < 2 ^ 32 }
 {}
 
-// The same of what stands before the symbol tables, which has no optional part.
-#[tactic(auto, unfolding(pol_laws::specs::OptionalParts::first_of))]
+// What stands before the symbol tables has no optional part.
+#[tactic(auto, unfolding(crate::specs::OptionalParts::first_of))]
 fn wrong_in_front(tree: &Tree) -> Option<Field>
     ensures shape { result ≡ None }
     ensures version { tree.now.version < 2 ^ 32 }
@@ -63,7 +63,7 @@ fn wrong_in_front(tree: &Tree) -> Option<Field>
     ])
 }
 
-// The same of the symbol tables.
+// The field of the first wrong optional part of the symbol tables.
 fn wrong_in_symbols(tree: &Tree) -> Option<Field>
     ensures shape { result ≡ shape_of_symbols tree.now }
     ensures fits { SymbolsFit tree.now }
@@ -81,7 +81,7 @@ fn wrong_in_symbols(tree: &Tree) -> Option<Field>
     ])
 }
 
-// The same of the rules.
+// The field of the first wrong optional part of the rules.
 fn wrong_in_rules(tree: &Tree) -> Option<Field>
     ensures shape { result ≡ shape_of_rules tree.now }
     ensures fits { RulesFit tree.now }
@@ -100,7 +100,7 @@ fn wrong_in_rules(tree: &Tree) -> Option<Field>
     ])
 }
 
-// The same of the tables of contexts.
+// The field of the first wrong optional part of the tables of contexts.
 fn wrong_in_contexts(tree: &Tree) -> Option<Field>
     ensures shape { result ≡ shape_of_contexts tree.now }
     ensures fits { ContextsFit tree.now }
@@ -122,7 +122,7 @@ fn wrong_in_contexts(tree: &Tree) -> Option<Field>
     ])
 }
 
-// The same of what stands behind the rules.
+// The field of the first wrong optional part of what stands behind the rules.
 fn wrong_in_labels(tree: &Tree) -> Option<Field>
     ensures shape { result ≡ shape_of_labels tree.now }
     ensures fits { LabelsFit tree.now }

@@ -2,8 +2,7 @@
 use Rattle.std.proofs.Common.{◌≡◌, ℕ, ◌+◌, List, [], ◌++◌, length, refl, sym, ap, subst, ◌∙◌, append_assoc, arith}
 use Rattle.std.proofs.lemmas.List.{length-append}
 use Rattle.pol_cursor.specs.Outcome.{Outcome, Reader, Got, Bad, and_then, ◌>>=◌, done}
-use Rattle.pol_cursor.specs.Laws.{Reads, IsOf, IsReadAgain, IsReadFromSpelling}
-use Rattle.pol_cursor.proofs.Laws.{Reads-then, Reads-done}
+use Rattle.pol_cursor.specs.Laws.{Reads, IsOf, IsSpelling, IsReadAgain, IsReadFromSpelling}
 
 -- ---- what reading a text again gives
 
@@ -44,22 +43,10 @@ finds-part {A} {B} {r} f {Q} {R} {s} {t} first others = record {
 pub finds-as : {A : Type 0} {r : Reader A} {Q : A → Type 0} {s t : List ℕ} → FindsAgain r Q s → s ≡ t → FindsAgain r Q t
 finds-as {A} {r} {Q} h e = subst (λ (u : List ℕ). FindsAgain r Q u) e h
 
--- ---- what was read fits
-
--- each value that is read has the fact
-abbrev pub Fit : {A : Type 0} → Reader A → (A → Type 0) → Type 0
-Fit r Q = Reads r (λ text x. Q x)
-
-pub fit-done : {A : Type 0} {Q : A → Type 0} (x : A) → Q x → Fit (done x) Q
-fit-done {A} {Q} x h = Reads-done (λ text x. Q x) x h
-
-pub fit-part : {A B : Type 0} {r : Reader A} {f : A → Reader B} {Q : A → Type 0} {R : B → Type 0} → Fit r Q → ((x : A) → Q x → Fit (f x) R) → Fit (r >>= f) R
-fit-part {A} {B} {r} {f} {Q} {R} first others = Reads-then r f (λ text x. Q x) (λ text y. R y) first (λ s x h. others x h)
-
--- ---- both, for a reader whose values are seen as other ones
+-- ---- both laws, for a reader whose values are seen as other ones
 
 pub record HasLaws {X Y : Type 0} (r : Reader X) (view : X → Y) (spell : Y → List ℕ) (fits : Y → Type 0) : Type 0 where
-  pub fitting : Fit r (λ x. fits (view x))
+  pub spelled : Reads r (IsSpelling (λ x. spell (view x)) (λ x. fits (view x)))
   pub again : (y : Y) → fits y → FindsAgain r (λ x. view x ≡ y) (spell y)
 
 seen-as : {X Y : Type 0} (view : X → Y) (y : Y) (n : ℕ) (o : Outcome X) → IsOf y n (and_then o (λ x next. Got (view x) next)) → Finds (λ x. view x ≡ y) n o
@@ -70,10 +57,10 @@ seen-as view y n (Bad f) h = tt
 pub laws-through : {X Y : Type 0} (r : Reader X) (plain : Reader Y) (view : X → Y) (spell : Y → List ℕ) (fits : Y → Type 0) → ((bytes : List ℕ) (place : ℕ) → and_then (r bytes place) (λ x next. Got (view x) next) ≡ plain bytes place)
     → IsReadFromSpelling plain spell fits → IsReadAgain plain spell fits → HasLaws r view spell fits
 laws-through {X} {Y} r plain view spell fits same spelled again = record {
-  fitting = record {
+  spelled = record {
     spelled = λ bytes place x next are e.
         let first = spelled.spelled bytes place (view x) next are (sym (same bytes place) ∙ ap (λ (o : Outcome X). and_then o (λ x next. Got (view x) next)) e) in
-        record { text = first.text; stands = first.stands; holds = first.holds.fitting };
+        record { text = first.text; stands = first.stands; holds = record { same = first.holds.same; fitting = first.holds.fitting } };
   };
   again = λ y y-fits. record {
     finds = λ before after.
@@ -88,6 +75,6 @@ seen-itself : {A : Type 0} (o : Outcome A) → and_then o (λ x next. Got x next
 seen-itself (Got x next) = refl
 seen-itself (Bad f) = refl
 
--- those of a reader whose values are seen as they are
+-- the laws of a reader whose values are seen as they are
 pub laws-alone : {A : Type 0} (r : Reader A) (spell : A → List ℕ) (fits : A → Type 0) → IsReadFromSpelling r spell fits → IsReadAgain r spell fits → HasLaws r (λ x. x) spell fits
 laws-alone r spell fits spelled again = laws-through r r (λ x. x) spell fits (λ bytes place. seen-itself (r bytes place)) spelled again

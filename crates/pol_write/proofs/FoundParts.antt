@@ -34,13 +34,12 @@ use Rattle.pol_file.specs.declared.Front.{Front}
 use Rattle.pol_file.specs.declared.RuleLists.{RuleLists}
 use Rattle.pol_file.specs.declared.LabelLists.{LabelLists}
 use Rattle.pol_file.specs.PolicyParts.{front_at, rule_lists_at, label_lists_at}
-use Rattle.pol_laws.specs.PolicySpelling.{spell_if}
 use Rattle.pol_tree.specs.declared.Tree.{Tree}
 use Rattle.pol_tree.specs.PolicyTree.{entries_of, groups_of}
 use Rattle.pol_tree.specs.TreeSpelling.{header_of, table_of, spell_front, spell_symbols, spell_rules, spell_contexts, spell_labels}
 use Rattle.pol_tree.specs.TreeRanges.{TreeFits}
 use Rattle.pol_write.proofs.Findings.{FindsAgain, finds-part, finds-done, finds-as, laws-alone}
-use Rattle.pol_write.proofs.ListFindings.{FitsIf}
+use Rattle.pol_write.proofs.ListFindings.{FitsIf, spelled-if}
 use Rattle.pol_write.proofs.PartLaws.{commons-laws, classes-laws, roles-laws, types-laws, users-laws, booleans-laws, levels-laws, categories-laws, avtab-laws, condlist-laws, roletrans-laws, roleallow-laws, nametrans-laws, namegroup-laws, rangetrans-laws, sid-laws, named-laws, port-laws, address-laws, fsuse-laws, ibpkey-laws, ibendport-laws, genfs-laws, typemap-laws}
 
 -- ---- what stands before the symbol tables
@@ -195,10 +194,6 @@ pub record HasContexts (tree : Tree) (contexts : Contexts) : Type 0 where
 fits-if : {A : Type 0} (there : Bool) (fits : List A → Type 0) (xs : List A) → fits xs → (there ≡ false → xs ≡ []) → FitsIf there fits xs
 fits-if true fits xs h none = h
 fits-if false fits xs h none = none refl
-
-spelled-if : (there : Bool) (s t : List ℕ) → spell_if there s ++ spell_if there t ≡ spell_if there (s ++ t)
-spelled-if true s t = refl
-spelled-if false s t = refl
 
 -- the tables of InfiniBand are empty where the version does not have them
 pub record HasNoInfiniband (tree : Tree) : Type 0 where

@@ -21,7 +21,7 @@ use Rattle.pol_file.specs.declared.Parts.{Parts}
 use Rattle.pol_file.specs.PolicyParts.{rule_lists_at, label_lists_at, policy_at}
 use Rattle.pol_file.specs.Acceptance.{accept}
 use Rattle.pol_file.proofs.Acceptances.{accepted_was_read}
-use Rattle.pol_laws.specs.OptionalParts.{wrong_if, shape_of_list}
+use Rattle.pol_tree.specs.OptionalParts.{wrong_if, shape_of_list}
 use Rattle.pol_tree.specs.declared.Tree.{Tree}
 use Rattle.pol_tree.specs.PolicyTree.{nprims_of, tree_of}
 use Rattle.pol_tree.specs.TreeSpelling.{spell_symbols, spell_rules, spell_labels, spell}

@@ -1,21 +1,26 @@
 -- Both laws of the lists of a policy, each seen without the places of its records.
-use Rattle.std.proofs.Common.{◌≡◌, ℕ, Bool, true, false, List, [], length, refl, subst}
+use Rattle.std.proofs.Common.{◌≡◌, ℕ, Bool, true, false, List, [], ◌++◌, length, refl, subst}
 use Rattle.std.specs.List.{flat_map, AllByRecursion}
 use Rattle.pol_fields.specs.declared.Field.{Field}
-use Rattle.pol_cursor.specs.Outcome.{Reader}
+use Rattle.pol_cursor.specs.Outcome.{Outcome, Reader, Got, Bad, and_then}
 use Rattle.pol_cursor.specs.Parts.{number, list_of, records_at, counted, spell_counted, CountedFits}
-use Rattle.pol_cursor.specs.References.{Placed, placed, values_of}
+use Rattle.pol_cursor.specs.References.{Placed, placed, values_of, without_places}
 use Rattle.pol_cursor.specs.Contexts.{records_after}
 use Rattle.pol_cursor.specs.Laws.{IsReadAgain, IsReadFromSpelling}
-use Rattle.pol_cursor.proofs.Laws.{Reads-list_of, Again-list_of, records_spelled, records_again, counted_spelled, counted_again}
+use Rattle.pol_cursor.proofs.Laws.{Reads-done, Reads-list_of, Again-list_of, records_spelled, records_again, counted_spelled, counted_again}
 use Rattle.pol_cursor.proofs.Lists.{records_unplaced}
 use Rattle.pol_cursor.proofs.ContextLists.{records_after_unplaced}
 use Rattle.pol_symtab.specs.SymbolTables.{bare, table_at, bare_table_at, spell_table, TableFits}
 use Rattle.pol_symtab.proofs.TableLaws.{table_spelled, table_again, table_unplaced}
 use Rattle.pol_contexts.specs.ContextTables.{table_if}
-use Rattle.pol_laws.specs.PolicySpelling.{spell_if}
-use Rattle.pol_laws.proofs.SpelledLists.{counted_unplaced}
-use Rattle.pol_write.proofs.Findings.{FindsAgain, HasLaws, laws-through, finds-done, fit-done}
+use Rattle.pol_tree.specs.TreeSpelling.{spell_if}
+use Rattle.pol_write.proofs.Findings.{FindsAgain, HasLaws, laws-through, finds-done}
+
+-- a list behind its count, read with the places of its records and without them
+pub counted_unplaced : {A : Type 0} (bytes : List ℕ) (placed_at : ℕ → Reader (List (Placed A))) (plain_at : ℕ → Reader (List A)) → ((n next : ℕ) → without_places (placed_at n bytes next) ≡ plain_at n bytes next)
+    → (o : Outcome ℕ) → without_places (and_then o (λ n next. placed_at n bytes next)) ≡ and_then o (λ n next. plain_at n bytes next)
+counted_unplaced bytes placed_at plain_at each (Got n next) = each n next
+counted_unplaced bytes placed_at plain_at each (Bad f) = refl
 
 -- records that are read alone, behind their count
 pub list-laws : {A : Type 0} (d : Field) (record_at : Reader A) (spell : A → List ℕ) (fits : A → Type 0) → IsReadFromSpelling record_at spell fits → IsReadAgain record_at spell fits
@@ -60,9 +65,14 @@ pub list_if-laws : {A : Type 0} (there : Bool) (list : Reader (List (Placed A)))
 unfolding table_if
 list_if-laws true list spell fits laws = laws
 list_if-laws false list spell fits laws = record {
-  fitting = fit-done [] refl;
+  spelled = Reads-done _ [] (record { same = refl; fitting = refl });
   again = λ xs none. subst (λ (ys : List _). FindsAgain (table_if false list) (λ records. values_of records ≡ ys) []) (none-back xs none) (finds-done [] refl);
 }
   where
     none-back : {A : Type 0} (xs : List A) → xs ≡ [] → [] ≡ xs
     none-back xs e = cc
+
+-- two lists that are in the file together or are not
+pub spelled-if : (there : Bool) (s t : List ℕ) → spell_if there s ++ spell_if there t ≡ spell_if there (s ++ t)
+spelled-if true s t = refl
+spelled-if false s t = refl

@@ -49,7 +49,7 @@ use Rattle.pol_contexts.proofs.ContextLaws.{sid_spelled, sid_again, named_spelle
 use Rattle.pol_genfs.specs.GenfsRecord.{genfs_at, spell_genfs, GenfsFits}
 use Rattle.pol_genfs.proofs.GenfsLaws.{genfs_spelled, genfs_again}
 use Rattle.pol_file.specs.TypeRows.{type_rows_at}
-use Rattle.pol_laws.specs.PolicySpelling.{spell_if}
+use Rattle.pol_tree.specs.TreeSpelling.{spell_if}
 use Rattle.pol_write.proofs.Findings.{HasLaws, laws-through}
 use Rattle.pol_write.proofs.ListFindings.{list-laws, table-laws, rows-laws, AreSoManyFitting, list_if-laws, FitsIf}
 

@@ -1,3 +1,4 @@
+// Why a tree is not written.
 use pol_fields::{Fault, Field};
 use std::alloc::AllocError;
 

@@ -1,3 +1,4 @@
+// The writer of trees.
 ghost use Rattle.std.specs.Prelude.{◌≡◌, ◌++◌, OnOk, OnErr};
 ghost use Rattle.pol_tree.specs.TreeSpelling.{spell};
 ghost use Rattle.pol_write.specs.Soundness.{unsound, unsound_bytes, IsSound, Judges};

@@ -4,7 +4,7 @@ use Rattle.std.specs.Prelude.{◌≡◌, ℕ, ◌^◌, ◌<◌, ◌≤◌, Optio
 use Rattle.std.specs.List.{flat_map}
 use Rattle.pol_fields.specs.declared.Field.{Field}
 use Rattle.pol_cursor.specs.Parts.{CountedFits}
-use Rattle.pol_laws.specs.OptionalParts.{first_in}
+use Rattle.pol_tree.specs.OptionalParts.{first_in}
 
 -- It has bytes, and fits where no optional part of it is wrong and its bytes can be counted in 32 bits.
 pub record IsFitting {A : Type 0} (shape : A → Option Field) (fits : A → Type 0) (spell : A → List ℕ) (x : A) : Type 0 where

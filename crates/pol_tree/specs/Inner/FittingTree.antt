@@ -24,7 +24,7 @@ use Rattle.pol_contexts.specs.FsUseRecord.{spell_fsuse, FsUseFits}
 use Rattle.pol_contexts.specs.IbPkeyRecord.{spell_ibpkey, IbPkeyFits}
 use Rattle.pol_contexts.specs.IbEndPortRecord.{spell_ibendport, IbEndPortFits}
 use Rattle.pol_genfs.specs.GenfsRecord.{spell_genfs, GenfsFits}
-use Rattle.pol_laws.specs.RecordShapes.{shape_of_class, shape_of_user, shape_of_av, shape_of_condnode, shape_of_range_trans, shape_of_genfs, shape_of_sid, shape_of_named, shape_of_port, shape_of_address, shape_of_fsuse, shape_of_ibpkey, shape_of_ibendport}
+use Rattle.pol_tree.specs.RecordShapes.{shape_of_class, shape_of_user, shape_of_av, shape_of_condnode, shape_of_range_trans, shape_of_genfs, shape_of_sid, shape_of_named, shape_of_port, shape_of_address, shape_of_fsuse, shape_of_ibpkey, shape_of_ibendport}
 use Rattle.pol_tree.specs.declared.tree.Tree.{Tree}
 use Rattle.pol_tree.specs.Inner.Fitting.{AreFitting}
 

@@ -1,5 +1,5 @@
 use Rattle.std.proofs.Common.{◌≡◌, drop}
-use Rattle.pol_laws.specs.OptionalParts.{first_of}
+use Rattle.pol_tree.specs.OptionalParts.{first_of}
 use Rattle.pol_tree.proofs.fitting.first_wrong.Given as goal
 
 -- none of the parts before is wrong

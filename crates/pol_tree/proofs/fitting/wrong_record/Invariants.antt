@@ -1,6 +1,6 @@
 use Rattle.std.proofs.Common.{◌≡◌, drop}
 use Rattle.std.specs.List.{AllByRecursion}
-use Rattle.pol_laws.specs.OptionalParts.{first_in}
+use Rattle.pol_tree.specs.OptionalParts.{first_in}
 use Rattle.pol_tree.specs.Inner.Fitting.{IsFitting}
 use Rattle.pol_tree.proofs.fitting.wrong_record.Given as goal
 

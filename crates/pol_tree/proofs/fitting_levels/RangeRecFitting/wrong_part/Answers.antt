@@ -1,5 +1,5 @@
 use Rattle.std.proofs.Common.{◌∙◌}
-use Rattle.pol_laws.specs.OptionalParts.{first_of}
+use Rattle.pol_tree.specs.OptionalParts.{first_of}
 use Rattle.pol_tree.proofs.Wrongs.{first_alone, none_within}
 use Rattle.pol_tree.proofs.fitting_levels.RangeRecFitting.wrong_part.Goals as goal
 

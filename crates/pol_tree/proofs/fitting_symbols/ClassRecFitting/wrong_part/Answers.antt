@@ -1,5 +1,5 @@
 use Rattle.std.proofs.Common.{refl, ◌∙◌, rules}
-use Rattle.pol_laws.specs.OptionalParts.{first_of}
+use Rattle.pol_tree.specs.OptionalParts.{first_of}
 use Rattle.pol_tree.proofs.FittingSymbols.{class_fits}
 use Rattle.pol_tree.proofs.Wrongs.{none_in}
 use Rattle.pol_tree.proofs.fitting_symbols.ClassRecFitting.wrong_part.Goals as goal

@@ -1,5 +1,5 @@
 use Rattle.std.proofs.Common.{◌∙◌}
-use Rattle.pol_laws.specs.OptionalParts.{first_of}
+use Rattle.pol_tree.specs.OptionalParts.{first_of}
 use Rattle.pol_tree.proofs.Wrongs.{first_alone}
 use Rattle.pol_tree.proofs.fitting_symbols.UserRecFitting.wrong_part.Goals as goal
 

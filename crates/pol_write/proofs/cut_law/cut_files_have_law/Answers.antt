@@ -1,5 +1,5 @@
-use Rattle.pol_laws.proofs.CutPolicies.{cut_is_short, cut_in_field}
-use Rattle.pol_laws.proofs.cut_law.cut_files_have_law.Goals as goal
+use Rattle.pol_write.proofs.CutPolicies.{cut_is_short, cut_in_field}
+use Rattle.pol_write.proofs.cut_law.cut_files_have_law.Goals as goal
 
 pub returns-clause-short : goal.returns-clause-short
 returns-clause-short c = cut_is_short

@@ -24,7 +24,7 @@ use Rattle.pol_contexts.specs.declared.IbPkeyRec.{IbPkeyRec}
 use Rattle.pol_contexts.specs.declared.IbEndPortRec.{IbEndPortRec}
 use Rattle.pol_genfs.specs.declared.GenfsPathRec.{GenfsPathRec}
 use Rattle.pol_genfs.specs.declared.GenfsRec.{GenfsRec}
-use Rattle.pol_laws.specs.OptionalParts.{shape_of_part, first_of, first_in}
+use Rattle.pol_tree.specs.OptionalParts.{shape_of_part, first_of, first_in}
 
 -- a range has a high level exactly where its number of levels is 2 (libsepol's mls_read_range_helper)
 abbrev pub shape_of_range : RangeRec → Option Field

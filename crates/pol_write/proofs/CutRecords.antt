@@ -25,7 +25,7 @@ use Rattle.pol_datums.specs.SensitivityRecord.{sens_at, sensitivity_at}
 use Rattle.pol_datums.specs.CategoryRecord.{category_at}
 use Rattle.pol_classes.specs.ClassRecord.{common_name_at, head_at, default_at, class_at}
 use Rattle.pol_symbols.specs.UserRecord.{user_at}
-use Rattle.pol_laws.proofs.CutParts.{IsLocal, local-done, local-then, local-number, local-number_if, local-string_if, local-list_of, local-records, local-counted, local-optional}
+use Rattle.pol_write.proofs.CutParts.{IsLocal, local-done, local-then, local-number, local-number_if, local-string_if, local-list_of, local-records, local-counted, local-optional}
 
 -- ---- the header
 

@@ -2,7 +2,6 @@
 -- it reads them. Here a record has such a part or has it not, so that it can be wrong; it is wrong at a field (this project's profile).
 use Rattle.std.specs.Prelude.{Bool, true, false, not, Option, Some, None, is_some, is_none, List, [], ◌∷◌, map, if◌then◌else◌}
 use Rattle.pol_fields.specs.declared.Field.{Field}
-use Rattle.pol_cursor.specs.References.{Placed}
 
 -- ---- one part
 
@@ -28,10 +27,6 @@ first_of [] = None
 first_of (None ∷ parts) = first_of parts
 first_of (Some field ∷ parts) = Some field
 
--- the first one in a list of records, by that of a record
+-- the first one of the records of a list, by that of a record
 abbrev pub first_in : {A : Type 0} → (A → Option Field) → List A → Option Field
 first_in shape records = first_of (map shape records)
-
--- the same of records with their places
-abbrev pub first_placed : {A : Type 0} → (A → Option Field) → List (Placed A) → Option Field
-first_placed shape records = first_in (λ r. shape r.value) records

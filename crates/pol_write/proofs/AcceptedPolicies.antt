@@ -9,7 +9,7 @@ use Rattle.pol_symbols.specs.PolicySymbols.{symbols_at}
 use Rattle.pol_file.specs.declared.Parts.{Parts}
 use Rattle.pol_file.specs.PolicyParts.{front_at, rule_lists_at, label_lists_at, policy_at}
 use Rattle.pol_file.specs.Acceptance.{undeclared, unless_undeclared, judged, accept}
-use Rattle.pol_laws.proofs.CutParts.{ends_there}
+use Rattle.pol_write.proofs.CutParts.{ends_there}
 
 -- ---- nothing is left
 

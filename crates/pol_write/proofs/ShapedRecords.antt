@@ -37,8 +37,9 @@ use Rattle.pol_contexts.specs.IbPkeyRecord.{ibpkey_at}
 use Rattle.pol_contexts.specs.IbEndPortRecord.{ibendport_at}
 use Rattle.pol_genfs.specs.GenfsRecord.{path_at, genfs_at}
 use Rattle.pol_file.proofs.ReadValues.{gives-others}
-use Rattle.pol_laws.specs.RecordShapes.{shape_of_range, shape_of_item, shape_of_constraint, shape_of_class, shape_of_user, shape_of_av, shape_of_condnode, shape_of_range_trans, shape_of_context, shape_of_sid, shape_of_named, shape_of_port, shape_of_address, shape_of_fsuse, shape_of_ibpkey, shape_of_ibendport, shape_of_path, shape_of_genfs}
-use Rattle.pol_laws.proofs.ShapedParts.{IsShaped, part_shaped, none-first, none-last, gives-optional, shaped-list_of, shaped-records_at, shaped-counted}
+use Rattle.pol_tree.specs.RecordShapes.{shape_of_range, shape_of_item, shape_of_constraint, shape_of_class, shape_of_user, shape_of_av, shape_of_condnode, shape_of_range_trans, shape_of_context, shape_of_sid, shape_of_named, shape_of_port, shape_of_address, shape_of_fsuse, shape_of_ibpkey, shape_of_ibendport, shape_of_path, shape_of_genfs}
+use Rattle.pol_tree.proofs.Wrongs.{none-first, none-last}
+use Rattle.pol_write.proofs.ShapedParts.{IsShaped, part_shaped, gives-optional, shaped-list_of, shaped-records_at, shaped-counted}
 
 -- ---- a range
 

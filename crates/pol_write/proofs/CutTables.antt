@@ -29,8 +29,8 @@ use Rattle.pol_contexts.specs.IbPkeyRecord.{ibpkey_at}
 use Rattle.pol_contexts.specs.IbEndPortRecord.{ibendport_at}
 use Rattle.pol_contexts.specs.ContextTables.{table_if, has_infiniband, contexts_at}
 use Rattle.pol_genfs.specs.GenfsRecord.{path_at, genfs_at}
-use Rattle.pol_laws.proofs.CutParts.{IsLocal, local-done, local-then, local-number, local-string, local-number_if, local-records_after, local-counted, local-placed, local-either, local-name, local-name_length, local-name_bytes}
-use Rattle.pol_laws.proofs.CutRecords.{range_local, bitmap_local, condition_local, common_local, class_local, role_local, type_local, user_local, boolean_local, sensitivity_local, category_local}
+use Rattle.pol_write.proofs.CutParts.{IsLocal, local-done, local-then, local-number, local-string, local-number_if, local-records_after, local-counted, local-placed, local-either, local-name, local-name_length, local-name_bytes}
+use Rattle.pol_write.proofs.CutRecords.{range_local, bitmap_local, condition_local, common_local, class_local, role_local, type_local, user_local, boolean_local, sensitivity_local, category_local}
 
 -- ---- symbol tables
 

@@ -9,11 +9,11 @@ use Rattle.pol_file.specs.declared.Parts.{Parts}
 use Rattle.pol_file.specs.TypeRows.{type_rows_at}
 use Rattle.pol_file.specs.PolicyParts.{front_at, rule_lists_at, label_lists_at, policy_at}
 use Rattle.pol_file.specs.Acceptance.{judged, accept}
-use Rattle.pol_laws.specs.CutFiles.{IsCutShort, IsGoodUpTo, CutField}
-use Rattle.pol_laws.proofs.AcceptedPolicies.{IsRead, accepted_is_read}
-use Rattle.pol_laws.proofs.CutParts.{IsLocal, CutPart, Reaches, local-done, local-then, local-records_after, local-counted, local-placed, local-end}
-use Rattle.pol_laws.proofs.CutRecords.{header_local, bitmap_local}
-use Rattle.pol_laws.proofs.CutTables.{symbols_local, rule_table_local, conditionals_local, role_trans_local, role_allow_local, name_transitions_local, range_trans_local, contexts_local, genfs_local}
+use Rattle.pol_write.specs.CutFiles.{IsCutShort, IsGoodUpTo, CutField}
+use Rattle.pol_write.proofs.AcceptedPolicies.{IsRead, accepted_is_read}
+use Rattle.pol_write.proofs.CutParts.{IsLocal, CutPart, Reaches, local-done, local-then, local-records_after, local-counted, local-placed, local-end}
+use Rattle.pol_write.proofs.CutRecords.{header_local, bitmap_local}
+use Rattle.pol_write.proofs.CutTables.{symbols_local, rule_table_local, conditionals_local, role_trans_local, role_allow_local, name_transitions_local, range_trans_local, contexts_local, genfs_local}
 
 -- ---- its readers look at no byte behind their values
 
