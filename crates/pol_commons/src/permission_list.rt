@@ -56,7 +56,7 @@ impl<'a> PermissionList<'a> {
     }
 
     /// How many there are.
-    #[tactic(auto, using(crate::proofs::RunValues::length_values_in))]
+    #[tactic(auto, using(crate::proofs::NestedValues::length_values_in))]
     pub fn len(&self) -> u32
         ensures { result ≡ length self.now }
     {
