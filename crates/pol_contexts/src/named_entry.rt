@@ -1,5 +1,6 @@
 //! The entries of the tables of file systems and of network interfaces: a name and two contexts.
 ghost use Rattle.std.specs.Prelude.{◌≡◌, OnOk};
+ghost use Rattle.pol_fields.specs.declared.fields.TheConstants.{FS_LEN, FS_NAME, NETIF_LEN, NETIF_NAME};
 ghost use Rattle.pol_cursor.specs.Outcome.{Answers};
 ghost use Rattle.pol_contexts.specs.NamedRecord.{named_at, named_in, spell_named, HasNamed, named_references, context_place, second_place};
 
