@@ -40,6 +40,17 @@ pub(crate) fn expression_texts(
     Ok(texts)
 }
 
+// The text of the expression of a constraint.
+fn expression_text(
+    alloc: Global,
+    symbols: &Symbols<'_>,
+    constraint: &ConstraintView<'_>,
+) -> Result<Vec<u8>, AllocError>
+    ensures { IfOk result (λ text. text.items ≡ constraint_text (name_in symbols.now) constraint.now.items) }
+{
+    constraint.infix(alloc, symbols)
+}
+
 // Keeps the text of the expression of the entry of a number, if it is not kept, there is room, and it is not long.
 fn keep_text(
     texts: &mut Vec<ExpressionText>,
@@ -55,7 +66,7 @@ fn keep_text(
     if texts.len() >= MOST || kept_text(texts, symbols, entries, constraint).is_some() {
         return Ok(());
     }
-    let text = constraint.infix(*texts.allocator(), symbols)?;
+    let text = expression_text(*texts.allocator(), symbols, constraint)?;
     if text.len() <= LONGEST {
         texts.push(ExpressionText { number, text })?;
     }

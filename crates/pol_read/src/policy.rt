@@ -60,7 +60,9 @@ impl<'a> Policy<'a> {
     pub fn is_accepted(&self)
         ensures accepted { (bytes : List ℕ) × (accept bytes ≡ Ok self.now) }
         ensures declared { undeclared self.now ≡ None }
-    {}
+    {
+        let _file = self.bytes;
+    }
 
     /// The version of the format, 28 to 34.
     pub fn version(&self) -> u32

@@ -1,7 +1,7 @@
 -- The bytes that a policy was read from are the spelling of its tree, and the tree fits: each part of it.
 use Rattle.std.proofs.Common.{◌≡◌, ℕ, Bool, true, false, None, Ok, List, [], ◌++◌, drop, refl, sym, ap, ◌∙◌, append_assoc, if◌then◌else◌, arith, lit<}
 use Rattle.std.proofs.lemmas.List.{append-nil, drop_all}
-use Rattle.std.specs.List.{AllByRecursion}
+use Rattle.std.specs.List.{flat_map, AllByRecursion}
 use Rattle.pol_fields.specs.declared.Field.{Field}
 use Rattle.pol_fields.specs.declared.field.Field.{Field}
 use Rattle.pol_fields.specs.declared.fields.TheConstants.{FS_COUNT, FS_LEN, FS_NAME, NETIF_COUNT, NETIF_LEN, NETIF_NAME, NODE_COUNT, NODE_ADDRESS, NODE_MASK, NODE6_COUNT, NODE6_ADDRESS, NODE6_MASK, END_END}
@@ -10,9 +10,9 @@ use Rattle.pol_cursor.specs.Spelling.{AreBytes}
 use Rattle.pol_cursor.specs.Laws.{Reads, IsSpelling}
 use Rattle.pol_cursor.specs.References.{values_of}
 use Rattle.pol_cursor.proofs.Laws.{Reads-part, Reads-then, Reads-done}
-use Rattle.pol_bitmap.specs.Bitmap.{BitmapFits}
+use Rattle.pol_bitmap.specs.Bitmap.{spell_bitmap, BitmapFits}
 use Rattle.pol_bitmap.proofs.Laws.{bitmap_spelled}
-use Rattle.pol_file.specs.HeaderRecord.{HeaderFits}
+use Rattle.pol_file.specs.HeaderRecord.{spell_header, HeaderFits}
 use Rattle.pol_file.proofs.HeaderLaws.{header_spelled}
 use Rattle.pol_symtab.specs.SymbolTables.{bare, spell_table, TableFits}
 use Rattle.pol_commons.specs.CommonRecord.{spell_common, CommonFits}
@@ -27,26 +27,26 @@ use Rattle.pol_symbols.specs.declared.Symbols.{Symbols}
 use Rattle.pol_symbols.specs.declared.RuleTables.{RuleTables}
 use Rattle.pol_symbols.specs.declared.OtherTables.{OtherTables}
 use Rattle.pol_symbols.specs.PolicySymbols.{rule_tables_at, other_tables_at, symbols_at}
-use Rattle.pol_avtab.specs.AvRecord.{AvFits}
-use Rattle.pol_conditionals.specs.CondNodeRecord.{CondNodeFits}
-use Rattle.pol_trans.specs.RoleTransRecord.{RoleTransFits}
-use Rattle.pol_trans.specs.RoleAllowRecord.{RoleAllowFits}
+use Rattle.pol_avtab.specs.AvRecord.{spell_av, AvFits}
+use Rattle.pol_conditionals.specs.CondNodeRecord.{spell_condnode, CondNodeFits}
+use Rattle.pol_trans.specs.RoleTransRecord.{spell_role_trans, RoleTransFits}
+use Rattle.pol_trans.specs.RoleAllowRecord.{spell_role_allow, RoleAllowFits}
 use Rattle.pol_trans.specs.NameTransRecord.{spell_name_trans, NameTransFits}
 use Rattle.pol_trans.specs.NameGroupRecord.{spell_name_group, NameGroupFits}
-use Rattle.pol_trans.specs.RangeTransRecord.{RangeTransFits}
+use Rattle.pol_trans.specs.RangeTransRecord.{spell_range_trans, RangeTransFits}
 use Rattle.pol_trans.specs.NameTransitions.{has_groups, entries_at, groups_at}
 use Rattle.pol_trans.specs.declared.NameTrans.{NameTrans}
 use Rattle.pol_trans.specs.declared.NameTrans.TheVariants.{Entries, Groups}
-use Rattle.pol_contexts.specs.SidRecord.{SidFits}
-use Rattle.pol_contexts.specs.NamedRecord.{NamedFits}
-use Rattle.pol_contexts.specs.PortRecord.{PortFits}
-use Rattle.pol_contexts.specs.AddressRecord.{AddressFits}
-use Rattle.pol_contexts.specs.FsUseRecord.{FsUseFits}
+use Rattle.pol_contexts.specs.SidRecord.{spell_sid, SidFits}
+use Rattle.pol_contexts.specs.NamedRecord.{spell_named, NamedFits}
+use Rattle.pol_contexts.specs.PortRecord.{spell_port, PortFits}
+use Rattle.pol_contexts.specs.AddressRecord.{spell_address, AddressFits}
+use Rattle.pol_contexts.specs.FsUseRecord.{spell_fsuse, FsUseFits}
 use Rattle.pol_contexts.specs.IbPkeyRecord.{spell_ibpkey, IbPkeyFits}
 use Rattle.pol_contexts.specs.IbEndPortRecord.{spell_ibendport, IbEndPortFits}
 use Rattle.pol_contexts.specs.ContextTables.{has_infiniband, contexts_at}
 use Rattle.pol_contexts.specs.declared.Contexts.{Contexts}
-use Rattle.pol_genfs.specs.GenfsRecord.{GenfsFits}
+use Rattle.pol_genfs.specs.GenfsRecord.{spell_genfs, GenfsFits}
 use Rattle.pol_file.specs.declared.Front.{Front}
 use Rattle.pol_file.specs.declared.RuleLists.{RuleLists}
 use Rattle.pol_file.specs.declared.LabelLists.{LabelLists}
@@ -100,7 +100,7 @@ front-spelled =
     Reads-part (bitmap_spelled None) λ capabilities capabilities-fit.
     Reads-part (bitmap_spelled None) λ permissive permissive-fit.
     Reads-done _ (record { header = header; capabilities = capabilities; permissive = permissive })
-    (record { same = λ policy. three-texts _ _ _; fitting = record { header = header-fit; capabilities = capabilities-fit; permissive = permissive-fit } })
+    (record { same = λ policy. three-texts (spell_header header) (spell_bitmap capabilities) (spell_bitmap permissive); fitting = record { header = header-fit; capabilities = capabilities-fit; permissive = permissive-fit } })
 
 -- ---- the symbol tables
 
@@ -135,7 +135,7 @@ first-spelled version =
     Reads-part roles-laws.spelled λ roles roles-fit.
     Reads-part types-laws.spelled λ types types-fit.
     Reads-done _ (record { commons = commons; classes = classes; roles = roles; types = types })
-    (record { same = four-texts _ _ _ _; fitting = record { commons = commons-fit; classes = classes-fit; roles = roles-fit; types = types-fit } })
+    (record { same = four-texts (spell_table spell_common (bare commons)) (spell_table spell_class (bare classes)) (spell_table spell_role (bare roles)) (spell_table spell_type (bare types)); fitting = record { commons = commons-fit; classes = classes-fit; roles = roles-fit; types = types-fit } })
 
 others-spelled : Reads other_tables_at (IsSpelling spell_others OthersFit)
 unfolding other_tables_at
@@ -145,7 +145,7 @@ others-spelled =
     Reads-part levels-laws.spelled λ levels levels-fit.
     Reads-part categories-laws.spelled λ categories categories-fit.
     Reads-done _ (record { users = users; booleans = booleans; levels = levels; categories = categories })
-    (record { same = four-texts _ _ _ _; fitting = record { users = users-fit; booleans = booleans-fit; levels = levels-fit; categories = categories-fit } })
+    (record { same = four-texts (spell_table spell_user (bare users)) (spell_table spell_boolean (bare booleans)) (spell_table spell_sensitivity (bare levels)) (spell_table spell_category (bare categories)); fitting = record { users = users-fit; booleans = booleans-fit; levels = levels-fit; categories = categories-fit } })
 
 symbols-spelled : (version : ℕ) → Reads (symbols_at version) (IsSpelledIn (λ policy symbols. record policy { symbols = symbols }) spell_symbols (SymbolsFit version))
 unfolding symbols_at tree_of spell_symbols
@@ -153,7 +153,8 @@ symbols-spelled version =
     Reads-part (first-spelled version) λ first first-fits.
     Reads-part others-spelled λ others others-fits.
     Reads-done _ _ (record {
-      same = λ policy. eight-texts _ _ _ _ _ _ _ _;
+      same = λ policy.
+          eight-texts (spell_table spell_common (bare first.commons)) (spell_table spell_class (bare first.classes)) (spell_table spell_role (bare first.roles)) (spell_table spell_type (bare first.types)) (spell_table spell_user (bare others.users)) (spell_table spell_boolean (bare others.booleans)) (spell_table spell_sensitivity (bare others.levels)) (spell_table spell_category (bare others.categories));
       fitting = record { first = first-fits; others = others-fits };
     })
 
@@ -194,7 +195,8 @@ rules-spelled front =
     Reads-part (names-spelled (has_groups front.header.version)) λ name_trans name_trans-fit.
     Reads-done _ (record { table = table; conditionals = conditionals; role_trans = role_trans; role_allows = role_allows; name_trans = name_trans })
     (record {
-      same = λ policy. five-texts _ _ _ _ _;
+      same = λ policy.
+          five-texts (spell_counted spell_av (values_of table)) (spell_counted spell_condnode (values_of conditionals)) (spell_counted spell_role_trans (values_of role_trans)) (spell_counted spell_role_allow (values_of role_allows)) (spell_names (has_groups front.header.version) name_trans);
       fitting = record { avtab = table-fit; condlist = conditionals-fit; roletrans = role_trans-fit; roleallow = role_allows-fit; names = name_trans-fit };
     })
 
@@ -231,7 +233,8 @@ contexts-spelled front =
     Reads-part ((ibendport-laws there).spelled) λ ibendport ibendport-fits.
     Reads-done _ (record { sid = sid; fs = fs; port = port; netif = netif; node = node; fsuse = fsuse; node6 = node6; ibpkey = ibpkey; ibendport = ibendport })
     (record {
-      same = λ policy. nine-texts _ _ _ _ _ _ _ (spell_counted spell_ibpkey (values_of ibpkey)) (spell_counted spell_ibendport (values_of ibendport)) there;
+      same = λ policy.
+          nine-texts (spell_counted spell_sid (values_of sid)) (spell_counted spell_named (values_of fs)) (spell_counted spell_port (values_of port)) (spell_counted spell_named (values_of netif)) (spell_counted (spell_address {width = 4}) (values_of node)) (spell_counted spell_fsuse (values_of fsuse)) (spell_counted (spell_address {width = 16}) (values_of node6)) (spell_counted spell_ibpkey (values_of ibpkey)) (spell_counted spell_ibendport (values_of ibendport)) there;
       fitting = record {
         sid = sid-fits;
         fs = fs-fits;
@@ -260,7 +263,8 @@ labels-spelled front types =
     Reads-part ((typemap-laws types).spelled) λ type_rows type_rows-fits.
     let labels : LabelLists = record { contexts = contexts; genfs = genfs; range_trans = range_trans; type_rows = type_rows } in
     Reads-done _ labels (record {
-      same = λ policy. rw (contexts-are.same (record policy { labels = labels })) (four-texts _ _ _ _);
+      same = λ policy. rw (contexts-are.same (record policy { labels = labels }))
+          (four-texts (spell_contexts (tree_of (record policy { front = front; labels = labels }))) (spell_counted spell_genfs (values_of genfs)) (spell_counted spell_range_trans (values_of range_trans)) (flat_map spell_bitmap (values_of type_rows)));
       fitting = record { contexts = contexts-are.fitting; genfs = genfs-fits; rangetrans = range_trans-fits; typemap = type_rows-fits.1 };
     })
 
@@ -322,7 +326,7 @@ policy-spelled =
     Reads-part (end-spelled END_END) λ ended ended-fits.
     let policy : Parts = record { front = front; symbols = symbols; rules = rules; labels = labels } in
     Reads-done _ policy (record {
-      same = rw (front-is.same policy, symbols-are.same policy, rules-are.same policy, labels-are.same policy) (four-texts _ _ _ _);
+      same = rw (front-is.same policy, symbols-are.same policy, rules-are.same policy, labels-are.same policy) (four-texts (spell_front (tree_of policy)) (spell_symbols (tree_of policy)) (spell_rules (tree_of policy)) (spell_labels (tree_of policy)));
       fitting = tree-fits policy front-is.fitting symbols-are.fitting rules-are.fitting labels-are.fitting;
     })
 
