@@ -1,7 +1,7 @@
 -- The lists of rules by what they grant.
 use Rattle.std.proofs.Common.{◌≡◌, ℕ, List, [], ◌∷◌, ◌++◌, get_or, refl, ap, ◌∙◌}
 use Rattle.pol_file.specs.declared.Parts.{Parts}
-use Rattle.rule_ends.specs.ChosenRules.{ChosenRules}
+use Rattle.rules_between.specs.ChosenRules.{ChosenRules}
 use Rattle.dom_trans.specs.declared.grant.Grant.{Grant}
 use Rattle.dom_trans.specs.declared.grant.Grant.TheVariants.{Transition, Dyntransition, Setexec, Setcurrent, Execute, Entrypoint, Default}
 use Rattle.dom_trans.specs.Inner.RuleLists.{chosen, place_of, rule_lists, rules_of}

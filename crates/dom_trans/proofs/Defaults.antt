@@ -18,10 +18,11 @@ use Rattle.pol_read.specs.declared.RulePart.{RulePart}
 use Rattle.pol_read.specs.declared.RulePart.TheVariants.{Default}
 use Rattle.pol_read.specs.StoredRules.{StoredRule, stored_rules}
 use Rattle.rule_order.specs.ListedOrder.{AreRules, is_listed_before, ordered_by, with_number}
-use Rattle.rule_ends.specs.ChosenRules.{AreRulesFrom, any_joins, begins_at, ends_at, is_between_types, joins, passes, rule_passes, targets_from, targets_of_rules}
-use Rattle.rule_ends.specs.PlainTypes.{is_type_value}
-use Rattle.rule_ends.proofs.Anys.{any_agree, any_gives, any_from, filter_agree, or_assoc, or_false}
-use Rattle.rule_ends.proofs.ByOneEnd.{from_each, joins_by_ends}
+use Rattle.rules_between.specs.ChosenRules.{AreRulesFrom, begins_at, ends_at, targets_of_rules}
+use Rattle.pol_expand.specs.JoinedTypes.{any_joins, is_between_types, joins, passes, rule_passes, targets_from}
+use Rattle.pol_expand.specs.PlainTypes.{is_type_value}
+use Rattle.value_groups.proofs.Anys.{any_agree, any_gives, any_from, filter_agree, or_assoc, or_false}
+use Rattle.rules_between.proofs.ByOneEnd.{from_each, joins_by_ends}
 use Rattle.dom_trans.specs.Grants.{rules_that, sets_default, granting_rules, grants, default_rules, has_default, part_has_default, process, file, entrypoint}
 use Rattle.dom_trans.specs.Transitions.{is_default}
 use Rattle.dom_trans.specs.Inner.EntryPoints.{AreDefaultsFrom}

@@ -11,9 +11,10 @@ use Rattle.pol_read.specs.declared.RulePart.{RulePart}
 use Rattle.pol_read.specs.declared.RulePart.TheVariants.{Default}
 use Rattle.pol_read.specs.StoredRules.{StoredRule, stored_rules}
 use Rattle.value_groups.specs.Inner.Grouping.{group_of, is_value_at, places_of}
-use Rattle.rule_ends.specs.ChosenRules.{passes}
-use Rattle.rule_ends.proofs.Anys.{filter_agree}
-use Rattle.rule_ends.proofs.Found.{by_places, filter_map_is, groups_within}
+use Rattle.pol_expand.specs.JoinedTypes.{passes}
+use Rattle.value_groups.proofs.Anys.{filter_agree}
+use Rattle.value_groups.proofs.Filters.{by_places, filter_map_is}
+use Rattle.rules_between.proofs.Found.{groups_within}
 use Rattle.dom_trans.specs.Grants.{has_default, part_has_default}
 use Rattle.dom_trans.specs.Inner.ByDefault.{AreByDefault, default_value, found_default, part_default}
 use Rattle.dom_trans.proofs.Defaults.{not_so}

@@ -18,9 +18,9 @@ use Rattle.pol_read.specs.declared.RuleEnds.{RuleEnds}
 use Rattle.pol_read.specs.StoredRules.{StoredRule, ends_of, stored_rules}
 use Rattle.pol_read.proofs.RulesDeclared.{rule_with_ends}
 use Rattle.pol_cursor.proofs.Ranges.{filter_range_one}
-use Rattle.rule_ends.specs.declared.RulesWithEnds.{RulesWithEnds}
-use Rattle.rule_ends.specs.Inner.EndTables.{AreEndsOf}
-use Rattle.rule_ends.specs.ChosenRules.{passes, rule_passes, has_type_ends, is_between_types}
+use Rattle.rules_between.specs.declared.RulesWithEnds.{RulesWithEnds}
+use Rattle.rules_between.specs.Inner.RuleTables.{AreEndsOf}
+use Rattle.pol_expand.specs.JoinedTypes.{passes, rule_passes, has_type_ends, is_between_types}
 use Rattle.dom_trans.specs.declared.permission.Permission.{Permission}
 use Rattle.dom_trans.specs.declared.keeping.Kept.{Kept}
 use Rattle.dom_trans.specs.Grants.{rules_that, permission_named, permission_of_class, part_gives, gives, is_value, is_nameless, kind_sets_default, sets_default, process, file, transition, dyntransition, setexec, setcurrent, execute, entrypoint}

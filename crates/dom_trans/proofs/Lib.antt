@@ -1,10 +1,10 @@
 pub mod Keeps
-pub mod Entries
+pub mod FoundEntries
 pub mod Steps
 pub mod Chosen
 pub mod Ways
 pub mod Listed
-pub mod Targets
+pub mod FoundTargets
 pub mod Defaults
 pub mod Grouped
-pub mod Sources
+pub mod FoundSources

@@ -10,12 +10,12 @@ use Rattle.pol_bitmap.specs.Sets.{IsCommon, IsDifference}
 use Rattle.pol_bitmap.proofs.Elements.{contains_nothing, contains_first, contains_one}
 use Rattle.pol_expand.proofs.Values.{filter_rises}
 use Rattle.pol_file.specs.declared.Parts.{Parts}
-use Rattle.walk_enum.specs.Walks.{AreEnds}
-use Rattle.rule_ends.specs.ChosenRules.{any_joins, sources_to}
-use Rattle.rule_ends.specs.PlainTypes.{are_two_types, is_type_outside, is_type_value, types_outside}
-use Rattle.rule_ends.proofs.TypesOutside.{in_outside}
+use Rattle.walk_enum.specs.Walks.{AreSuccessors}
+use Rattle.pol_expand.specs.JoinedTypes.{any_joins, sources_to}
+use Rattle.pol_expand.specs.PlainTypes.{are_two_types, is_type_outside, is_type_value, types_outside}
+use Rattle.pol_expand.proofs.TypesOutside.{in_outside}
 use Rattle.dom_trans.specs.Transitions.{is_transition}
-use Rattle.dom_trans.specs.Inner.DomainEdges.{Domains, is_step, domain_edge}
+use Rattle.dom_trans.specs.DomainEdges.{Domains, is_step, domain_edge}
 use Rattle.dom_trans.specs.Inner.EdgesBetween.{transition_types}
 use Rattle.dom_trans.specs.Inner.Targets.{AreOpen, AreSources, AreTargets, is_open}
 use Rattle.dom_trans.proofs.Ways.{step_by_transition, step_excluded}
@@ -103,7 +103,7 @@ two_types : (domains : Domains) (a b : ℕ) → is_open domains a b ≡ true →
 two_types domains a b e = (and_parts (are_two_types domains.policy a b) (not (has_bit domains.excluded a || has_bit domains.excluded b)) e).0
 
 -- the steps from a type, and those to a type
-pub ends_from : (domains : Domains) (a : ℕ) (targets found : List ℕ) → AreTargets domains.policy a targets → AreOpen domains a targets found → AreEnds (is_step domains) a found
+pub ends_from : (domains : Domains) (a : ℕ) (targets found : List ℕ) → AreTargets domains.policy a targets → AreOpen domains a targets found → AreSuccessors (is_step domains) a found
 ends_from domains a targets found are opened = record {
   each = λ b. (
     λ there. let h = (opened.each b).0 there in open_steps domains a b h.1 ((are.each b (two_types domains a b h.1)).0 h.0),
@@ -111,7 +111,7 @@ ends_from domains a targets found are opened = record {
   );
 }
 
-pub ends_to : (domains : Domains) (b : ℕ) (sources found : List ℕ) → AreSources domains.policy b sources → AreOpen domains b sources found → AreEnds (λ node a. is_step domains a node) b found
+pub ends_to : (domains : Domains) (b : ℕ) (sources found : List ℕ) → AreSources domains.policy b sources → AreOpen domains b sources found → AreSuccessors (λ node a. is_step domains a node) b found
 ends_to domains b sources found are opened = record {
   each = λ a. (
     λ there.
@@ -129,10 +129,10 @@ unfolding sources_to
 sources_rise policy rules b = filter_rises (λ source. any_joins policy rules source b) 1 policy.symbols.types.nprim
 
 -- edges forward, and edges turned round
-pub ends_forward : {E : Type 0} (domains : Domains) (node : ℕ) (r : Result (List Node) E) → domains.reverse ≡ false → IfOk r (λ set. AreEnds (is_step domains) node (bits_of set)) → IfOk r (λ set. AreEnds (domain_edge domains) node (bits_of set))
+pub ends_forward : {E : Type 0} (domains : Domains) (node : ℕ) (r : Result (List Node) E) → domains.reverse ≡ false → IfOk r (λ set. AreSuccessors (is_step domains) node (bits_of set)) → IfOk r (λ set. AreSuccessors (domain_edge domains) node (bits_of set))
 ends_forward domains node (Ok set) e h = record { each = λ b. subst (λ (v : Bool). Contains (bits_of set) b ↔ ((if v then is_step domains b node else is_step domains node b) ≡ true)) (sym e) (h.each b) }
 ends_forward domains node (Err x) e h = tt
 
-pub ends_reverse : {E : Type 0} (domains : Domains) (node : ℕ) (r : Result (List Node) E) → domains.reverse ≡ true → IfOk r (λ set. AreEnds (λ n a. is_step domains a n) node (bits_of set)) → IfOk r (λ set. AreEnds (domain_edge domains) node (bits_of set))
+pub ends_reverse : {E : Type 0} (domains : Domains) (node : ℕ) (r : Result (List Node) E) → domains.reverse ≡ true → IfOk r (λ set. AreSuccessors (λ n a. is_step domains a n) node (bits_of set)) → IfOk r (λ set. AreSuccessors (domain_edge domains) node (bits_of set))
 ends_reverse domains node (Ok set) e h = record { each = λ b. subst (λ (v : Bool). Contains (bits_of set) b ↔ ((if v then is_step domains b node else is_step domains node b) ≡ true)) (sym e) (h.each b) }
 ends_reverse domains node (Err x) e h = tt

@@ -4,10 +4,10 @@ use Rattle.std.specs.Prelude.{◌&&◌, ◌||◌, not}
 use Rattle.std.proofs.lemmas.Bool.{and_left, and_right, false≢true, true≢false}
 use Rattle.pol_bitmap.specs.Nodes.{has_bit}
 use Rattle.pol_file.specs.declared.Parts.{Parts}
-use Rattle.rule_ends.specs.PlainTypes.{are_two_types}
+use Rattle.pol_expand.specs.PlainTypes.{are_two_types}
 use Rattle.dom_trans.specs.Grants.{grants, process, dyntransition, setcurrent}
 use Rattle.dom_trans.specs.Transitions.{is_dynamic, is_transition}
-use Rattle.dom_trans.specs.Inner.DomainEdges.{Domains, is_step}
+use Rattle.dom_trans.specs.DomainEdges.{Domains, is_step}
 
 and_true : (x y : Bool) → y ≡ true → (x && y) ≡ x
 and_true true y e = e

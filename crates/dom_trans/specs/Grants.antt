@@ -12,7 +12,7 @@ use Rattle.pol_read.specs.declared.RuleKind.TheVariants.{Allow, TypeTransition}
 use Rattle.pol_read.specs.declared.RulePart.{RulePart}
 use Rattle.pol_read.specs.declared.RulePart.TheVariants.{Perms, Default}
 use Rattle.pol_read.specs.StoredRules.{StoredRule, stored_rules}
-use Rattle.rule_ends.specs.ChosenRules.{rule_passes, any_joins}
+use Rattle.pol_expand.specs.JoinedTypes.{rule_passes, any_joins}
 use Rattle.dom_trans.specs.declared.permission.Permission.{Permission}
 
 -- ---- the rules that pass a test

@@ -1,5 +1,4 @@
 pub mod ByDefault
-pub mod DomainEdges
 pub mod EdgesBetween
 pub mod EntryPoints
 pub mod Keeping

@@ -1,4 +1,5 @@
 pub mod Grants
 pub mod Transitions
+pub mod DomainEdges
 pub mod ReasonLists
 pub mod Inner

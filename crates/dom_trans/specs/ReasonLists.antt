@@ -1,7 +1,7 @@
 -- The rules behind a transition.
 use Rattle.std.specs.Prelude.{ℕ, List, [], map, if◌then◌else◌}
 use Rattle.pol_file.specs.declared.Parts.{Parts}
-use Rattle.rule_ends.specs.ChosenRules.{rules_between}
+use Rattle.rules_between.specs.ChosenRules.{rules_between}
 use Rattle.dom_trans.specs.declared.reasons.EntryReason.{EntryReason}
 use Rattle.dom_trans.specs.declared.reasons.Reasons.{Reasons}
 use Rattle.dom_trans.specs.Grants.{granting_rules, process, file, transition, dyntransition, setexec, setcurrent, execute, entrypoint}

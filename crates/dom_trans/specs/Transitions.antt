@@ -3,8 +3,8 @@
 use Rattle.std.specs.Prelude.{ℕ, Bool, ◌&&◌, ◌||◌, List}
 use Rattle.std.specs.List.{filter, list_any, range_with_len}
 use Rattle.pol_file.specs.declared.Parts.{Parts}
-use Rattle.rule_ends.specs.ChosenRules.{rules_between}
-use Rattle.rule_ends.specs.PlainTypes.{are_two_types}
+use Rattle.rules_between.specs.ChosenRules.{rules_between}
+use Rattle.pol_expand.specs.PlainTypes.{are_two_types}
 use Rattle.dom_trans.specs.Grants.{grants, default_rules, has_default, process, file, transition, dyntransition, setexec, setcurrent, execute, entrypoint}
 
 -- the type_transition rules that make the one type the domain of a process that the other starts from an entry type

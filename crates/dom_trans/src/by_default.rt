@@ -1,3 +1,4 @@
+// The rules that set a default, by that default.
 ghost use Rattle.std.specs.Prelude.{◌≡◌, ◌≤◌, ◌<◌, ◌^◌, IfOk, if◌then◌else◌, length, map, nat_le, slice_index};
 ghost use Rattle.std.specs.List.{All, filter};
 ghost use Rattle.pol_read.specs.StoredRules.{stored_rules};
@@ -30,7 +31,7 @@ impl Drop for RulesByDefault<'_> {
 }
 
 impl<'p> Model for RulesByDefault<'p> {
-    ghost use Rattle.rule_ends.specs.ChosenRules.{ChosenRules};
+    ghost use Rattle.rules_between.specs.ChosenRules.{ChosenRules};
     ghost use Rattle.dom_trans.specs.Inner.ByDefault.{AreByDefault};
 
     ghost Value = { ChosenRules };

@@ -1,17 +1,17 @@
+// The graph of transitions.
 ghost use Rattle.std.specs.Prelude.{◌≡◌, IfOk};
 ghost use Rattle.pol_bitmap.specs.Nodes.{bits_of};
 ghost use Rattle.pol_expand.specs.PolicyMap.{IsPolicyMap};
-ghost use Rattle.walk_enum.specs.Walks.{AreEnds};
+ghost use Rattle.walk_enum.specs.Walks.{AreSuccessors};
 ghost use Rattle.dom_trans.specs.ReasonLists.{reasons_between};
-ghost use Rattle.dom_trans.specs.Inner.DomainEdges.{domain_edge, is_step};
+ghost use Rattle.dom_trans.specs.DomainEdges.{domain_edge, is_step};
 ghost use Rattle.dom_trans.specs.Inner.Targets.{AreOpen};
 
 use crate::dom_rules::DomRules;
 use crate::reasons::Reasons;
 use pol_bitmap::Set;
-use pol_expand::TypeMap;
+use pol_expand::{TypeMap, types_outside};
 use pol_read::Policy;
-use rule_ends::types_outside;
 use std::alloc::{AllocError, Global};
 use std::marker::Model;
 use std::sync::ledger::Ledger;
@@ -44,8 +44,8 @@ impl Drop for DomGraph<'_> {
 impl<'p> Model for DomGraph<'p> {
     ghost use Rattle.std.specs.Prelude.{◌≡◌};
     ghost use Rattle.pol_bitmap.specs.Nodes.{bits_of};
-    ghost use Rattle.rule_ends.specs.PlainTypes.{types_outside};
-    ghost use Rattle.dom_trans.specs.Inner.DomainEdges.{Domains};
+    ghost use Rattle.pol_expand.specs.PlainTypes.{types_outside};
+    ghost use Rattle.dom_trans.specs.DomainEdges.{Domains};
 
     ghost Value = { Domains };
 
@@ -86,7 +86,7 @@ impl<'p> DomGraph<'p> {
     /// The types that a type has an edge to: those that it has a transition to, or those that have one to it in the reverse. There are
     /// none where it is excluded.
     pub fn transitions_from(&self, alloc: Global, node: u32) -> Result<Set, AllocError>
-        ensures { IfOk result (λ set. AreEnds (domain_edge self.now) node (bits_of set)) }
+        ensures { IfOk result (λ set. AreSuccessors (domain_edge self.now) node (bits_of set)) }
     {
         if self.reverse {
             self.steps_to(alloc, node)
@@ -102,7 +102,7 @@ impl<'p> DomGraph<'p> {
         self.rules.reasons(alloc, from, to)
     }
 
-    // Those of some types between which and a type a step may be: two different types, none of them excluded.
+    // Of some types, the ones between which and a type a step may be: two different types, none of them excluded.
     fn open_among(&self, alloc: Global, a: u32, types: &Set) -> Result<Set, AllocError>
         ensures { IfOk result (λ found. AreOpen self.now a (bits_of types.now) (bits_of found)) }
     {
@@ -116,7 +116,7 @@ impl<'p> DomGraph<'p> {
 
     // The types that a type has a step to.
     fn steps_from(&self, alloc: Global, a: u32) -> Result<Set, AllocError>
-        ensures { IfOk result (λ set. AreEnds (is_step self.now) a (bits_of set)) }
+        ensures { IfOk result (λ set. AreSuccessors (is_step self.now) a (bits_of set)) }
     {
         let source = self.rules.source(alloc, a)?;
         let targets = self.rules.targets(alloc, a, &source)?;
@@ -125,7 +125,7 @@ impl<'p> DomGraph<'p> {
 
     // The types that have a step to a type.
     fn steps_to(&self, alloc: Global, b: u32) -> Result<Set, AllocError>
-        ensures { IfOk result (λ set. AreEnds (λ node a. is_step self.now a node) b (bits_of set)) }
+        ensures { IfOk result (λ set. AreSuccessors (λ node a. is_step self.now a node) b (bits_of set)) }
     {
         let sources = self.rules.sources(alloc, b)?;
         self.open_among(alloc, b, &sources)
@@ -133,7 +133,7 @@ impl<'p> DomGraph<'p> {
 }
 
 impl<'p> Graph for DomGraph<'p> {
-    ghost use Rattle.dom_trans.specs.Inner.DomainEdges.{domain_count, domain_edge};
+    ghost use Rattle.dom_trans.specs.DomainEdges.{domain_count, domain_edge};
     ghost use Rattle.dom_trans.specs.Inner.EdgesBetween.{edges_join};
 
     ghost nodes = { domain_count };

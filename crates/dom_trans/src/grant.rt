@@ -1,3 +1,4 @@
+// What rules grant, as the lists of rules are ordered.
 ghost use Rattle.std.specs.Prelude.{◌≡◌, ◌<◌};
 ghost use Rattle.dom_trans.specs.Inner.RuleLists.{place_of};
 

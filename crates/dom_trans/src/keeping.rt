@@ -3,8 +3,8 @@ ghost use Rattle.std.specs.Prelude.{◌≡◌, ◌≤◌, ◌+◌, true, Some, I
 ghost use Rattle.pol_read.specs.DeclaredRules.{IsDeclaredRule};
 ghost use Rattle.pol_read.specs.StoredRules.{stored, stored_rules};
 ghost use Rattle.pol_file.specs.declared.Parts.{Parts};
-ghost use Rattle.rule_ends.specs.ChosenRules.{has_type_ends};
-ghost use Rattle.rule_ends.specs.Inner.EndTables.{AreEndsOf};
+ghost use Rattle.pol_expand.specs.JoinedTypes.{has_type_ends};
+ghost use Rattle.rules_between.specs.Inner.RuleTables.{AreEndsOf};
 ghost use Rattle.dom_trans.specs.declared.keeping.Wanted.{Wanted};
 ghost use Rattle.dom_trans.specs.Grants.{gives, sets_default};
 ghost use Rattle.dom_trans.specs.Inner.Keeping.{wanted_in, is_asked_class, AreKept, GainsWhere, IsKept};
@@ -13,7 +13,7 @@ use crate::permission::{Permission, gives, is_value, permission_named, sets_defa
 use pol_fields::TableKind;
 use pol_read::{Policy, Rule};
 use pol_symbols::Symbols;
-use rule_ends::RulesWithEnds;
+use rules_between::RulesWithEnds;
 use std::alloc::{AllocError, Global};
 
 /// What rules are tested for: permissions, and the classes of processes and of files.

@@ -4,10 +4,13 @@
 mod by_default;
 mod dom_graph;
 mod dom_rules;
+mod entries;
 mod grant;
 mod keeping;
 mod permission;
 mod reasons;
+mod sources;
+mod targets;
 
 pub use dom_graph::DomGraph;
 pub use permission::Permission;

@@ -1,3 +1,4 @@
+// Which permission a rule gives, and which default it sets.
 ghost use Rattle.std.specs.Prelude.{◌≡◌, ◌==◌};
 ghost use Rattle.std.specs.Int.{bit_at};
 ghost use Rattle.pol_read.specs.StoredRules.{stored};

@@ -11,8 +11,8 @@ use Rattle.pol_read.specs.StoredRules.{stored_rules}
 use Rattle.walk_enum.proofs.Ascending.{ascends_from_increasing, same_numbers}
 use Rattle.walk_enum.proofs.Elements.{from_filter, in_cases, in_filter, in_first, in_rest, not_in_nothing, passes_filter}
 use Rattle.rule_order.specs.ListedOrder.{AreRules, in_rule_order, is_listed_before, ordered_by, with_number}
-use Rattle.rule_ends.specs.ChosenRules.{joins}
-use Rattle.rule_ends.specs.RulesByEnd.{AreRulesBetween, HoldRules, RulesByEnd}
+use Rattle.pol_expand.specs.JoinedTypes.{joins}
+use Rattle.rules_by_end.specs.RulesByEnd.{AreRulesBetween, HoldRules, RulesByEnd}
 use Rattle.perm_map.specs.declared.Direction.{Direction}
 use Rattle.perm_map.specs.PermissionMap.{Weights}
 use Rattle.flow_search.specs.FlowWeights.{inwards, outwards}

@@ -11,8 +11,8 @@ use Rattle.perm_map.specs.PermissionMap.{Weights}
 use Rattle.flow_search.specs.FlowWeights.{greatest}
 use Rattle.flow_search.specs.Flows.{flow_rules, flow_weight, given_by, gives_least, rule_numbers}
 use Rattle.flow_search.proofs.Giving.{from_order, to_order}
-use Rattle.rule_ends.specs.PlainTypes.{are_two_types}
-use Rattle.rule_ends.proofs.Anys.{any_from, any_gives}
+use Rattle.pol_expand.specs.PlainTypes.{are_two_types}
+use Rattle.value_groups.proofs.Anys.{any_from, any_gives}
 use Rattle.flow_search.proofs.ReachedWeights.{any_map, greatest_reaches}
 
 -- a number that is given to one of some is at most the greatest

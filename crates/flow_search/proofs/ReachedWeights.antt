@@ -14,8 +14,8 @@ use Rattle.pol_read.specs.declared.RuleKind.{RuleKind}
 use Rattle.pol_read.specs.declared.RuleKind.TheVariants.{Allow, Auditallow, Dontaudit, AllowXperm, AuditallowXperm, DontauditXperm, TypeTransition, TypeChange, TypeMember, RoleAllow, RoleTransition, RangeTransition}
 use Rattle.pol_read.specs.declared.RulePart.{RulePart}
 use Rattle.pol_read.specs.StoredRules.{StoredRule, stored_rules}
-use Rattle.rule_ends.specs.ChosenRules.{has_type_ends, is_between_types, joins, passes}
-use Rattle.rule_ends.specs.PlainTypes.{are_two_types}
+use Rattle.pol_expand.specs.JoinedTypes.{has_type_ends, is_between_types, joins, passes}
+use Rattle.pol_expand.specs.PlainTypes.{are_two_types}
 use Rattle.perm_map.specs.declared.Direction.{Direction}
 use Rattle.perm_map.specs.PermissionMap.{Weights}
 use Rattle.flow_search.specs.FlowWeights.{greatest, inwards, outwards, part_weight, rule_weight}

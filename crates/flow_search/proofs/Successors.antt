@@ -8,16 +8,16 @@ use Rattle.pol_bitmap.specs.Nodes.{bits_of, has_bit}
 use Rattle.pol_bitmap.specs.Sets.{IsCommon, IsDifference, IsUnion}
 use Rattle.pol_file.specs.declared.Parts.{Parts}
 use Rattle.pol_expand.proofs.Values.{same_tests}
-use Rattle.walk_enum.specs.Walks.{AreEnds}
+use Rattle.walk_enum.specs.Walks.{AreSuccessors}
 use Rattle.walk_enum.proofs.Elements.{from_filter, in_cases, in_filter, in_first, in_range, not_in_nothing, passes_filter, range_high}
-use Rattle.rule_ends.specs.declared.RuleEnd.{RuleEnd}
-use Rattle.rule_ends.specs.ChosenRules.{any_joins, sources_to, targets_from}
-use Rattle.rule_ends.specs.RulesByEnd.{HoldRules, RulesByEnd, other_end, others_of}
-use Rattle.rule_ends.specs.PlainTypes.{are_two_types, is_type_value, types_outside}
-use Rattle.rule_ends.proofs.TypesOutside.{in_outside, type_within}
+use Rattle.rules_by_end.specs.declared.RuleEnd.{RuleEnd}
+use Rattle.pol_expand.specs.JoinedTypes.{any_joins, sources_to, targets_from}
+use Rattle.rules_by_end.specs.RulesByEnd.{HoldRules, RulesByEnd, other_end, others_of}
+use Rattle.pol_expand.specs.PlainTypes.{are_two_types, is_type_value, types_outside}
+use Rattle.pol_expand.proofs.TypesOutside.{in_outside, type_within}
 use Rattle.perm_map.specs.PermissionMap.{Weights, weights_of}
 use Rattle.flow_search.specs.FlowWeights.{inwards, outwards}
-use Rattle.flow_search.specs.Inner.FlowEdges.{FlowSearch, flow_edge, is_flow}
+use Rattle.flow_search.specs.FlowEdges.{FlowSearch, flow_edge, is_flow}
 use Rattle.flow_search.specs.Inner.FlowParts.{AreFlowRules, AreJoined, IsOpenPart, any_edge, any_flow, first_end, is_open, is_successor, rules_reaching}
 use Rattle.flow_search.proofs.ReachedWeights.{flow_reaches}
 use Rattle.flow_search.proofs.TestOrders.{ahead_tests, back_tests}
@@ -94,15 +94,15 @@ back_is search node other some =
     ap (λ (reached : Bool). are_two_types policy other node && reached && not xo && not xn) (flow_reaches (weights_of search.entries) policy search.least other node some)
     ∙ back_tests tn to (eqb other node) xn xo flow
 
-turned : (reverse : Bool) (x y o s a b : Bool) → x ≡ (o && (s && a)) → y ≡ (o && (s && b)) → cond reverse x y ≡ (o && (s && cond reverse a b))
-turned true x y o s a b h k = h
-turned false x y o s a b h k = k
+turned_parts : (reverse : Bool) (x y o s a b : Bool) → x ≡ (o && (s && a)) → y ≡ (o && (s && b)) → cond reverse x y ≡ (o && (s && cond reverse a b))
+turned_parts true x y o s a b h k = h
+turned_parts false x y o s a b h k = k
 
 -- an edge from a node is one to a successor that some rule joins
 pub edge_is : (search : FlowSearch) (node other : ℕ) → 1 ≤ search.least → flow_edge search node other ≡ (is_open search node && (is_successor search node other && any_edge search node other))
 unfolding any_edge
 edge_is search node other some =
-    turned search.reverse (is_flow search other node) (is_flow search node other) (is_open search node) (is_successor search node other)
+    turned_parts search.reverse (is_flow search other node) (is_flow search node other) (is_open search node) (is_successor search node other)
     (any_flow (weights_of search.entries) search.policy search.least other node) (any_flow (weights_of search.entries) search.policy search.least node other)
     (back_is search node other some) (ahead_is search node other some)
 
@@ -143,7 +143,7 @@ apart_other node other h there = elim (in_cases node [] other there) [
 ]
 
 -- the joined types that may be an end are the ends of the edges, but for the node itself
-pub ends_are : (search : FlowSearch) (node : ℕ) (joined part found : List ℕ) → 1 ≤ search.least → is_open search node ≡ true → AreJoined search.policy (any_edge search node) joined → IsOpenPart search joined part → IsDifference part (node ∷ []) found → AreEnds (flow_edge search) node found
+pub ends_are : (search : FlowSearch) (node : ℕ) (joined part found : List ℕ) → 1 ≤ search.least → is_open search node ≡ true → AreJoined search.policy (any_edge search node) joined → IsOpenPart search joined part → IsDifference part (node ∷ []) found → AreSuccessors (flow_edge search) node found
 ends_are search node joined part found some may are open_joined difference = record { each = each }
   where
     each : (other : ℕ) → Contains found other ↔ (flow_edge search node other ≡ true)
@@ -162,8 +162,8 @@ ends_are search node joined part found some may are open_joined difference = rec
     )
 
 -- a node that may be no end has no edges
-pub no_ends : (search : FlowSearch) (node : ℕ) (found : List ℕ) → 1 ≤ search.least → is_open search node ≡ false → found ≡ [] → AreEnds (flow_edge search) node found
-no_ends search node found some shut is = subst (AreEnds (flow_edge search) node) (sym is) (record { each = each })
+pub no_ends : (search : FlowSearch) (node : ℕ) (found : List ℕ) → 1 ≤ search.least → is_open search node ≡ false → found ≡ [] → AreSuccessors (flow_edge search) node found
+no_ends search node found some shut is = subst (AreSuccessors (flow_edge search) node) (sym is) (record { each = each })
   where
     each : (other : ℕ) → Contains [] other ↔ (flow_edge search node other ≡ true)
     each other = (
@@ -177,12 +177,12 @@ no_ends search node found some shut is = subst (AreEnds (flow_edge search) node)
 edge_back : (search : FlowSearch) (node : ℕ) → search.reverse ≡ true → any_edge search node ≡ (λ other. any_flow (weights_of search.entries) search.policy search.least other node)
 unfolding any_edge
 edge_back search node e =
-    ap {B = ℕ → Bool} (λ (turned : Bool) (other : ℕ). cond turned (any_flow (weights_of search.entries) search.policy search.least other node) (any_flow (weights_of search.entries) search.policy search.least node other)) e
+    ap {B = ℕ → Bool} (λ (turned_parts : Bool) (other : ℕ). cond turned_parts (any_flow (weights_of search.entries) search.policy search.least other node) (any_flow (weights_of search.entries) search.policy search.least node other)) e
 
 edge_ahead : (search : FlowSearch) (node : ℕ) → search.reverse ≡ false → any_edge search node ≡ (λ other. any_flow (weights_of search.entries) search.policy search.least node other)
 unfolding any_edge
 edge_ahead search node e =
-    ap {B = ℕ → Bool} (λ (turned : Bool) (other : ℕ). cond turned (any_flow (weights_of search.entries) search.policy search.least other node) (any_flow (weights_of search.entries) search.policy search.least node other)) e
+    ap {B = ℕ → Bool} (λ (turned_parts : Bool) (other : ℕ). cond turned_parts (any_flow (weights_of search.entries) search.policy search.least other node) (any_flow (weights_of search.entries) search.policy search.least node other)) e
 
 pub rules_join : (search : FlowSearch) (node : ℕ) (out into : RulesByEnd) → AreFlowRules (weights_of search.entries) search.policy search.least search.reverse out into → (some others found : List ℕ)
     → ((rules : List ℕ) → HoldRules out rules → some ≡ others_of out.near out.policy rules node) → ((rules : List ℕ) → HoldRules into rules → others ≡ others_of into.near into.policy rules node) → IsUnion some others found → AreJoined search.policy (any_edge search node) found

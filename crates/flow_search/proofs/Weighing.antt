@@ -22,7 +22,7 @@ use Rattle.perm_map.specs.declared.Direction.{Direction}
 use Rattle.perm_map.specs.PermissionMap.{Entry, Weights, weights_of}
 use Rattle.flow_search.specs.declared.class_weights.PermissionWeight.{PermissionWeight}
 use Rattle.flow_search.specs.FlowWeights.{class_of, greatest, inwards, mask_weight, outwards, permission_weight, rule_weight}
-use Rattle.rule_ends.specs.ChosenRules.{joins}
+use Rattle.pol_expand.specs.JoinedTypes.{joins}
 use Rattle.flow_search.specs.Flows.{given_by, weight_found, weight_of_rule}
 use Rattle.flow_search.specs.Inner.FlowParts.{reaches}
 use Rattle.flow_search.specs.declared.reach_bits.ReachBits.{ReachBits}

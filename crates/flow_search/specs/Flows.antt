@@ -4,8 +4,8 @@ use Rattle.std.specs.List.{filter, range_with_len}
 use Rattle.pol_file.specs.declared.Parts.{Parts}
 use Rattle.pol_read.specs.StoredRules.{StoredRule, stored_rules}
 use Rattle.rule_order.specs.ListedOrder.{in_rule_order}
-use Rattle.rule_ends.specs.ChosenRules.{joins}
-use Rattle.rule_ends.specs.PlainTypes.{are_two_types}
+use Rattle.pol_expand.specs.JoinedTypes.{joins}
+use Rattle.pol_expand.specs.PlainTypes.{are_two_types}
 use Rattle.perm_map.specs.declared.Direction.{Direction}
 use Rattle.perm_map.specs.PermissionMap.{Weights}
 use Rattle.flow_search.specs.FlowWeights.{greatest, inwards, outwards, rule_weight}

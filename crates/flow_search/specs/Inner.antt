@@ -1,4 +1,3 @@
 pub mod EdgesBetween
-pub mod FlowEdges
 pub mod FlowParts
 pub mod WeightTables

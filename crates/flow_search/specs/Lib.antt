@@ -1,3 +1,4 @@
 pub mod FlowWeights
 pub mod Flows
+pub mod FlowEdges
 pub mod Inner

@@ -94,7 +94,7 @@ fn outwards(weight: Option<(Direction, u8)>) -> u8
     }
 }
 
-// The same from the target to the source.
+// The weight of what a permission is mapped as, from the target of a rule to its source.
 fn inwards(weight: Option<(Direction, u8)>) -> u8
     ensures { result ≡ mapped inwards weight }
 {

@@ -1,12 +1,13 @@
+// The graph of flows.
 ghost use Rattle.std.specs.Prelude.{◌≡◌, ◌≤◌, ◌++◌, true, IfOk};
 ghost use Rattle.std.specs.List.{filter};
 ghost use Rattle.pol_bitmap.specs.Nodes.{bits_of};
 ghost use Rattle.pol_expand.specs.PolicyMap.{IsPolicyMap};
 ghost use Rattle.perm_map.specs.PermissionMap.{weights_of};
 ghost use Rattle.rule_order.specs.ListedOrder.{AreRules, in_rule_order};
-ghost use Rattle.walk_enum.specs.Walks.{AreEnds};
+ghost use Rattle.walk_enum.specs.Walks.{AreSuccessors};
 ghost use Rattle.flow_search.specs.Flows.{flow_rules, flow_weight, gives_least, rule_numbers};
-ghost use Rattle.flow_search.specs.Inner.FlowEdges.{flow_edge};
+ghost use Rattle.flow_search.specs.FlowEdges.{flow_edge};
 ghost use Rattle.flow_search.specs.Inner.FlowParts.{any_edge, first_end, is_open, AreDistinct, AreJoined, IsOpenPart};
 
 use crate::node_sets::{either, without};
@@ -14,10 +15,10 @@ use crate::reaching::{Reaching, rules_reaching};
 use crate::weigher::Weigher;
 use perm_map::PermMap;
 use pol_bitmap::Set;
-use pol_expand::TypeMap;
+use pol_expand::{TypeMap, are_two_types, types_outside};
 use pol_read::Policy;
-use rule_ends::{RuleEnd, RulesByEnd, are_two_types, types_outside};
 use rule_order::sort_by_rule_order;
+use rules_by_end::{RuleEnd, RulesByEnd};
 use std::alloc::{AllocError, Global};
 use std::marker::Model;
 use std::sync::ledger::Ledger;
@@ -33,7 +34,7 @@ pub struct FlowGraph<'p> {
     least: u8,
     // The rules that flow from the source to the target at least the weight.
     out: RulesByEnd<'p>,
-    // Those that flow from the target to the source.
+    // The rules that flow from the target to the source at least the weight.
     into: RulesByEnd<'p>,
     excluded: Set,
     // The types that may be an end of an edge.
@@ -59,9 +60,9 @@ impl Drop for FlowGraph<'_> {
 impl<'p> Model for FlowGraph<'p> {
     ghost use Rattle.std.specs.Prelude.{◌≡◌, ◌≤◌};
     ghost use Rattle.pol_bitmap.specs.Nodes.{bits_of};
-    ghost use Rattle.rule_ends.specs.PlainTypes.{types_outside};
+    ghost use Rattle.pol_expand.specs.PlainTypes.{types_outside};
     ghost use Rattle.perm_map.specs.PermissionMap.{weights_of};
-    ghost use Rattle.flow_search.specs.Inner.FlowEdges.{FlowSearch};
+    ghost use Rattle.flow_search.specs.FlowEdges.{FlowSearch};
     ghost use Rattle.flow_search.specs.Inner.FlowParts.{AreFlowRules};
 
     ghost Value = { FlowSearch };
@@ -172,7 +173,7 @@ impl<'p> FlowGraph<'p> {
         self.open_types.has(node)
     }
 
-    // Those of some types that may be an end.
+    // Of some types, the ones that may be an end.
     fn open_among(&self, alloc: Global, types: &Set) -> Result<Set, AllocError>
         ensures { IfOk result (λ set. IsOpenPart self.now (bits_of types.now) (bits_of set)) }
     {
@@ -183,7 +184,7 @@ impl<'p> FlowGraph<'p> {
     fn successors(&self, alloc: Global, node: u32) -> Result<Set, AllocError>
         requires may { is_open self.now node ≡ true }
         requires least { 1 ≤ self.now.least }
-        ensures { IfOk result (λ set. AreEnds (flow_edge self.now) node (bits_of set)) }
+        ensures { IfOk result (λ set. AreSuccessors (flow_edge self.now) node (bits_of set)) }
     {
         let joined = self.joined(alloc, node)?;
         let found = self.open_among(alloc, &joined)?;
@@ -192,7 +193,7 @@ impl<'p> FlowGraph<'p> {
 
     /// The types that a type has an edge to. There are none where it is excluded.
     pub fn flows_from(&self, alloc: Global, node: u32) -> Result<Set, AllocError>
-        ensures { IfOk result (λ set. AreEnds (flow_edge self.now) node (bits_of set)) }
+        ensures { IfOk result (λ set. AreSuccessors (flow_edge self.now) node (bits_of set)) }
     {
         if self.is_open(node) {
             self.successors(alloc, node)
@@ -233,7 +234,7 @@ fn make_distinct(numbers: &mut Vec<u32>)
 }
 
 impl<'p> Graph for FlowGraph<'p> {
-    ghost use Rattle.flow_search.specs.Inner.FlowEdges.{flow_count, flow_edge};
+    ghost use Rattle.flow_search.specs.FlowEdges.{flow_count, flow_edge};
     ghost use Rattle.flow_search.specs.Inner.EdgesBetween.{edges_join};
 
     ghost nodes = { flow_count };

@@ -1,3 +1,4 @@
+// Whether a rule flows at least a weight.
 ghost use Rattle.std.specs.Prelude.{◌≡◌, ◌≤◌, IfOk, nat_le};
 ghost use Rattle.pol_read.specs.declared.RuleKind.TheVariants.{Allow};
 ghost use Rattle.pol_read.specs.StoredRules.{stored};

@@ -1,3 +1,4 @@
+// The weights of rules and of flows.
 ghost use Rattle.std.specs.Prelude.{◌≡◌, ◌≤◌, ◌<◌, [], IfOk, length, max, slice_index_or, if◌then◌else◌};
 ghost use Rattle.pol_read.specs.declared.RuleKind.TheVariants.{Allow};
 ghost use Rattle.pol_read.specs.StoredRules.{stored, stored_rules};
@@ -9,10 +10,10 @@ ghost use Rattle.flow_search.specs.Inner.WeightTables.{AreBitsOf, AreWeights, Ha
 use crate::class_weights::{ClassWeights, RuleWeights};
 use crate::reach_bits::ReachBits;
 use perm_map::PermMap;
+use pol_expand::{are_two_types, is_rule_from_to};
 use pol_fields::TableKind;
 use pol_read::{Policy, Rule, RuleKind, RulePart};
 use pol_symbols::Symbols;
-use rule_ends::{are_two_types, is_rule_from_to};
 use std::alloc::{AllocError, Global};
 use std::marker::Model;
 
@@ -107,7 +108,7 @@ impl<'p> Weigher<'p> {
     }
 
     // What the rule of that number gives to the flow from a type to another.
-    #[tactic(auto, unfolding(crate::specs::Flows::given_by, crate::specs::Flows::weight_of_rule, rule_ends::specs::ChosenRules::joins))]
+    #[tactic(auto, unfolding(crate::specs::Flows::given_by, crate::specs::Flows::weight_of_rule, pol_expand::specs::JoinedTypes::joins))]
     fn given(&self, from: u32, to: u32, number: u32) -> u8
         requires { number < length (stored_rules self.now.policy) }
         ensures { result ≡ given_by (weights_of self.now.entries) self.now.policy from to number }

@@ -1,3 +1,4 @@
+// The permission map.
 ghost use Rattle.std.specs.Prelude.{◌≡◌, ◌≤◌, [], length, OnOk};
 ghost use Rattle.perm_map.specs.PermissionMap.{IsMap, entry_of, map_of, weights_of};
 ghost use Rattle.perm_map.specs.Inner.MapReading.{with_entry};

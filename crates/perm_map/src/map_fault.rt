@@ -1,3 +1,4 @@
+// Why a permission map is refused.
 ghost use Rattle.std.specs.Prelude.{◌≡◌};
 
 use std::alloc::{AllocError, AllocFailed};

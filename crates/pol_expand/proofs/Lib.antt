@@ -4,3 +4,6 @@ pub mod Listing
 pub mod Touching
 pub mod Remembering
 pub mod PolicyMaps
+pub mod TypesOutside
+pub mod Holders
+pub mod DeclaredEnds

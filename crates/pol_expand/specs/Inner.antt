@@ -1,1 +1,2 @@
 pub mod Inverting
+pub mod StoredEnds

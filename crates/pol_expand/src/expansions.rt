@@ -1,3 +1,4 @@
+// What values expand to, with numbers for the sets that were asked for.
 ghost use Rattle.std.specs.Prelude.{◌≡◌, ◌≤◌, ◌<◌, ◌+◌, ℕ, [], None, IfOk, OnErr, length, take, slice_index_or};
 ghost use Rattle.pol_bitmap.specs.Nodes.{bits_of};
 ghost use Rattle.pol_bitmap.specs.Sets.{IsSet, ShareBit};

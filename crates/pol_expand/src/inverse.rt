@@ -1,3 +1,4 @@
+// The map of types to attributes, turned round.
 ghost use Rattle.std.specs.Prelude.{◌≡◌, ◌≤◌, ◌<◌, ◌+◌, ◌-◌, [], IfOk, length};
 ghost use Rattle.std.specs.List.{filter};
 ghost use Rattle.pol_bitmap.specs.Nodes.{bits_of};

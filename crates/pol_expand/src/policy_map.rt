@@ -1,3 +1,4 @@
+// The map of a policy.
 ghost use Rattle.std.specs.Prelude.{◌≡◌, ◌≤◌, IfOk, length};
 ghost use Rattle.pol_bitmap.specs.Nodes.{bits_of};
 ghost use Rattle.pol_expand.specs.PolicyMap.{IsPolicyMap, HasNoSets, rows_of, values_of_flavour};

@@ -1,3 +1,4 @@
+// The types of an attribute while they are gathered.
 ghost use Rattle.std.specs.Prelude.{◌≡◌, ◌<◌, ◌++◌, ◌%◌, [], All, IfOk, OnOk};
 ghost use Rattle.pol_bitmap.specs.Nodes.{bits_of, node_bits};
 

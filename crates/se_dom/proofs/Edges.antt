@@ -5,7 +5,7 @@ use Rattle.std.specs.Prelude.{if◌then◌else◌}
 use Rattle.pol_bitmap.specs.declared.Node.{Node}
 use Rattle.pol_bitmap.specs.Nodes.{has_bit}
 use Rattle.pol_file.specs.declared.Parts.{Parts}
-use Rattle.dom_trans.specs.Inner.DomainEdges.{Domains, domain_edge, is_step}
+use Rattle.dom_trans.specs.DomainEdges.{Domains, domain_edge, is_step}
 use Rattle.se_words.specs.DomRequest.{DomAsks}
 use Rattle.se_walks.specs.GraphItems.{items_between}
 use Rattle.se_walks.specs.TypeNames.{is_excluded}

@@ -7,7 +7,8 @@ use Rattle.pol_file.specs.declared.Parts.{Parts}
 use Rattle.pol_read.specs.StoredRules.{StoredRule, stored_rules}
 use Rattle.rule_order.specs.ListedOrder.{AreRules}
 use Rattle.rule_order.proofs.OrderedRules.{all-rules, ordered-rules}
-use Rattle.rule_ends.specs.ChosenRules.{joins, rule_passes, rules_between}
+use Rattle.pol_expand.specs.JoinedTypes.{joins, rule_passes}
+use Rattle.rules_between.specs.ChosenRules.{rules_between}
 use Rattle.dom_trans.specs.Grants.{default_rules, gives, granting_rules, has_default, permission_named, rules_that, process, file, transition, dyntransition, setexec, setcurrent, execute, entrypoint}
 use Rattle.dom_trans.specs.ReasonLists.{entry_reason, grants_between, reasons_between}
 use Rattle.dom_trans.specs.Transitions.{defaults_between, entries, is_dynamic, is_standard}

@@ -1,7 +1,7 @@
 // The answer of sedta about a policy.
 ghost use Rattle.std.specs.Prelude.{◌≡◌};
 ghost use Rattle.std.specs.List.{concat};
-ghost use Rattle.dom_trans.specs.Inner.DomainEdges.{domain_edge};
+ghost use Rattle.dom_trans.specs.DomainEdges.{domain_edge};
 ghost use Rattle.pol_bitmap.specs.Nodes.{has_bit};
 ghost use Rattle.pol_expand.specs.PolicyMap.{IsPolicyMap};
 ghost use Rattle.se_items.specs.Paging.{page};

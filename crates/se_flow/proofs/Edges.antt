@@ -7,9 +7,9 @@ use Rattle.pol_bitmap.specs.declared.Node.{Node}
 use Rattle.pol_bitmap.specs.Nodes.{has_bit}
 use Rattle.pol_file.specs.declared.Parts.{Parts}
 use Rattle.perm_map.specs.PermissionMap.{Entry, Weights, weights_of}
-use Rattle.rule_ends.specs.PlainTypes.{are_two_types}
+use Rattle.pol_expand.specs.PlainTypes.{are_two_types}
 use Rattle.flow_search.specs.Flows.{flow_weight}
-use Rattle.flow_search.specs.Inner.FlowEdges.{FlowSearch, flow_edge, is_flow}
+use Rattle.flow_search.specs.FlowEdges.{FlowSearch, flow_edge, is_flow}
 use Rattle.se_words.specs.FlowRequest.{FlowAsks}
 use Rattle.se_walks.specs.GraphItems.{items_between}
 use Rattle.se_walks.specs.TypeNames.{is_excluded}

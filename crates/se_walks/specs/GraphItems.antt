@@ -1,14 +1,14 @@
 -- What is listed of a graph of types: the edges of a source, or all shortest walks from it to a target.
 use Rattle.std.specs.Prelude.{ℕ, ◌≤◌, Bool, ◌||◌, List, [], Option, Some, None, IfSome, if◌then◌else◌}
 use Rattle.pol_file.specs.declared.Parts.{Parts}
-use Rattle.walk_enum.specs.Walks.{ends_of, least_walks}
+use Rattle.walk_enum.specs.Walks.{successors_of, least_walks}
 use Rattle.se_walks.specs.Numbered.{numbered}
 use Rattle.se_walks.specs.WalkTexts.{EdgeWords, end_item, walk_item}
 use Rattle.se_walks.specs.declared.graph_items.Ends.{Ends}
 
 -- the edges out of a type, or into it in the reverse, where the graph is turned round
 unfoldable pub edge_items : EdgeWords → (ℕ → ℕ → Bool) → Parts → Bool → ℕ → List (List ℕ)
-edge_items words edge policy reverse source = numbered (end_item words source reverse) 1 (ends_of edge policy.symbols.types.nprim source)
+edge_items words edge policy reverse source = numbered (end_item words source reverse) 1 (successors_of edge policy.symbols.types.nprim source)
 
 -- all shortest walks from a type to a type, none of which may be excluded
 unfoldable pub walk_items : EdgeWords → (ℕ → ℕ → Bool) → Parts → (ℕ → Bool) → ℕ → ℕ → List (List ℕ)

@@ -6,7 +6,7 @@ use Rattle.pol_fields.specs.declared.TableKind.TheVariants.{Types}
 use Rattle.pol_file.specs.declared.Parts.{Parts}
 use Rattle.pol_symbols.specs.PolicySymbols.{value_in}
 use Rattle.pol_symbols.specs.declared.Symbols.{Symbols}
-use Rattle.rule_ends.specs.PlainTypes.{is_type_value}
+use Rattle.pol_expand.specs.PlainTypes.{is_type_value}
 use Rattle.named_values.specs.Named.{is_named}
 use Rattle.se_options.specs.Options.{Named}
 use Rattle.se_status.specs.Meeting.{least}

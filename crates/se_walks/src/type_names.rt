@@ -11,10 +11,10 @@ ghost use Rattle.se_walks.specs.TypeNames.{ends_named, first_unknown, is_exclude
 use crate::Ends;
 use named_values::values_named;
 use pol_bitmap::Set;
+use pol_expand::is_type;
 use pol_fields::TableKind;
 use pol_read::Policy;
 use pol_symbols::Symbols;
-use rule_ends::is_type;
 use se_options::Named;
 use std::alloc::{AllocError, Global};
 
@@ -72,7 +72,7 @@ fn target_named(policy: &Policy<'_>, target: &Option<Named<'_>>) -> Option<Optio
 }
 
 // The value, if it is that of a type, and of no attribute.
-#[tactic(auto, using(rule_ends::proofs::TypesOutside::type_within))]
+#[tactic(auto, using(pol_expand::proofs::TypesOutside::type_within))]
 fn plain_value(policy: &Policy<'_>, value: u32) -> Option<u32>
     ensures value { result ≡ plain_value policy.now (Some value) }
     ensures low { IfSome result (λ value. 1 ≤ value) }

@@ -4,7 +4,7 @@ ghost use Rattle.std.specs.List.{concat};
 ghost use Rattle.pol_bitmap.specs.Nodes.{bits_of};
 ghost use Rattle.se_items.specs.Paging.{page};
 ghost use Rattle.se_items.specs.Writing.{Sends};
-ghost use Rattle.walk_enum.specs.Walks.{ends_of, least_walks};
+ghost use Rattle.walk_enum.specs.Walks.{successors_of, least_walks};
 ghost use Rattle.se_walks.specs.Numbered.{numbered};
 ghost use Rattle.se_walks.specs.WalkTexts.{end_item, walk_item};
 
@@ -39,9 +39,9 @@ pub fn write_edges<G: Graph, T: EdgeTexts, S: Sink>(
     requires low { 1 ≤ node }
     requires high { node ≤ G.nodes graph.now }
     ensures { Sends (S.written out.old) (S.written out.new) (S.faults out.old) (S.faults out.new)
-        (concat (page window.from window.limit (numbered (end_item (T.words texts.now) node reverse) 1 (ends_of (G.edge graph.now) (G.nodes graph.now) node)))) result }
+        (concat (page window.from window.limit (numbered (end_item (T.words texts.now) node reverse) 1 (successors_of (G.edge graph.now) (G.nodes graph.now) node)))) result }
 {
-    let ends = ends_of(alloc, graph, node)?;
+    let ends = successors_of(alloc, graph, node)?;
     let mut items = EdgeItems {
         texts,
         node,
@@ -53,10 +53,10 @@ pub fn write_edges<G: Graph, T: EdgeTexts, S: Sink>(
 }
 
 // The nodes that a node has an edge to, rising.
-fn ends_of<G: Graph>(alloc: Global, graph: &G, node: u32) -> Result<Vec<u32>, AllocError>
+fn successors_of<G: Graph>(alloc: Global, graph: &G, node: u32) -> Result<Vec<u32>, AllocError>
     requires low { 1 ≤ node }
     requires high { node ≤ G.nodes graph.now }
-    ensures { IfOk result (λ ends. ends.items ≡ ends_of (G.edge graph.now) (G.nodes graph.now) node) }
+    ensures { IfOk result (λ ends. ends.items ≡ successors_of (G.edge graph.now) (G.nodes graph.now) node) }
 {
     counted_ends::<G, Brand>(alloc, graph, node, Blank::new(1))
 }
@@ -73,7 +73,7 @@ fn counted_ends<G: Graph, L: Ledger>(
     requires name { blank.name ≡ L.name }
     requires parts { blank.parts ≡ L.parts }
     requires some { 0 < blank.parts }
-    ensures { IfOk result (λ ends. ends.items ≡ ends_of (G.edge graph.now) (G.nodes graph.now) node) }
+    ensures { IfOk result (λ ends. ends.items ≡ successors_of (G.edge graph.now) (G.nodes graph.now) node) }
 {
     let mut steps = Steps::<L>::new(blank);
     let set = graph.succ(alloc, node, &mut steps)?;

@@ -1,3 +1,4 @@
+// Values with a bit for each.
 ghost use Rattle.std.specs.Prelude.{◌≡◌, ◌<◌, ◌≤◌, ◌+◌, ◌*◌, ◌||◌, ◌==◌, ℕ, [], IfOk, length, replicate};
 ghost use Rattle.std.specs.List.{All};
 ghost use Rattle.pol_bitmap.specs.Nodes.{bits_of, has_bit};

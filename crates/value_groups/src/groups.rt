@@ -1,3 +1,4 @@
+// The places of a list, grouped by value.
 ghost use Rattle.std.specs.Prelude.{◌≡◌, ◌<◌, ◌≤◌, ◌^◌, IfOk, length};
 ghost use Rattle.std.specs.List.{All};
 ghost use Rattle.value_groups.specs.Inner.Grouping.{group_of, AreGroupsOf};

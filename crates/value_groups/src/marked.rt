@@ -1,3 +1,4 @@
+// Values with a mark for each, in the order in which they came.
 ghost use Rattle.std.specs.Prelude.{◌≡◌, ◌<◌, ◌≤◌, [], IfOk, OnOk, OnErr};
 ghost use Rattle.std.specs.List.{All};
 ghost use Rattle.value_groups.specs.Among.{is_among};

@@ -3,7 +3,7 @@ use Rattle.std.proofs.Common.{◌≡◌, inl, inr, ℕ, ◌-◌, ◌^◌, ◌<�
 use Rattle.std.specs.Prelude.{slice_index}
 use Rattle.std.specs.List.{All, Contains, range_with_len}
 use Rattle.std.proofs.lemmas.List.Elements.{All-weaker, All-contains_itself, All-from_get_or}
-use Rattle.walk_enum.specs.Walks.{ends_of, walks_along, walks, least_walks, Goes}
+use Rattle.walk_enum.specs.Walks.{successors_of, walks_along, walks, least_walks, Goes}
 use Rattle.walk_enum.specs.Inner.Turns.{row_of, AreLayers}
 use Rattle.walk_enum.specs.Inner.Exploring.{Explores, IsAtEnd}
 use Rattle.walk_enum.specs.Inner.Cutting.{is_none, IsCut, Cuts}
@@ -13,16 +13,16 @@ use Rattle.walk_enum.proofs.Exploring.{least, depth_small}
 use Rattle.walk_enum.proofs.Cuts.{walks_same, rows_lead, rows_increase}
 
 module _ (edge : ℕ → ℕ → Bool) (nodes from to : ℕ) (depths queue : List ℕ) (rows : List (List ℕ))
-    (e : Explores (ends_of edge nodes) nodes from to depths queue rows (length rows)) where
+    (e : Explores (successors_of edge nodes) nodes from to depths queue rows (length rows)) where
   pub queue_fits : All (λ b. b < length depths) queue
   queue_fits = All-weaker (Contains queue) (λ (b : ℕ). b < length depths) (λ b has. omega (arith, (e.range b has).1, e.size)) queue (All-contains_itself queue)
 
   pub depths_few : nodes < 2 ^ 32 → All (λ d. d < 2 ^ 32) depths
-  depths_few few = All-from_get_or (λ (d : ℕ). d < 2 ^ 32) depths 0 (λ i lt. omega (arith, few, depth_small (ends_of edge nodes) nodes from to depths queue rows (length rows) e i))
+  depths_few few = All-from_get_or (λ (d : ℕ). d < 2 ^ 32) depths 0 (λ i lt. omega (arith, few, depth_small (successors_of edge nodes) nodes from to depths queue rows (length rows) e i))
 
   module _ (end : IsAtEnd depths queue (length rows) to) where
     abbrev next : ℕ → List ℕ
-    next = ends_of edge nodes
+    next = successors_of edge nodes
 
     pub answer_none : slice_index depths to ≡ 0 → least_walks edge nodes from to ≡ []
     answer_none none = first_none (walks edge nodes from to) 0 nodes (λ j. no_walks next from to j (λ g. absurd (omega (arith, none, (least next nodes from to depths queue rows (length rows) e end j to (inl none) g).0))))

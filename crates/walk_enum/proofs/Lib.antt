@@ -9,3 +9,4 @@ pub mod Exploring
 pub mod Cuts
 pub mod Gathering
 pub mod Finding
+pub mod TurnedEdges

@@ -5,8 +5,8 @@ use Rattle.std.specs.List.Sorted.{IsStrictlyIncreasing, IsNonDecreasing}
 use Rattle.std.proofs.lemmas.Bool.{cases_order}
 use Rattle.std.proofs.lemmas.List.{take-append-drop, drop_all, get_or_default}
 use Rattle.std.proofs.lemmas.List.Elements.{All-weaker, All-contains_itself}
-use Rattle.walk_enum.specs.Walks.{ends_of, AreEnds}
-use Rattle.walk_enum.specs.Inner.Turns.{Follows, Ends}
+use Rattle.walk_enum.specs.Walks.{successors_of, AreSuccessors}
+use Rattle.walk_enum.specs.Inner.Turns.{Follows, IsLast}
 use Rattle.walk_enum.proofs.Elements.{in_filter, from_filter, in_range, range_high, passes_filter}
 use Rattle.walk_enum.proofs.Ascending.{Ascends, increasing_at, same_numbers, ascends_filter, ascends_range}
 
@@ -40,7 +40,7 @@ follows_after row x p up has within low high =
     }
 
 pub ends_after : (row : List ℕ) (x p : ℕ) → IsStrictlyIncreasing row → Contains row x → p ≡ length row → ((k : ℕ) → k < p → get_or row k 0 ≤ x) → ((k : ℕ) → p ≤ k → k < length row → x < get_or row k 0)
-    → Ends row x
+    → IsLast row x
 ends_after row x p up has whole low high =
     let r = place_after row x p up has (omega (arith, whole)) low high in
     let q = r.0 in
@@ -65,15 +65,15 @@ increasing_not_falling row up i j d le lt = elim (cases_order i j) [
 
 -- ---- the nodes that a node has an edge to
 
-pub ends_are : (edge : ℕ → ℕ → Bool) (nodes a : ℕ) (found : List ℕ) → Ascends ◌<◌ found → AreEnds edge a found → ((b : ℕ) → edge a b ≡ true → (1 ≤ b) × (b ≤ nodes)) → found ≡ ends_of edge nodes a
+pub ends_are : (edge : ℕ → ℕ → Bool) (nodes a : ℕ) (found : List ℕ) → Ascends ◌<◌ found → AreSuccessors edge a found → ((b : ℕ) → edge a b ≡ true → (1 ≤ b) × (b ≤ nodes)) → found ≡ successors_of edge nodes a
 ends_are edge nodes a found up are between =
-    same_numbers found (ends_of edge nodes a) up (ascends_filter (edge a) (range_with_len 1 nodes) (ascends_range 1 nodes))
+    same_numbers found (successors_of edge nodes a) up (ascends_filter (edge a) (range_with_len 1 nodes) (ascends_range 1 nodes))
     (λ b has. let e = (are.each b).0 has in let r = between b e in in_filter (edge a) (range_with_len 1 nodes) b e (in_range nodes b r.0 r.1))
     (λ b has. (are.each b).1 (passes_filter (edge a) (range_with_len 1 nodes) b has))
 
-pub ends_fit : (edge : ℕ → ℕ → Bool) (nodes a n : ℕ) → n ≡ nodes + 1 → All (λ b. b < n) (ends_of edge nodes a)
+pub ends_fit : (edge : ℕ → ℕ → Bool) (nodes a n : ℕ) → n ≡ nodes + 1 → All (λ b. b < n) (successors_of edge nodes a)
 ends_fit edge nodes a n is =
-    All-weaker (Contains (ends_of edge nodes a)) (λ (b : ℕ). b < n) (λ b has. omega (arith, is, (range_high 1 nodes b (from_filter (edge a) (range_with_len 1 nodes) b has)).1)) (ends_of edge nodes a) (All-contains_itself (ends_of edge nodes a))
+    All-weaker (Contains (successors_of edge nodes a)) (λ (b : ℕ). b < n) (λ b has. omega (arith, is, (range_high 1 nodes b (from_filter (edge a) (range_with_len 1 nodes) b has)).1)) (successors_of edge nodes a) (All-contains_itself (successors_of edge nodes a))
 
-pub ends_fit_at : (edge : ℕ → ℕ → Bool) (nodes a b : ℕ) → Contains (ends_of edge nodes a) b → (1 ≤ b) × (b ≤ nodes)
+pub ends_fit_at : (edge : ℕ → ℕ → Bool) (nodes a b : ℕ) → Contains (successors_of edge nodes a) b → (1 ≤ b) × (b ≤ nodes)
 ends_fit_at edge nodes a b has = let r = range_high 1 nodes b (from_filter (edge a) (range_with_len 1 nodes) b has) in (r.0, omega (arith, r.1))

@@ -10,7 +10,7 @@ use Rattle.std.proofs.lemmas.Option.{slice_get-get_or}
 use Rattle.std.proofs.Math.Seq.{get_or-append_seam}
 use Rattle.walk_enum.specs.Walks.{walks_along}
 use Rattle.walk_enum.specs.Moving.{Moves}
-use Rattle.walk_enum.specs.Inner.Turns.{Follows, Ends, Leads, IsTurn, first_along}
+use Rattle.walk_enum.specs.Inner.Turns.{Follows, IsLast, Leads, IsTurn, first_along}
 use Rattle.walk_enum.proofs.Elements.{not_in_nothing, in_cases, in_first, in_rest}
 use Rattle.walk_enum.proofs.Ascending.{Ascends, Before, one_place}
 use Rattle.walk_enum.proofs.Along.{by_step, walk_parts, alone, starts, walk_length, walk_alone}
@@ -50,7 +50,7 @@ first_walk_is next a b k h = let f = begins next a b k h in ap (λ (ws : List (L
 abbrev flat : (ℕ → List ℕ) → ℕ → ℕ → ℕ → List ℕ → List (List ℕ)
 flat next a b k row = flat_map (by_step next a b k) row
 
-pub ends_step : (next : ℕ → List ℕ) (a b c k : ℕ) (v : List ℕ) → Ends (next a) c → Ends (walks_along next c b k) v → Ends (walks_along next a b (suc k)) (a ∷ v)
+pub ends_step : (next : ℕ → List ℕ) (a b c k : ℕ) (v : List ℕ) → IsLast (next a) c → IsLast (walks_along next c b k) v → IsLast (walks_along next a b (suc k)) (a ∷ v)
 ends_step next a b c k v row walks = record {
   front = flat next a b k row.front ++ map (λ w. a ∷ w) walks.front;
   is = ap (flat next a b k) row.is ∙ flat_map-append (by_step next a b k) row.front (c ∷ [])
@@ -74,7 +74,7 @@ follows_step next a b c k v w has walks =
           ∙ sym (append_assoc pre f ((a ∷ v) ∷ (a ∷ w) ∷ (g ++ post)));
     }
 
-pub follows_turn : (next : ℕ → List ℕ) (a b c d k : ℕ) (v w : List ℕ) → Follows (next a) c d → Ends (walks_along next c b k) v → (back : List (List ℕ)) × (walks_along next d b k ≡ w ∷ back)
+pub follows_turn : (next : ℕ → List ℕ) (a b c d k : ℕ) (v w : List ℕ) → Follows (next a) c d → IsLast (walks_along next c b k) v → (back : List (List ℕ)) × (walks_along next d b k ≡ w ∷ back)
     → Follows (walks_along next a b (suc k)) (a ∷ v) (a ∷ w)
 follows_turn next a b c d k v w row walks (back, starts) =
     let pre = flat next a b k row.front in
@@ -103,13 +103,13 @@ step_at next a b (suc k) (suc i) w h lt =
     let p = walk_parts next a b k w h in
     subst (λ (u : List ℕ). Contains (next (slice_index u (suc i))) (slice_index u (suc (suc i)))) p.4 (step_at next p.0 b k i p.1 p.3 (omega (arith, lt)))
 
-pub ends_at : (next : ℕ → List ℕ) (a b k : ℕ) (w : List ℕ) → Contains (walks_along next a b k) w → Ends (walks_along next (slice_index w k) b 0) (drop k w)
+pub ends_at : (next : ℕ → List ℕ) (a b k : ℕ) (w : List ℕ) → Contains (walks_along next a b k) w → IsLast (walks_along next (slice_index w k) b 0) (drop k w)
 ends_at next a b zero w h =
     let p = alone next a b w h in
-    subst (λ (u : List ℕ). Ends (walks_along next (slice_index u 0) b 0) u) p.1 (record { front = []; is = walk_alone next a b p.0 })
+    subst (λ (u : List ℕ). IsLast (walks_along next (slice_index u 0) b 0) u) p.1 (record { front = []; is = walk_alone next a b p.0 })
 ends_at next a b (suc k) w h =
     let p = walk_parts next a b k w h in
-    subst (λ (u : List ℕ). Ends (walks_along next (slice_index u (suc k)) b 0) (drop (suc k) u)) p.4 (ends_at next p.0 b k p.1 p.3)
+    subst (λ (u : List ℕ). IsLast (walks_along next (slice_index u (suc k)) b 0) (drop (suc k) u)) p.4 (ends_at next p.0 b k p.1 p.3)
 
 pub leads_at : (next : ℕ → List ℕ) (a b i j k : ℕ) (w : List ℕ) → i + j ≡ k → Contains (walks_along next a b k) w → Leads next b a k → Leads next b (slice_index w i) j
 leads_at next a b zero j k w is h leads =
@@ -140,14 +140,14 @@ in_follows : (xs : List ℕ) (x y : ℕ) → Follows xs x y → Contains xs y
 in_follows xs x y f = subst (λ (l : List ℕ). Contains l y) (sym f.is) (Contains-append_right f.front (x ∷ y ∷ f.back) y (in_rest x (y ∷ f.back) y (in_first y f.back)))
 
 -- the tail from one place before
-pub ends_before : (next : ℕ → List ℕ) (a b i j k : ℕ) (w : List ℕ) → suc i + j ≡ k → Contains (walks_along next a b k) w → Ends (next (slice_index w i)) (slice_index w (suc i)) → Ends (walks_along next (slice_index w (suc i)) b j) (drop (suc i) w)
-    → Ends (walks_along next (slice_index w i) b (suc j)) (drop i w)
+pub ends_before : (next : ℕ → List ℕ) (a b i j k : ℕ) (w : List ℕ) → suc i + j ≡ k → Contains (walks_along next a b k) w → IsLast (next (slice_index w i)) (slice_index w (suc i)) → IsLast (walks_along next (slice_index w (suc i)) b j) (drop (suc i) w)
+    → IsLast (walks_along next (slice_index w i) b (suc j)) (drop i w)
 ends_before next a b i j k w is h row tail =
     let lt : i < length w = omega (arith, is, walk_length next a b k w h) in
     rw (drop-cons w i 0 lt) (ends_step next (slice_index w i) b (slice_index w (suc i)) j (drop (suc i) w) row tail)
 
 pub turn_follows : (next : ℕ → List ℕ) (a b i j k node : ℕ) (w : List ℕ) → suc i + j ≡ k → Contains (walks_along next a b k) w → Leads next b a k → Follows (next (slice_index w i)) (slice_index w (suc i)) node
-    → Ends (walks_along next (slice_index w (suc i)) b j) (drop (suc i) w) → Follows (walks_along next a b k) w (take (suc i) w ++ first_along next node j)
+    → IsLast (walks_along next (slice_index w (suc i)) b j) (drop (suc i) w) → Follows (walks_along next a b k) w (take (suc i) w ++ first_along next node j)
 turn_follows next a b i j k node w is h leads row tail =
     let lt : i < length w = omega (arith, is, walk_length next a b k w h) in
     let on : Leads next b (slice_index w i) (suc j) = leads_at next a b i (suc j) k w (omega (arith, is)) h leads in
@@ -173,7 +173,7 @@ moves_next ws v w up f = record {
   kept = λ e. absurd cc;
 }
 
-pub moves_last : (ws : List (List ℕ)) (v : List ℕ) → Ascends Before ws → Ends ws v → Moves ws v v false
+pub moves_last : (ws : List (List ℕ)) (v : List ℕ) → Ascends Before ws → IsLast ws v → Moves ws v v false
 moves_last ws v up f = record {
   next = λ e. absurd cc;
   last = λ _ i at.
@@ -223,4 +223,4 @@ turn_moves next a b k p node w h leads t =
     subst (λ (n : ℕ). Follows (walks_along next a b k) w (take n w ++ first_along next node (k - p))) e
     (turn_follows next a b i (k - p) k node w (omega (arith, t.later, t.within)) h leads
     (subst (λ (n : ℕ). Follows (next (slice_index w i)) (slice_index w n) node) (sym e) t.moves)
-    (subst (λ (n : ℕ). Ends (walks_along next (slice_index w n) b (k - p)) (drop n w)) (sym e) t.ends))
+    (subst (λ (n : ℕ). IsLast (walks_along next (slice_index w n) b (k - p)) (drop n w)) (sym e) t.ends))

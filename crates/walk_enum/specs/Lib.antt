@@ -1,3 +1,4 @@
 pub mod Walks
+pub mod Turned
 pub mod Moving
 pub mod Inner

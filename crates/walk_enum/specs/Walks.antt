@@ -2,9 +2,9 @@
 use Rattle.std.specs.Prelude.{ℕ, zero, suc, Bool, cond, List, [], ◌∷◌, map, ◌==◌, ◌≡◌, ◌↔◌, Contains, true}
 use Rattle.std.specs.List.{filter, flat_map, range_with_len}
 
--- the nodes that a node has an edge to, rising: a graph of a size has the nodes 1 to that size
-abbrev pub ends_of : (ℕ → ℕ → Bool) → ℕ → ℕ → List ℕ
-ends_of edge size a = filter (edge a) (range_with_len 1 size)
+-- the successors of a node: the nodes that it has an edge to, rising; a graph of a size has the nodes 1 to that size
+abbrev pub successors_of : (ℕ → ℕ → Bool) → ℕ → ℕ → List ℕ
+successors_of edge size a = filter (edge a) (range_with_len 1 size)
 
 -- The walks from a node to a node of so many steps, along given successors. One of no step is the node alone. One of more steps is the
 -- node before a walk of one step less from a successor: by the successors in their order, and for each of them by its walks in theirs.
@@ -14,7 +14,7 @@ walks_along next a b (suc k) = flat_map (λ c. map (λ w. a ∷ w) (walks_along 
 
 -- the walks of so many steps along the edges of a graph
 abbrev pub walks : (ℕ → ℕ → Bool) → ℕ → ℕ → ℕ → ℕ → List (List ℕ)
-walks edge size a b k = walks_along (ends_of edge size) a b k
+walks edge size a b k = walks_along (successors_of edge size) a b k
 
 -- there is a walk of so many steps
 abbrev pub Goes : (ℕ → List ℕ) → ℕ → ℕ → ℕ → Type 0
@@ -31,6 +31,6 @@ first_some ((w ∷ ws) ∷ rest) = w ∷ ws
 abbrev pub least_walks : (ℕ → ℕ → Bool) → ℕ → ℕ → ℕ → List (List ℕ)
 least_walks edge size a b = first_some (map (walks edge size a b) (range_with_len 0 size))
 
--- some nodes are exactly those that a node has an edge to
-pub record AreEnds (edge : ℕ → ℕ → Bool) (a : ℕ) (found : List ℕ) : Type 0 where
+-- some nodes are exactly the successors of a node
+pub record AreSuccessors (edge : ℕ → ℕ → Bool) (a : ℕ) (found : List ℕ) : Type 0 where
   pub each : (b : ℕ) → Contains found b ↔ (edge a b ≡ true)

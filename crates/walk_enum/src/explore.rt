@@ -1,6 +1,6 @@
 // The search from the source, up to the depth of the target.
 ghost use Rattle.std.specs.Prelude.{◌≡◌, ◌≤◌, ◌<◌, ◌+◌, ◌^◌, IfOk, length};
-ghost use Rattle.walk_enum.specs.Walks.{ends_of};
+ghost use Rattle.walk_enum.specs.Walks.{successors_of};
 ghost use Rattle.walk_enum.specs.Inner.Exploring.{Explores, IsAtEnd};
 
 use crate::graph::Graph;
@@ -32,7 +32,7 @@ pub fn explore<G: Graph, L: Ledger>(
     requires from_high { from ≤ G.nodes graph.now }
     requires to_low { 1 ≤ to }
     requires to_high { to ≤ G.nodes graph.now }
-    ensures found { IfOk result (λ f. Explores (ends_of (G.edge graph.now) (G.nodes graph.now)) (G.nodes graph.now) from to f.depths.items f.queue.items f.rows.items (length f.rows.items)) }
+    ensures found { IfOk result (λ f. Explores (successors_of (G.edge graph.now) (G.nodes graph.now)) (G.nodes graph.now) from to f.depths.items f.queue.items f.rows.items (length f.rows.items)) }
     ensures end { IfOk result (λ f. IsAtEnd f.depths.items f.queue.items (length f.rows.items) to) }
     ensures few { G.nodes graph.now < 2 ^ 32 }
     ensures cost { steps.new ≤ steps.old + G.nodes graph.now }
@@ -70,7 +70,7 @@ fn ask<G: Graph, L: Ledger>(
 ) -> Result<Successors, AllocError>
     requires low { 1 ≤ node }
     requires high { node ≤ G.nodes graph.now }
-    ensures found { IfOk result (λ row. row ≡ ends_of (G.edge graph.now) (G.nodes graph.now) node) }
+    ensures found { IfOk result (λ row. row ≡ successors_of (G.edge graph.now) (G.nodes graph.now) node) }
     ensures step { steps.new ≡ steps.old + 1 }
 {
     let many = graph.size() as u64 / 64 + 16;

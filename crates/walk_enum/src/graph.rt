@@ -1,6 +1,7 @@
+// What a graph is.
 ghost use Rattle.std.specs.Prelude.{◌≡◌, ◌+◌, ◌≤◌, ℕ, Bool, true, IfOk};
 ghost use Rattle.pol_bitmap.specs.Nodes.{bits_of};
-ghost use Rattle.walk_enum.specs.Walks.{AreEnds};
+ghost use Rattle.walk_enum.specs.Walks.{AreSuccessors};
 
 use crate::steps::Steps;
 use pol_bitmap::Set;
@@ -28,7 +29,7 @@ pub trait Graph {
     ) -> Result<Set, AllocError>
         requires low { 1 ≤ node }
         requires high { node ≤ nodes self.now }
-        ensures found { IfOk result (λ set. AreEnds (edge self.now) node (bits_of set)) }
+        ensures found { IfOk result (λ set. AreSuccessors (edge self.now) node (bits_of set)) }
         ensures step { steps.new ≡ steps.old + 1 };
 
     /// An edge joins nodes.

@@ -1,3 +1,4 @@
+// All shortest walks, one after the other.
 ghost use Rattle.std.specs.Prelude.{◌≡◌, ◌<◌, ◌+◌, All, Contains, IfOk, length, slice_get, Some};
 ghost use Rattle.walk_enum.specs.Walks.{walks_along};
 ghost use Rattle.walk_enum.specs.Moving.{Moves};

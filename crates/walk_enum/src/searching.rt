@@ -1,3 +1,4 @@
+// The search for the shortest walks.
 ghost use Rattle.std.specs.Prelude.{◌≡◌, ◌≤◌, ◌+◌, ◌↔◌, IfOk, IfSome, None, []};
 ghost use Rattle.walk_enum.specs.Walks.{least_walks};
 

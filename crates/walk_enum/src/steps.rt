@@ -1,3 +1,4 @@
+// A counter of the nodes that were asked.
 ghost use Rattle.std.specs.Prelude.{◌≡◌, ◌+◌};
 
 use std::marker::Model;

@@ -1,3 +1,4 @@
+// The successors of a node as they are kept.
 ghost use Rattle.std.specs.Prelude.{◌≡◌};
 ghost use Rattle.pol_bitmap.specs.Nodes.{bits_of};
 ghost use Rattle.pol_bitmap.specs.Sets.{IsSet};

@@ -2,7 +2,7 @@
 ghost use Rattle.std.specs.Prelude.{◌≡◌, ◌≤◌, ◌<◌, ◌+◌, ◌-◌, ◌++◌, ℕ, Contains, IfOk, IfSome, IfNone, length, slice_index, slice_get, take};
 ghost use Rattle.walk_enum.specs.Walks.{walks_along};
 ghost use Rattle.walk_enum.specs.Moving.{Moves};
-ghost use Rattle.walk_enum.specs.Inner.Turns.{row_of, AreLayers, IsTurn, Ends, Leads, first_along};
+ghost use Rattle.walk_enum.specs.Inner.Turns.{row_of, AreLayers, IsTurn, IsLast, Leads, first_along};
 
 use crate::after::node_after;
 use crate::row::{Row, nodes_at};
@@ -57,7 +57,7 @@ impl Table {
         requires layers { AreLayers self.now.rows.items self.now.from self.now.to self.now.step_count }
         requires there { Contains (walks_along (row_of self.now.rows.items) self.now.from self.now.to self.now.step_count) walk.now }
         ensures some { IfSome result (λ t. IsTurn (row_of self.now.rows.items) self.now.to self.now.step_count walk.now t.place t.node) }
-        ensures none { IfNone result (Ends (walks_along (row_of self.now.rows.items) self.now.from self.now.to self.now.step_count) walk.now) }
+        ensures none { IfNone result (IsLast (walks_along (row_of self.now.rows.items) self.now.from self.now.to self.now.step_count) walk.now) }
     {
         for back in 0..self.step_count {
             let place = self.step_count - back;

@@ -1,3 +1,4 @@
+// A walk that is changed in place.
 ghost use Rattle.std.specs.Prelude.{◌≡◌, ◌<◌, ◌+◌, ◌^◌, IfOk, length, replicate, slice_index, slice_set};
 
 use std::alloc::{AllocError, Global};

@@ -9,7 +9,7 @@ use Rattle.pol_bitmap.specs.Nodes.{bits_of}
 use Rattle.pol_bitmap.specs.Sets.{IsUnion}
 use Rattle.pol_bitmap.proofs.BitLists.{contains_bits}
 use Rattle.pol_bitmap.proofs.Elements.{contains_nothing, contains_one, contains_first}
-use Rattle.walk_enum.specs.Walks.{AreEnds}
+use Rattle.walk_enum.specs.Walks.{AreSuccessors}
 use Rattle.walk_example.specs.Edges.{node_count, has_edge, edges_join, HaveNodes, AddsEdge}
 
 -- the successors of a node
@@ -24,7 +24,7 @@ edge_from sets a b alow ahigh blow bhigh has =
     and_from _ _ (and_from _ _ (and_from _ _ (le-leb 1 a alow) (le-leb a (node_count sets) ahigh)) (and_from _ _ (le-leb 1 b blow) (le-leb b (node_count sets) bhigh))) ((contains_bits (get_or sets a []) b).0 has)
 
 -- the set of a node has its ends
-pub row_ends : (sets : List (List Node)) (a : ℕ) → HaveNodes sets → 1 ≤ a → a ≤ node_count sets → AreEnds (has_edge sets) a (row sets a)
+pub row_ends : (sets : List (List Node)) (a : ℕ) → HaveNodes sets → 1 ≤ a → a ≤ node_count sets → AreSuccessors (has_edge sets) a (row sets a)
 row_ends sets a nodes low high = record {
   each = λ b. (
     (λ has. let p = nodes a b has in edge_from sets a b low high p.0 p.1 has),
@@ -32,9 +32,9 @@ row_ends sets a nodes low high = record {
   );
 }
 
-pub row_shared : (sets : List (List Node)) (a : ℕ) (set d : List Node) → HaveNodes sets → 1 ≤ a → a ≤ node_count sets → d ≡ get_or sets a d → set ≡ d → AreEnds (has_edge sets) a (bits_of set)
+pub row_shared : (sets : List (List Node)) (a : ℕ) (set d : List Node) → HaveNodes sets → 1 ≤ a → a ≤ node_count sets → d ≡ get_or sets a d → set ≡ d → AreSuccessors (has_edge sets) a (bits_of set)
 row_shared sets a set d nodes low high at is =
-    subst (λ (l : List Node). AreEnds (has_edge sets) a (bits_of l)) (sym (is ∙ at ∙ get_or_default sets a d [] (omega (arith, low, high)))) (row_ends sets a nodes low high)
+    subst (λ (l : List Node). AreSuccessors (has_edge sets) a (bits_of l)) (sym (is ∙ at ∙ get_or_default sets a d [] (omega (arith, low, high)))) (row_ends sets a nodes low high)
 
 -- empty sets have no node
 pub no_nodes : (sets : List (List Node)) → ((a : ℕ) → row sets a ≡ []) → HaveNodes sets

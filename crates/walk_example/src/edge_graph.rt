@@ -1,3 +1,4 @@
+// A graph that is made edge by edge.
 ghost use Rattle.std.specs.Prelude.{◌≡◌, ◌≤◌, ◌<◌, ◌+◌, ◌^◌, ◌↔◌, ℕ, IfOk, OnOk, OnErr, IsTrue, false, length};
 ghost use Rattle.walk_example.specs.Edges.{node_count, has_edge, AddsEdge};
 

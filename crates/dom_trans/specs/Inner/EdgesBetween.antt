@@ -1,15 +1,16 @@
 -- An edge joins nodes, since transitions are from types to types.
-use Rattle.std.specs.Prelude.{◌≡◌, ℕ, ◌≤◌, Bool, true, false, not, ◌&&◌, if◌then◌else◌}
+use Rattle.std.specs.Prelude.{◌≡◌, ℕ, ◌≤◌, true, not, ◌&&◌}
 use Rattle.std.specs.List.{list_any, range_with_len}
 use Rattle.std.proofs.Common.{inl, inr}
 use Rattle.std.proofs.lemmas.Bool.{and_parts, or_cases}
 use Rattle.pol_bitmap.specs.Nodes.{has_bit}
 use Rattle.pol_file.specs.declared.Parts.{Parts}
-use Rattle.rule_ends.specs.PlainTypes.{are_two_types}
-use Rattle.rule_ends.proofs.TypesOutside.{two_within}
+use Rattle.pol_expand.specs.PlainTypes.{are_two_types}
+use Rattle.pol_expand.proofs.TypesOutside.{two_within}
+use Rattle.walk_enum.proofs.TurnedEdges.{turned_between}
 use Rattle.dom_trans.specs.Grants.{grants, process, transition, dyntransition, setcurrent}
 use Rattle.dom_trans.specs.Transitions.{is_entry, is_standard, is_dynamic, is_transition}
-use Rattle.dom_trans.specs.Inner.DomainEdges.{Domains, domain_count, is_step, domain_edge}
+use Rattle.dom_trans.specs.DomainEdges.{Domains, domain_count, is_step, domain_edge}
 
 -- a transition is between two types
 pub transition_types : (policy : Parts) (a b : ℕ) → is_transition policy a b ≡ true → are_two_types policy a b ≡ true
@@ -21,6 +22,7 @@ transition_types policy a b e = elim (or_cases (is_standard policy a b) (is_dyna
       (and_parts (are_two_types policy a b) (grants policy a b process dyntransition) (and_parts (are_two_types policy a b && grants policy a b process dyntransition) (grants policy a a process setcurrent) dynamic).0).0
 ]
 
+-- a step joins nodes
 step_joins : (domains : Domains) (a b : ℕ) → is_step domains a b ≡ true → (1 ≤ a) × (a ≤ domain_count domains) × (1 ≤ b) × (b ≤ domain_count domains)
 unfolding is_step
 step_joins domains a b e =
@@ -28,8 +30,4 @@ step_joins domains a b e =
     two_within domains.policy a b (transition_types domains.policy a b inner.0)
 
 pub edges_join : (domains : Domains) (a b : ℕ) → domain_edge domains a b ≡ true → (1 ≤ a) × (a ≤ domain_count domains) × (1 ≤ b) × (b ≤ domain_count domains)
-edges_join domains a b e = go domains.reverse e
-  where
-    go : (reverse : Bool) → (if reverse then is_step domains b a else is_step domains a b) ≡ true → (1 ≤ a) × (a ≤ domain_count domains) × (1 ≤ b) × (b ≤ domain_count domains)
-    go true e = let p = step_joins domains b a e in (p.2, p.3, p.0, p.1)
-    go false e = step_joins domains a b e
+edges_join domains = turned_between (domain_count domains) (is_step domains) (step_joins domains) domains.reverse

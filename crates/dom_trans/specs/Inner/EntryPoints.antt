@@ -2,7 +2,7 @@
 use Rattle.std.specs.Prelude.{◌≡◌, ℕ, Bool, true, ◌&&◌, ◌↔◌, List}
 use Rattle.std.specs.List.{Contains, filter, range_with_len}
 use Rattle.pol_file.specs.declared.Parts.{Parts}
-use Rattle.rule_ends.specs.ChosenRules.{begins_at}
+use Rattle.rules_between.specs.ChosenRules.{begins_at}
 use Rattle.dom_trans.specs.Grants.{default_rules, grants, has_default, file, execute, entrypoint}
 use Rattle.dom_trans.specs.Transitions.{is_default}
 

@@ -6,9 +6,9 @@ use Rattle.pol_symbols.specs.declared.Symbols.{Symbols}
 use Rattle.pol_symbols.specs.PolicySymbols.{value_in}
 use Rattle.pol_file.specs.declared.Parts.{Parts}
 use Rattle.pol_read.specs.StoredRules.{StoredRule}
-use Rattle.rule_ends.specs.declared.RulesWithEnds.{RulesWithEnds}
-use Rattle.rule_ends.specs.ChosenRules.{rule_passes}
-use Rattle.rule_ends.specs.Inner.EndTables.{AreEndsOf}
+use Rattle.rules_between.specs.declared.RulesWithEnds.{RulesWithEnds}
+use Rattle.pol_expand.specs.JoinedTypes.{rule_passes}
+use Rattle.rules_between.specs.Inner.RuleTables.{AreEndsOf}
 use Rattle.dom_trans.specs.declared.keeping.Wanted.{Wanted}
 use Rattle.dom_trans.specs.declared.keeping.Kept.{Kept}
 use Rattle.dom_trans.specs.Grants.{gives, is_value, sets_default, permission_named, process, file, transition, dyntransition, setexec, setcurrent, execute, entrypoint}

@@ -4,8 +4,9 @@ use Rattle.std.specs.List.{All, filter}
 use Rattle.pol_bitmap.specs.declared.Node.{Node}
 use Rattle.pol_bitmap.specs.Nodes.{bits_of}
 use Rattle.pol_file.specs.declared.Parts.{Parts}
-use Rattle.rule_ends.specs.ChosenRules.{ChosenRules, is_between_types, targets_from}
-use Rattle.rule_ends.specs.PlainTypes.{are_two_types}
+use Rattle.rules_between.specs.ChosenRules.{ChosenRules}
+use Rattle.pol_expand.specs.JoinedTypes.{is_between_types, targets_from}
+use Rattle.pol_expand.specs.PlainTypes.{are_two_types}
 use Rattle.dom_trans.specs.declared.grant.Grant.{Grant}
 use Rattle.dom_trans.specs.declared.grant.Grant.TheVariants.{Transition, Dyntransition, Setexec, Setcurrent, Execute, Entrypoint, Default}
 use Rattle.dom_trans.specs.Grants.{granting_rules, grants, default_rules, has_default, process, file, transition, dyntransition, setexec, setcurrent, execute, entrypoint}

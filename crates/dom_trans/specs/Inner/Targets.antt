@@ -6,11 +6,11 @@ use Rattle.pol_file.specs.declared.Parts.{Parts}
 use Rattle.pol_read.specs.declared.RulePart.{RulePart}
 use Rattle.pol_read.specs.declared.RulePart.TheVariants.{Default}
 use Rattle.pol_read.specs.StoredRules.{stored_rules}
-use Rattle.rule_ends.specs.ChosenRules.{ends_at}
-use Rattle.rule_ends.specs.PlainTypes.{are_two_types, is_type_value}
+use Rattle.rules_between.specs.ChosenRules.{ends_at}
+use Rattle.pol_expand.specs.PlainTypes.{are_two_types, is_type_value}
 use Rattle.dom_trans.specs.Grants.{grants, has_default, file, entrypoint}
 use Rattle.dom_trans.specs.Transitions.{is_default, is_entry, is_standard, is_transition}
-use Rattle.dom_trans.specs.Inner.DomainEdges.{Domains}
+use Rattle.dom_trans.specs.DomainEdges.{Domains}
 
 -- there is an entry from the one type to the other
 abbrev pub has_entry : Parts → ℕ → ℕ → Bool

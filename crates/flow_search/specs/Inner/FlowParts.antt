@@ -3,15 +3,15 @@ use Rattle.std.specs.Prelude.{◌≡◌, ◌↔◌, ℕ, ◌≤◌, Bool, true, 
 use Rattle.std.specs.List.{filter}
 use Rattle.std.specs.List.Sorted.{IsStrictlyIncreasing}
 use Rattle.pol_file.specs.declared.Parts.{Parts}
-use Rattle.rule_ends.specs.declared.RuleEnd.{RuleEnd}
-use Rattle.rule_ends.specs.declared.RuleEnd.TheVariants.{Source, Target}
-use Rattle.rule_ends.specs.ChosenRules.{any_joins}
-use Rattle.rule_ends.specs.RulesByEnd.{HoldRules, RulesByEnd, other_end}
-use Rattle.rule_ends.specs.PlainTypes.{is_type_outside}
+use Rattle.rules_by_end.specs.declared.RuleEnd.{RuleEnd}
+use Rattle.rules_by_end.specs.declared.RuleEnd.TheVariants.{Source, Target}
+use Rattle.pol_expand.specs.JoinedTypes.{any_joins}
+use Rattle.rules_by_end.specs.RulesByEnd.{HoldRules, RulesByEnd, other_end}
+use Rattle.pol_expand.specs.PlainTypes.{is_type_outside}
 use Rattle.perm_map.specs.declared.Direction.{Direction}
 use Rattle.perm_map.specs.PermissionMap.{Weights, weights_of}
 use Rattle.flow_search.specs.FlowWeights.{inwards, outwards}
-use Rattle.flow_search.specs.Inner.FlowEdges.{FlowSearch}
+use Rattle.flow_search.specs.FlowEdges.{FlowSearch}
 use Rattle.flow_search.specs.Flows.{rule_numbers, weight_of_rule}
 
 abbrev pub reaches : (Direction → ℕ → ℕ) → Weights → Parts → ℕ → ℕ → Bool

@@ -9,8 +9,8 @@ pub record Follows {X : Type 0} (xs : List X) (x y : X) : Type 0 where
   pub back : List X
   pub is : xs ≡ front ++ x ∷ y ∷ back
 
--- it stands at the end of a list
-pub record Ends {X : Type 0} (xs : List X) (x : X) : Type 0 where
+-- it is the last of a list
+pub record IsLast {X : Type 0} (xs : List X) (x : X) : Type 0 where
   pub front : List X
   pub is : xs ≡ front ++ x ∷ []
 
@@ -36,7 +36,7 @@ pub record IsTurn (next : ℕ → List ℕ) (b k : ℕ) (walk : List ℕ) (place
   pub later : 1 ≤ place
   pub within : place ≤ k
   pub moves : Follows (next (slice_index walk (place - 1))) (slice_index walk place) node
-  pub ends : Ends (walks_along next (slice_index walk place) b (k - place)) (drop place walk)
+  pub ends : IsLast (walks_along next (slice_index walk place) b (k - place)) (drop place walk)
 
 -- the walk that takes the first successor at each step
 abbrev pub first_along : (ℕ → List ℕ) → ℕ → ℕ → List ℕ

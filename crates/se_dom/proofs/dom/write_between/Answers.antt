@@ -1,6 +1,6 @@
 use Rattle.std.proofs.Common.{List, ℕ, refl, subst}
 use Rattle.std.specs.List.{concat}
-use Rattle.dom_trans.specs.Inner.DomainEdges.{Domains}
+use Rattle.dom_trans.specs.DomainEdges.{Domains}
 use Rattle.se_items.specs.Paging.{page}
 use Rattle.se_items.specs.Writing.{Sends}
 use Rattle.se_words.specs.DomRequest.{dom_view}

@@ -1,7 +1,7 @@
 use Rattle.std.proofs.Common.{subst}
 use Rattle.std.specs.List.{concat}
 use Rattle.pol_bitmap.specs.Nodes.{has_bit}
-use Rattle.dom_trans.specs.Inner.DomainEdges.{Domains, domain_edge}
+use Rattle.dom_trans.specs.DomainEdges.{Domains, domain_edge}
 use Rattle.se_items.specs.Paging.{page}
 use Rattle.se_items.specs.Writing.{Sends}
 use Rattle.se_walks.specs.GraphItems.{items_between}

@@ -1,6 +1,6 @@
 use Rattle.std.proofs.Common.{◌≡◌, ℕ, List, ap, refl, subst}
 use Rattle.std.specs.List.{concat}
-use Rattle.flow_search.specs.Inner.FlowEdges.{FlowSearch, flow_count}
+use Rattle.flow_search.specs.FlowEdges.{FlowSearch, flow_count}
 use Rattle.se_items.specs.Paging.{page}
 use Rattle.se_items.specs.Writing.{Sends}
 use Rattle.se_words.specs.FlowRequest.{flow_view}

@@ -3,7 +3,7 @@ use Rattle.std.specs.Prelude.{slice_index}
 use Rattle.std.specs.List.{All, Contains}
 use Rattle.std.proofs.lemmas.List.{get_or_default}
 use Rattle.std.proofs.lemmas.List.Elements.{Contains-get_or}
-use Rattle.walk_enum.specs.Walks.{ends_of}
+use Rattle.walk_enum.specs.Walks.{successors_of}
 use Rattle.walk_enum.specs.Inner.Exploring.{Explores, GoesOn, Spreads}
 use Rattle.walk_enum.proofs.Elements.{not_in_nothing}
 use Rattle.walk_enum.proofs.Rows.{ends_fit, ends_fit_at}
@@ -12,7 +12,7 @@ use Rattle.walk_enum.proofs.explore.explore.Goals as goal
 
 pub asking-init : goal.asking-init
 asking-init g c =
-    let next = ends_of (g.G.Graph.edge c.args.graph.now) (g.G.Graph.nodes c.args.graph.now) in
+    let next = successors_of (g.G.Graph.edge c.args.graph.now) (g.G.Graph.nodes c.args.graph.now) in
     let nodes = g.G.Graph.nodes c.args.graph.now in
     let depths = set c.in_ok-depths.depths.items c.args.from 1 in
     let made : depths ≡ set (replicate (nodes + 1) 0) c.args.from 1 =
@@ -27,7 +27,7 @@ asking-init g c =
 
 pub ask-requires-clause-low : goal.ask-requires-clause-low
 ask-requires-clause-low g c =
-    let next = ends_of (g.G.Graph.edge c.args.graph.now) (g.G.Graph.nodes c.args.graph.now) in
+    let next = successors_of (g.G.Graph.edge c.args.graph.now) (g.G.Graph.nodes c.args.graph.now) in
     let nodes = g.G.Graph.nodes c.args.graph.now in
     let depths = c.asking.depths.items in
     let queue = c.asking.queue.items in
@@ -44,7 +44,7 @@ ask-requires-clause-low g c =
 
 pub ask-requires-clause-high : goal.ask-requires-clause-high
 ask-requires-clause-high g c =
-    let next = ends_of (g.G.Graph.edge c.args.graph.now) (g.G.Graph.nodes c.args.graph.now) in
+    let next = successors_of (g.G.Graph.edge c.args.graph.now) (g.G.Graph.nodes c.args.graph.now) in
     let nodes = g.G.Graph.nodes c.args.graph.now in
     let depths = c.asking.depths.items in
     let queue = c.asking.queue.items in
@@ -61,7 +61,7 @@ ask-requires-clause-high g c =
 
 pub returns-in_err-row-clause-cost : goal.returns-in_err-row-clause-cost
 returns-in_err-row-clause-cost g c =
-    let next = ends_of (g.G.Graph.edge c.args.graph.now) (g.G.Graph.nodes c.args.graph.now) in
+    let next = successors_of (g.G.Graph.edge c.args.graph.now) (g.G.Graph.nodes c.args.graph.now) in
     let nodes = g.G.Graph.nodes c.args.graph.now in
     let depths = c.asking.depths.items in
     let queue = c.asking.queue.items in
@@ -75,7 +75,7 @@ returns-in_err-row-clause-cost g c =
 
 pub index-requires : goal.index-requires
 index-requires g c =
-    let next = ends_of (g.G.Graph.edge c.args.graph.now) (g.G.Graph.nodes c.args.graph.now) in
+    let next = successors_of (g.G.Graph.edge c.args.graph.now) (g.G.Graph.nodes c.args.graph.now) in
     let nodes = g.G.Graph.nodes c.args.graph.now in
     let depths = c.asking.depths.items in
     let queue = c.asking.queue.items in
@@ -92,7 +92,7 @@ index-requires g c =
 
 pub overflow_add-depth : goal.overflow_add-depth
 overflow_add-depth g c =
-    let next = ends_of (g.G.Graph.edge c.args.graph.now) (g.G.Graph.nodes c.args.graph.now) in
+    let next = successors_of (g.G.Graph.edge c.args.graph.now) (g.G.Graph.nodes c.args.graph.now) in
     let nodes = g.G.Graph.nodes c.args.graph.now in
     let depths = c.asking.depths.items in
     let queue = c.asking.queue.items in
@@ -111,7 +111,7 @@ overflow_add-depth g c =
 
 pub spread-requires-clause-range : goal.spread-requires-clause-range
 spread-requires-clause-range g c =
-    let next = ends_of (g.G.Graph.edge c.args.graph.now) (g.G.Graph.nodes c.args.graph.now) in
+    let next = successors_of (g.G.Graph.edge c.args.graph.now) (g.G.Graph.nodes c.args.graph.now) in
     let nodes = g.G.Graph.nodes c.args.graph.now in
     let depths = c.asking.depths.items in
     let queue = c.asking.queue.items in
@@ -124,7 +124,7 @@ spread-requires-clause-range g c =
 
 pub returns-in_err-spread-clause-cost : goal.returns-in_err-spread-clause-cost
 returns-in_err-spread-clause-cost g c =
-    let next = ends_of (g.G.Graph.edge c.args.graph.now) (g.G.Graph.nodes c.args.graph.now) in
+    let next = successors_of (g.G.Graph.edge c.args.graph.now) (g.G.Graph.nodes c.args.graph.now) in
     let nodes = g.G.Graph.nodes c.args.graph.now in
     let depths = c.asking.depths.items in
     let queue = c.asking.queue.items in
@@ -138,7 +138,7 @@ returns-in_err-spread-clause-cost g c =
 
 pub returns-in_err-push-2-clause-cost : goal.returns-in_err-push-2-clause-cost
 returns-in_err-push-2-clause-cost g c =
-    let next = ends_of (g.G.Graph.edge c.args.graph.now) (g.G.Graph.nodes c.args.graph.now) in
+    let next = successors_of (g.G.Graph.edge c.args.graph.now) (g.G.Graph.nodes c.args.graph.now) in
     let nodes = g.G.Graph.nodes c.args.graph.now in
     let depths = c.asking.depths.items in
     let queue = c.asking.queue.items in
@@ -152,7 +152,7 @@ returns-in_err-push-2-clause-cost g c =
 
 pub asking-smaller : goal.asking-smaller
 asking-smaller g c =
-    let next = ends_of (g.G.Graph.edge c.args.graph.now) (g.G.Graph.nodes c.args.graph.now) in
+    let next = successors_of (g.G.Graph.edge c.args.graph.now) (g.G.Graph.nodes c.args.graph.now) in
     let nodes = g.G.Graph.nodes c.args.graph.now in
     let depths = c.asking.depths.items in
     let queue = c.asking.queue.items in
@@ -166,7 +166,7 @@ asking-smaller g c =
 
 pub asking-preserved : goal.asking-preserved
 asking-preserved g c =
-    let next = ends_of (g.G.Graph.edge c.args.graph.now) (g.G.Graph.nodes c.args.graph.now) in
+    let next = successors_of (g.G.Graph.edge c.args.graph.now) (g.G.Graph.nodes c.args.graph.now) in
     let nodes = g.G.Graph.nodes c.args.graph.now in
     let depths = c.asking.depths.items in
     let queue = c.asking.queue.items in
@@ -197,7 +197,7 @@ asking-preserved g c =
 
 pub returns-clause-cost : goal.returns-clause-cost
 returns-clause-cost g c =
-    let next = ends_of (g.G.Graph.edge c.args.graph.now) (g.G.Graph.nodes c.args.graph.now) in
+    let next = successors_of (g.G.Graph.edge c.args.graph.now) (g.G.Graph.nodes c.args.graph.now) in
     let nodes = g.G.Graph.nodes c.args.graph.now in
     let depths = c.asking.depths.items in
     let queue = c.asking.queue.items in

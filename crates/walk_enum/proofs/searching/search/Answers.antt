@@ -1,6 +1,6 @@
 use Rattle.std.proofs.Common.{◌≡◌, ◌≤◌, ◌-◌, ℕ, List, arith, ap, sym, ◌∙◌, length, refl}
 use Rattle.std.specs.Prelude.{slice_index}
-use Rattle.walk_enum.specs.Walks.{ends_of, walks_along}
+use Rattle.walk_enum.specs.Walks.{successors_of, walks_along}
 use Rattle.walk_enum.specs.Inner.Turns.{row_of}
 use Rattle.walk_enum.specs.Inner.Exploring.{Explores, IsAtEnd}
 use Rattle.walk_enum.proofs.Exploring.{depth_small}
@@ -12,7 +12,7 @@ returns-then-depth-eq0-clause-none g c =
     let edge = g.G.Graph.edge c.args.graph.now in
     let nodes = g.G.Graph.nodes c.args.graph.now in
     let f = c.in_ok-found.found in
-    let e : Explores (ends_of edge nodes) nodes c.args.from c.args.to f.depths.items f.queue.items f.rows.items (length f.rows.items) = c.in_ok-found.ensures.found in
+    let e : Explores (successors_of edge nodes) nodes c.args.from c.args.to f.depths.items f.queue.items f.rows.items (length f.rows.items) = c.in_ok-found.ensures.found in
     let end : IsAtEnd f.depths.items f.queue.items (length f.rows.items) c.args.to = c.in_ok-found.ensures.end in
     let depth : c.number_at-depth.result ≡ slice_index f.depths.items c.args.to = c.number_at-depth.ensures ∙ ap (λ (d : List ℕ). slice_index d c.args.to) c.deref.ensures.value in
     ((λ _. answer_none edge nodes c.args.from c.args.to f.depths.items f.queue.items f.rows.items e end (sym depth ∙ c.if-depth-eq0.true)), (λ _. refl))
@@ -22,7 +22,7 @@ cut-requires-clause-queue g c =
     let edge = g.G.Graph.edge c.args.graph.now in
     let nodes = g.G.Graph.nodes c.args.graph.now in
     let f = c.in_ok-found.found in
-    let e : Explores (ends_of edge nodes) nodes c.args.from c.args.to f.depths.items f.queue.items f.rows.items (length f.rows.items) = c.in_ok-found.ensures.found in
+    let e : Explores (successors_of edge nodes) nodes c.args.from c.args.to f.depths.items f.queue.items f.rows.items (length f.rows.items) = c.in_ok-found.ensures.found in
     let end : IsAtEnd f.depths.items f.queue.items (length f.rows.items) c.args.to = c.in_ok-found.ensures.end in
     e.within
 
@@ -31,7 +31,7 @@ cut-requires-clause-fits g c =
     let edge = g.G.Graph.edge c.args.graph.now in
     let nodes = g.G.Graph.nodes c.args.graph.now in
     let f = c.in_ok-found.found in
-    let e : Explores (ends_of edge nodes) nodes c.args.from c.args.to f.depths.items f.queue.items f.rows.items (length f.rows.items) = c.in_ok-found.ensures.found in
+    let e : Explores (successors_of edge nodes) nodes c.args.from c.args.to f.depths.items f.queue.items f.rows.items (length f.rows.items) = c.in_ok-found.ensures.found in
     let end : IsAtEnd f.depths.items f.queue.items (length f.rows.items) c.args.to = c.in_ok-found.ensures.end in
     queue_fits edge nodes c.args.from c.args.to f.depths.items f.queue.items f.rows.items e
 
@@ -40,7 +40,7 @@ cut-requires-clause-shallow g c =
     let edge = g.G.Graph.edge c.args.graph.now in
     let nodes = g.G.Graph.nodes c.args.graph.now in
     let f = c.in_ok-found.found in
-    let e : Explores (ends_of edge nodes) nodes c.args.from c.args.to f.depths.items f.queue.items f.rows.items (length f.rows.items) = c.in_ok-found.ensures.found in
+    let e : Explores (successors_of edge nodes) nodes c.args.from c.args.to f.depths.items f.queue.items f.rows.items (length f.rows.items) = c.in_ok-found.ensures.found in
     let end : IsAtEnd f.depths.items f.queue.items (length f.rows.items) c.args.to = c.in_ok-found.ensures.end in
     depths_few edge nodes c.args.from c.args.to f.depths.items f.queue.items f.rows.items e c.in_ok-found.ensures.few
 
@@ -49,17 +49,17 @@ overflow_cast-depth g c =
     let edge = g.G.Graph.edge c.args.graph.now in
     let nodes = g.G.Graph.nodes c.args.graph.now in
     let f = c.in_ok-found.found in
-    let e : Explores (ends_of edge nodes) nodes c.args.from c.args.to f.depths.items f.queue.items f.rows.items (length f.rows.items) = c.in_ok-found.ensures.found in
+    let e : Explores (successors_of edge nodes) nodes c.args.from c.args.to f.depths.items f.queue.items f.rows.items (length f.rows.items) = c.in_ok-found.ensures.found in
     let end : IsAtEnd f.depths.items f.queue.items (length f.rows.items) c.args.to = c.in_ok-found.ensures.end in
     let depth : c.number_at-depth.result ≡ slice_index f.depths.items c.args.to = c.number_at-depth.ensures ∙ ap (λ (d : List ℕ). slice_index d c.args.to) c.deref.ensures.value in
-    omega (arith, depth, depth_small (ends_of edge nodes) nodes c.args.from c.args.to f.depths.items f.queue.items f.rows.items (length f.rows.items) e c.args.to, c.in_ok-found.ensures.few)
+    omega (arith, depth, depth_small (successors_of edge nodes) nodes c.args.from c.args.to f.depths.items f.queue.items f.rows.items (length f.rows.items) e c.args.to, c.in_ok-found.ensures.few)
 
 pub new-requires : goal.new-requires
 new-requires g c =
     let edge = g.G.Graph.edge c.args.graph.now in
     let nodes = g.G.Graph.nodes c.args.graph.now in
     let f = c.in_ok-found.found in
-    let e : Explores (ends_of edge nodes) nodes c.args.from c.args.to f.depths.items f.queue.items f.rows.items (length f.rows.items) = c.in_ok-found.ensures.found in
+    let e : Explores (successors_of edge nodes) nodes c.args.from c.args.to f.depths.items f.queue.items f.rows.items (length f.rows.items) = c.in_ok-found.ensures.found in
     let end : IsAtEnd f.depths.items f.queue.items (length f.rows.items) c.args.to = c.in_ok-found.ensures.end in
     let depth : c.number_at-depth.result ≡ slice_index f.depths.items c.args.to = c.number_at-depth.ensures ∙ ap (λ (d : List ℕ). slice_index d c.args.to) c.deref.ensures.value in
     let some : 1 ≤ slice_index f.depths.items c.args.to = omega (arith, depth, c.if-depth-eq0.false) in
@@ -71,7 +71,7 @@ returns-clause-none g c =
     let edge = g.G.Graph.edge c.args.graph.now in
     let nodes = g.G.Graph.nodes c.args.graph.now in
     let f = c.in_ok-found.found in
-    let e : Explores (ends_of edge nodes) nodes c.args.from c.args.to f.depths.items f.queue.items f.rows.items (length f.rows.items) = c.in_ok-found.ensures.found in
+    let e : Explores (successors_of edge nodes) nodes c.args.from c.args.to f.depths.items f.queue.items f.rows.items (length f.rows.items) = c.in_ok-found.ensures.found in
     let end : IsAtEnd f.depths.items f.queue.items (length f.rows.items) c.args.to = c.in_ok-found.ensures.end in
     let depth : c.number_at-depth.result ≡ slice_index f.depths.items c.args.to = c.number_at-depth.ensures ∙ ap (λ (d : List ℕ). slice_index d c.args.to) c.deref.ensures.value in
     let some : 1 ≤ slice_index f.depths.items c.args.to = omega (arith, depth, c.if-depth-eq0.false) in
@@ -83,7 +83,7 @@ returns-clause-some g c =
     let edge = g.G.Graph.edge c.args.graph.now in
     let nodes = g.G.Graph.nodes c.args.graph.now in
     let f = c.in_ok-found.found in
-    let e : Explores (ends_of edge nodes) nodes c.args.from c.args.to f.depths.items f.queue.items f.rows.items (length f.rows.items) = c.in_ok-found.ensures.found in
+    let e : Explores (successors_of edge nodes) nodes c.args.from c.args.to f.depths.items f.queue.items f.rows.items (length f.rows.items) = c.in_ok-found.ensures.found in
     let end : IsAtEnd f.depths.items f.queue.items (length f.rows.items) c.args.to = c.in_ok-found.ensures.end in
     let depth : c.number_at-depth.result ≡ slice_index f.depths.items c.args.to = c.number_at-depth.ensures ∙ ap (λ (d : List ℕ). slice_index d c.args.to) c.deref.ensures.value in
     let some : 1 ≤ slice_index f.depths.items c.args.to = omega (arith, depth, c.if-depth-eq0.false) in

@@ -5,7 +5,7 @@ use Rattle.std.proofs.lemmas.Result.{IfOk-weaker}
 use Rattle.pol_bitmap.specs.declared.Node.{Node}
 use Rattle.pol_bitmap.specs.Nodes.{bits_of}
 use Rattle.pol_bitmap.specs.Sets.{IsDifference}
-use Rattle.dom_trans.specs.Inner.DomainEdges.{Domains}
+use Rattle.dom_trans.specs.DomainEdges.{Domains}
 use Rattle.dom_trans.specs.Inner.Targets.{AreOpen}
 use Rattle.dom_trans.proofs.Steps.{none_open, open_are}
 use Rattle.dom_trans.proofs.dom_graph.DomGraph.open_among.Goals as goal

@@ -1,5 +1,5 @@
 use Rattle.std.proofs.Common.{sym, ap, ◌∙◌}
-use Rattle.dom_trans.specs.Inner.DomainEdges.{Domains}
+use Rattle.dom_trans.specs.DomainEdges.{Domains}
 use Rattle.dom_trans.proofs.Steps.{ends_forward, ends_reverse}
 use Rattle.dom_trans.proofs.dom_graph.DomGraph.transitions_from.Goals as goal
 

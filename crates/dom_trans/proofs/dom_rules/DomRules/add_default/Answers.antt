@@ -5,7 +5,7 @@ use Rattle.std.proofs.lemmas.Bool.{and_from, and_left, and_right}
 use Rattle.pol_bitmap.specs.Nodes.{bits_of}
 use Rattle.pol_file.specs.declared.Parts.{Parts}
 use Rattle.value_groups.specs.Among.{is_among}
-use Rattle.rule_ends.specs.PlainTypes.{is_type_value}
+use Rattle.pol_expand.specs.PlainTypes.{is_type_value}
 use Rattle.dom_trans.specs.Inner.Targets.{is_found, starts_at_point}
 use Rattle.dom_trans.proofs.Defaults.{default_is, no_start, none_starts, one_starts}
 use Rattle.dom_trans.proofs.dom_rules.DomRules.add_default.Goals as goal

@@ -1,6 +1,6 @@
 use Rattle.std.proofs.Common.{◌≡◌, take}
 use Rattle.std.specs.List.{filter}
-use Rattle.rule_ends.specs.ChosenRules.{begins_at}
+use Rattle.rules_between.specs.ChosenRules.{begins_at}
 use Rattle.dom_trans.proofs.dom_rules.DomRules.beginning_at.Given as goal
 
 abbrev pub invariant-loop-number : goal.invariant-loop-number

@@ -2,8 +2,9 @@ use Rattle.std.proofs.Common.{◌≡◌, ℕ, List, IfOk, ap, subst, ◌∙◌}
 use Rattle.std.specs.List.{filter}
 use Rattle.pol_bitmap.specs.declared.Node.{Node}
 use Rattle.pol_bitmap.specs.Nodes.{bits_of}
-use Rattle.rule_ends.specs.ChosenRules.{ChosenRules, any_joins}
-use Rattle.dom_trans.proofs.Entries.{points_started}
+use Rattle.rules_between.specs.ChosenRules.{ChosenRules}
+use Rattle.pol_expand.specs.JoinedTypes.{any_joins}
+use Rattle.dom_trans.proofs.FoundEntries.{points_started}
 use Rattle.dom_trans.proofs.dom_rules.DomRules.default_points.Goals as goal
 
 pub returns : goal.returns

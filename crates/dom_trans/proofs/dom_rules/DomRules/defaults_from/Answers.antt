@@ -3,8 +3,8 @@ use Rattle.std.specs.List.{filter}
 use Rattle.std.proofs.lemmas.Result.{IfOk-weaker}
 use Rattle.pol_file.specs.declared.Parts.{Parts}
 use Rattle.rule_order.specs.ListedOrder.{AreRules}
-use Rattle.rule_ends.specs.ChosenRules.{AreRulesFrom, ChosenRules, begins_at}
-use Rattle.rule_ends.proofs.TypesOutside.{type_within}
+use Rattle.rules_between.specs.ChosenRules.{AreRulesFrom, ChosenRules, begins_at}
+use Rattle.pol_expand.proofs.TypesOutside.{type_within}
 use Rattle.dom_trans.specs.Grants.{has_default}
 use Rattle.dom_trans.specs.Inner.EntryPoints.{AreDefaultsFrom}
 use Rattle.dom_trans.specs.Inner.RuleLists.{rules_to}

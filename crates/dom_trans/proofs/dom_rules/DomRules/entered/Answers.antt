@@ -2,9 +2,9 @@ use Rattle.std.proofs.Common.{◌≡◌, true, List, ap, ◌∙◌, arith}
 use Rattle.std.proofs.lemmas.Result.{IfOk-weaker}
 use Rattle.pol_bitmap.specs.declared.Node.{Node}
 use Rattle.pol_bitmap.specs.Nodes.{bits_of}
-use Rattle.rule_ends.specs.ChosenRules.{ChosenRules, sources_to_any}
+use Rattle.rules_between.specs.ChosenRules.{ChosenRules, sources_to_any}
 use Rattle.dom_trans.specs.Inner.Targets.{AreEntered}
-use Rattle.dom_trans.proofs.Targets.{entered_by_request}
+use Rattle.dom_trans.proofs.FoundTargets.{entered_by_request}
 use Rattle.dom_trans.proofs.dom_rules.DomRules.entered.Goals as goal
 
 pub returns : goal.returns

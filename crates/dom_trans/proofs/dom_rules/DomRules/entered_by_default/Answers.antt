@@ -8,11 +8,11 @@ use Rattle.pol_bitmap.specs.Nodes.{bits_of}
 use Rattle.pol_file.specs.declared.Parts.{Parts}
 use Rattle.value_groups.specs.Among.{is_among}
 use Rattle.value_groups.specs.Inner.Marking.{MarkedValues}
-use Rattle.rule_ends.specs.ChosenRules.{AreRulesFrom, ChosenRules}
+use Rattle.rules_between.specs.ChosenRules.{AreRulesFrom, ChosenRules}
 use Rattle.dom_trans.specs.Grants.{default_rules, granting_rules, file, execute}
 use Rattle.dom_trans.specs.Inner.Targets.{AreEntered, enters_by}
 use Rattle.dom_trans.proofs.Defaults.{all_parts, from_are_defaults, nothing_left, part_added, sorted_from}
-use Rattle.dom_trans.proofs.Targets.{entered_by_defaults, executes_types}
+use Rattle.dom_trans.proofs.FoundTargets.{entered_by_defaults, executes_types}
 use Rattle.dom_trans.proofs.dom_rules.DomRules.entered_by_default.Goals as goal
 
 pub loop-left-init : goal.loop-left-init

@@ -5,10 +5,11 @@ use Rattle.pol_bitmap.specs.Nodes.{bits_of}
 use Rattle.pol_bitmap.specs.Sets.{IsUnion}
 use Rattle.pol_bitmap.proofs.BitLists.{bits_increasing}
 use Rattle.pol_file.specs.declared.Parts.{Parts}
-use Rattle.rule_ends.specs.ChosenRules.{ChosenRules, sources_to, sources_to_any}
-use Rattle.rule_ends.specs.PlainTypes.{is_type_value}
+use Rattle.rules_between.specs.ChosenRules.{ChosenRules, sources_to_any}
+use Rattle.pol_expand.specs.JoinedTypes.{sources_to}
+use Rattle.pol_expand.specs.PlainTypes.{is_type_value}
 use Rattle.dom_trans.specs.Inner.Targets.{AreEntering}
-use Rattle.dom_trans.proofs.Sources.{entering_are, none_entering}
+use Rattle.dom_trans.proofs.FoundSources.{entering_are, none_entering}
 use Rattle.dom_trans.proofs.dom_rules.DomRules.entering.Goals as goal
 
 pub returns-then-not-is_type : goal.returns-then-not-is_type

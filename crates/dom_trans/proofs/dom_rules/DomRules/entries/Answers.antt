@@ -1,5 +1,5 @@
 use Rattle.std.proofs.Common.{◌≡◌, ℕ, List, IfOk, sym, subst, ◌∙◌}
-use Rattle.dom_trans.proofs.Entries.{entries_by_default, entries_by_request}
+use Rattle.dom_trans.proofs.FoundEntries.{entries_by_default, entries_by_request}
 use Rattle.dom_trans.proofs.dom_rules.DomRules.entries.Goals as goal
 
 pub returns-then-branch : goal.returns-then-branch

@@ -1,5 +1,5 @@
 use Rattle.std.proofs.Common.{ap, ◌∙◌}
-use Rattle.rule_ends.specs.ChosenRules.{ChosenRules, rules_between}
+use Rattle.rules_between.specs.ChosenRules.{ChosenRules, rules_between}
 use Rattle.dom_trans.proofs.Listed.{entry_is}
 use Rattle.dom_trans.proofs.dom_rules.DomRules.entry_reason.Goals as goal
 

@@ -2,8 +2,9 @@ use Rattle.std.proofs.Common.{◌≡◌, ℕ, List, IfOk, ap, subst, ◌∙◌}
 use Rattle.std.specs.List.{filter}
 use Rattle.pol_bitmap.specs.declared.Node.{Node}
 use Rattle.pol_bitmap.specs.Nodes.{bits_of}
-use Rattle.rule_ends.specs.ChosenRules.{ChosenRules, any_joins, targets_from}
-use Rattle.dom_trans.proofs.Entries.{executed_points, points_executed}
+use Rattle.rules_between.specs.ChosenRules.{ChosenRules}
+use Rattle.pol_expand.specs.JoinedTypes.{any_joins, targets_from}
+use Rattle.dom_trans.proofs.FoundEntries.{executed_points, points_executed}
 use Rattle.dom_trans.proofs.dom_rules.DomRules.executable_points.Goals as goal
 
 pub returns-in_ok-points : goal.returns-in_ok-points

@@ -4,7 +4,7 @@ use Rattle.std.specs.List.Sorted.{IsStrictlyIncreasing}
 use Rattle.std.proofs.lemmas.List.Kept.{IsStrictlyIncreasing-filter}
 use Rattle.pol_bitmap.specs.declared.Node.{Node}
 use Rattle.pol_bitmap.specs.Nodes.{bits_of}
-use Rattle.rule_ends.specs.ChosenRules.{any_joins}
+use Rattle.pol_expand.specs.JoinedTypes.{any_joins}
 use Rattle.dom_trans.specs.Inner.RuleLists.{rules_of}
 use Rattle.dom_trans.proofs.dom_rules.DomRules.having.Goals as goal
 

@@ -1,7 +1,7 @@
 use Rattle.std.proofs.Common.{◌≡◌, ◌++◌}
 use Rattle.std.specs.List.{filter}
 use Rattle.pol_bitmap.specs.Nodes.{bits_of}
-use Rattle.rule_ends.specs.ChosenRules.{any_joins}
+use Rattle.pol_expand.specs.JoinedTypes.{any_joins}
 use Rattle.dom_trans.specs.Inner.RuleLists.{rules_of}
 use Rattle.dom_trans.proofs.dom_rules.DomRules.having.Given as goal
 

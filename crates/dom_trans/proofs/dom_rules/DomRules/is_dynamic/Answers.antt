@@ -1,7 +1,8 @@
 use Rattle.std.proofs.Common.{◌≡◌, Bool, IfOk, ap, subst, sym, ◌∙◌}
 use Rattle.pol_file.specs.declared.Parts.{Parts}
-use Rattle.rule_ends.specs.PlainTypes.{are_two_types}
-use Rattle.rule_ends.specs.ChosenRules.{ChosenRules, any_joins}
+use Rattle.pol_expand.specs.PlainTypes.{are_two_types}
+use Rattle.rules_between.specs.ChosenRules.{ChosenRules}
+use Rattle.pol_expand.specs.JoinedTypes.{any_joins}
 use Rattle.dom_trans.proofs.Ways.{dynamic_of_others, dynamic_refused, dynamic_by_grant}
 use Rattle.dom_trans.proofs.dom_rules.DomRules.is_dynamic.Goals as goal
 

@@ -1,6 +1,6 @@
 use Rattle.std.proofs.Common.{◌≡◌, length, ap, subst, arith}
 use Rattle.pol_file.specs.declared.Parts.{Parts}
-use Rattle.rule_ends.specs.ChosenRules.{ChosenRules}
+use Rattle.rules_between.specs.ChosenRules.{ChosenRules}
 use Rattle.dom_trans.specs.Inner.RuleLists.{chosen, rules_of}
 use Rattle.dom_trans.proofs.Chosen.{list_at}
 use Rattle.dom_trans.proofs.dom_rules.DomRules.list.Goals as goal

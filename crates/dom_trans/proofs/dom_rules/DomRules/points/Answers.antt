@@ -1,6 +1,7 @@
 use Rattle.std.proofs.Common.{◌≡◌, IfOk, subst}
 use Rattle.pol_bitmap.specs.Nodes.{bits_of}
-use Rattle.rule_ends.specs.ChosenRules.{ChosenRules, targets_from}
+use Rattle.rules_between.specs.ChosenRules.{ChosenRules}
+use Rattle.pol_expand.specs.JoinedTypes.{targets_from}
 use Rattle.dom_trans.proofs.dom_rules.DomRules.points.Goals as goal
 
 pub returns : goal.returns

@@ -1,6 +1,6 @@
 use Rattle.std.proofs.Common.{◌≡◌, ℕ, [], cond, length, map, ap, sym, ◌∙◌, arith}
 use Rattle.std.specs.Prelude.{◌==◌, not, vec_len}
-use Rattle.rule_ends.specs.ChosenRules.{ChosenRules, rules_between}
+use Rattle.rules_between.specs.ChosenRules.{ChosenRules, rules_between}
 use Rattle.dom_trans.specs.Transitions.{is_standard}
 use Rattle.dom_trans.specs.ReasonLists.{entry_reason}
 use Rattle.dom_trans.proofs.Listed.{entries_listed, reasons_are}

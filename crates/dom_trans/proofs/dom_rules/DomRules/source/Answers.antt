@@ -1,5 +1,6 @@
 use Rattle.std.proofs.Common.{ap, ◌∙◌}
-use Rattle.rule_ends.specs.ChosenRules.{ChosenRules, targets_from}
+use Rattle.rules_between.specs.ChosenRules.{ChosenRules}
+use Rattle.pol_expand.specs.JoinedTypes.{targets_from}
 use Rattle.dom_trans.proofs.dom_rules.DomRules.source.Goals as goal
 
 pub returns : goal.returns

@@ -4,7 +4,7 @@ use Rattle.pol_bitmap.specs.declared.Node.{Node}
 use Rattle.pol_bitmap.specs.Nodes.{bits_of}
 use Rattle.pol_bitmap.specs.Sets.{IsUnion}
 use Rattle.dom_trans.specs.Inner.Targets.{AreSources}
-use Rattle.dom_trans.proofs.Sources.{sources_are}
+use Rattle.dom_trans.proofs.FoundSources.{sources_are}
 use Rattle.dom_trans.proofs.dom_rules.DomRules.sources.Goals as goal
 
 pub returns : goal.returns

@@ -2,7 +2,7 @@ use Rattle.std.proofs.Common.{◌≡◌, Bool, ℕ, List, [], length, ap, sym, �
 use Rattle.std.specs.Prelude.{◌==◌, not, if◌then◌else◌}
 use Rattle.std.proofs.lemmas.Result.{IfOk-weaker}
 use Rattle.dom_trans.specs.Transitions.{entries, is_standard}
-use Rattle.dom_trans.proofs.Entries.{allowed_type, standard_allowed, standard_refused}
+use Rattle.dom_trans.proofs.FoundEntries.{allowed_type, standard_allowed, standard_refused}
 use Rattle.dom_trans.proofs.dom_rules.DomRules.standard_entries.Goals as goal
 
 pub entries-requires : goal.entries-requires

@@ -1,7 +1,7 @@
 use Rattle.std.proofs.Common.{sym, ap, subst, ◌∙◌}
 use Rattle.std.specs.List.{All, Contains}
 use Rattle.pol_bitmap.specs.Nodes.{bits_of}
-use Rattle.rule_ends.specs.ChosenRules.{ChosenRules, targets_of_rules}
+use Rattle.rules_between.specs.ChosenRules.{ChosenRules, targets_of_rules}
 use Rattle.dom_trans.proofs.Defaults.{point_met}
 use Rattle.dom_trans.proofs.dom_rules.DomRules.start_at_point.Goals as goal
 

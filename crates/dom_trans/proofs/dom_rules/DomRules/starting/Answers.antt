@@ -4,13 +4,13 @@ use Rattle.std.specs.List.{filter}
 use Rattle.pol_bitmap.specs.declared.Node.{Node}
 use Rattle.pol_bitmap.specs.Nodes.{bits_of}
 use Rattle.pol_file.specs.declared.Parts.{Parts}
-use Rattle.rule_ends.specs.ChosenRules.{ChosenRules, common_sources}
-use Rattle.rule_ends.proofs.TypesOutside.{type_within}
-use Rattle.rule_ends.proofs.Shared.{nil_of}
+use Rattle.rules_between.specs.ChosenRules.{ChosenRules, common_sources}
+use Rattle.pol_expand.proofs.TypesOutside.{type_within}
+use Rattle.rules_between.proofs.Shared.{nil_of}
 use Rattle.dom_trans.specs.Grants.{default_rules, granting_rules, has_default, file, execute}
 use Rattle.dom_trans.specs.Inner.RuleLists.{rules_to}
 use Rattle.dom_trans.proofs.Defaults.{some_have_ends}
-use Rattle.dom_trans.proofs.Sources.{none_starting}
+use Rattle.dom_trans.proofs.FoundSources.{none_starting}
 use Rattle.dom_trans.proofs.dom_rules.DomRules.starting.Goals as goal
 
 pub rules_to-requires-clause-least : goal.rules_to-requires-clause-least

@@ -2,7 +2,7 @@ use Rattle.std.proofs.Common.{◌≡◌, ℕ, List, IfOk, ap, sym, subst, ◌∙
 use Rattle.std.specs.List.{All, Contains}
 use Rattle.pol_bitmap.specs.declared.Node.{Node}
 use Rattle.pol_bitmap.specs.Nodes.{bits_of}
-use Rattle.rule_ends.specs.ChosenRules.{ChosenRules, targets_of_rules}
+use Rattle.rules_between.specs.ChosenRules.{ChosenRules, targets_of_rules}
 use Rattle.dom_trans.proofs.Defaults.{from_the_list, starts_are}
 use Rattle.dom_trans.proofs.dom_rules.DomRules.starts_to.Goals as goal
 

@@ -4,9 +4,10 @@ use Rattle.std.proofs.lemmas.Result.{IfOk-weaker}
 use Rattle.pol_bitmap.specs.declared.Node.{Node}
 use Rattle.pol_bitmap.specs.Nodes.{bits_of}
 use Rattle.pol_bitmap.specs.Sets.{IsUnion}
-use Rattle.rule_ends.specs.ChosenRules.{ChosenRules, targets_from}
+use Rattle.rules_between.specs.ChosenRules.{ChosenRules}
+use Rattle.pol_expand.specs.JoinedTypes.{targets_from}
 use Rattle.dom_trans.specs.Inner.Targets.{AreTargets}
-use Rattle.dom_trans.proofs.Targets.{targets_standard, targets_both}
+use Rattle.dom_trans.proofs.FoundTargets.{targets_standard, targets_both}
 use Rattle.dom_trans.proofs.dom_rules.DomRules.targets.Goals as goal
 
 pub returns-then-not-source : goal.returns-then-not-source

@@ -3,7 +3,8 @@ use Rattle.std.specs.List.{filter}
 use Rattle.std.specs.List.Sorted.{IsStrictlyIncreasing}
 use Rattle.pol_bitmap.specs.declared.Node.{Node}
 use Rattle.pol_bitmap.specs.Nodes.{bits_of}
-use Rattle.rule_ends.specs.ChosenRules.{ChosenRules, sources_to}
+use Rattle.rules_between.specs.ChosenRules.{ChosenRules}
+use Rattle.pol_expand.specs.JoinedTypes.{sources_to}
 use Rattle.dom_trans.specs.Grants.{granting_rules, grants, process, dyntransition, setcurrent}
 use Rattle.dom_trans.proofs.Steps.{sources_rise}
 use Rattle.dom_trans.proofs.dom_rules.DomRules.turning.Goals as goal

@@ -4,7 +4,7 @@ use Rattle.perm_map.specs.PermissionMap.{weights_of}
 use Rattle.pol_file.specs.declared.Parts.{Parts}
 use Rattle.rule_order.specs.ListedOrder.{AreRules, in_rule_order}
 use Rattle.flow_search.specs.Flows.{gives_least, rule_numbers}
-use Rattle.flow_search.specs.Inner.FlowEdges.{FlowSearch}
+use Rattle.flow_search.specs.FlowEdges.{FlowSearch}
 use Rattle.flow_search.specs.Inner.FlowParts.{AreDistinct}
 use Rattle.flow_search.proofs.Giving.{numbers_are_rules, rules_give}
 use Rattle.flow_search.proofs.Results.{if_ok}

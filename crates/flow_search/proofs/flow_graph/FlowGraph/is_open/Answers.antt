@@ -1,7 +1,7 @@
 use Rattle.std.proofs.Common.{◌≡◌, subst}
 use Rattle.pol_bitmap.specs.Nodes.{bits_of}
-use Rattle.rule_ends.specs.PlainTypes.{types_outside}
-use Rattle.flow_search.specs.Inner.FlowEdges.{FlowSearch}
+use Rattle.pol_expand.specs.PlainTypes.{types_outside}
+use Rattle.flow_search.specs.FlowEdges.{FlowSearch}
 use Rattle.flow_search.proofs.Successors.{has_open}
 use Rattle.flow_search.proofs.flow_graph.FlowGraph.is_open.Goals as goal
 

@@ -3,7 +3,7 @@ use Rattle.pol_bitmap.specs.declared.Node.{Node}
 use Rattle.pol_bitmap.specs.Nodes.{bits_of}
 use Rattle.pol_bitmap.specs.Sets.{IsUnion}
 use Rattle.perm_map.specs.PermissionMap.{weights_of}
-use Rattle.flow_search.specs.Inner.FlowEdges.{FlowSearch}
+use Rattle.flow_search.specs.FlowEdges.{FlowSearch}
 use Rattle.flow_search.specs.Inner.FlowParts.{AreFlowRules, AreJoined, any_edge}
 use Rattle.flow_search.proofs.Results.{if_ok}
 use Rattle.flow_search.proofs.Successors.{rules_join}

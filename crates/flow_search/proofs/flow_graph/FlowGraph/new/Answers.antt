@@ -1,7 +1,7 @@
 use Rattle.std.proofs.Common.{◌<◌, ◌≤◌, ◌≡◌, ◌^◌, ℕ, true, length, subst, arith}
 use Rattle.std.specs.List.{All}
 use Rattle.pol_read.specs.StoredRules.{stored_rules}
-use Rattle.rule_ends.specs.ChosenRules.{is_between_types}
+use Rattle.pol_expand.specs.JoinedTypes.{is_between_types}
 use Rattle.perm_map.specs.PermissionMap.{weights_of}
 use Rattle.flow_search.specs.FlowWeights.{inwards, outwards}
 use Rattle.flow_search.specs.Inner.WeightTables.{Weighing}

@@ -2,8 +2,8 @@ use Rattle.std.proofs.Common.{◌≡◌, List, subst}
 use Rattle.pol_bitmap.specs.declared.Node.{Node}
 use Rattle.pol_bitmap.specs.Nodes.{bits_of}
 use Rattle.pol_bitmap.specs.Sets.{IsCommon}
-use Rattle.rule_ends.specs.PlainTypes.{types_outside}
-use Rattle.flow_search.specs.Inner.FlowEdges.{FlowSearch}
+use Rattle.pol_expand.specs.PlainTypes.{types_outside}
+use Rattle.flow_search.specs.FlowEdges.{FlowSearch}
 use Rattle.flow_search.specs.Inner.FlowParts.{IsOpenPart}
 use Rattle.flow_search.proofs.Results.{if_ok}
 use Rattle.flow_search.proofs.Successors.{open_part}

@@ -3,7 +3,7 @@ use Rattle.std.specs.List.{Contains}
 use Rattle.std.proofs.lemmas.List.Elements.{Contains-get_or}
 use Rattle.perm_map.specs.PermissionMap.{weights_of}
 use Rattle.flow_search.specs.Flows.{flow_rules}
-use Rattle.flow_search.specs.Inner.FlowEdges.{FlowSearch}
+use Rattle.flow_search.specs.FlowEdges.{FlowSearch}
 use Rattle.flow_search.proofs.Greatest.{rule_is_stored, weight_done}
 use Rattle.flow_search.proofs.flow_graph.FlowGraph.weight.Goals as goal
 

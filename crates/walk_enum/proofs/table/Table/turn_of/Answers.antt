@@ -2,7 +2,7 @@ use Rattle.std.proofs.Common.{◌≡◌, ◌+◌, ◌-◌, ℕ, suc, List, drop,
 use Rattle.std.specs.Prelude.{slice_index}
 use Rattle.std.specs.List.{Contains}
 use Rattle.walk_enum.specs.Walks.{walks_along}
-use Rattle.walk_enum.specs.Inner.Turns.{row_of, Ends}
+use Rattle.walk_enum.specs.Inner.Turns.{row_of, IsLast}
 use Rattle.walk_enum.proofs.Along.{starts, walk_length}
 use Rattle.walk_enum.proofs.Turning.{ends_at, ends_before, step_at}
 use Rattle.walk_enum.proofs.table.Table.turn_of.Goals as goal
@@ -14,7 +14,7 @@ loop-back-init c =
     let next = row_of c.args.self.now.rows.items in
     let to = c.args.self.now.to in
     let e : k - 0 ≡ k = omega arith in
-    subst (λ (n : ℕ). Ends (walks_along next (slice_index w n) to 0) (drop n w)) (sym e) (ends_at next c.args.self.now.from to k w c.requires.there)
+    subst (λ (n : ℕ). IsLast (walks_along next (slice_index w n) to 0) (drop n w)) (sym e) (ends_at next c.args.self.now.from to k w c.requires.there)
 
 pub node-requires : goal.node-requires
 node-requires c =
@@ -52,11 +52,11 @@ loop-back-preserved c =
     let row : c.nodes_at-row.result.now ≡ row_of rows (slice_index w i) =
     c.nodes_at-row.ensures ∙ ap (λ (rs : List (List ℕ)). row_of rs c.node.result) c.deref.ensures.value ∙ ap (row_of rows) (c.node.ensures ∙ ap (slice_index w) f) in
     let node : c.node-in-loop-back.result ≡ slice_index w (suc i) = c.node-in-loop-back.ensures ∙ ap (slice_index w) e in
-    let last : Ends (row_of rows (slice_index w i)) (slice_index w (suc i)) =
-    subst (λ (l : List ℕ). Ends l (slice_index w (suc i))) row (subst (Ends c.nodes_at-row.result.now) node c.in-None.ensures.none) in
-    let tail : Ends (walks_along next (slice_index w (suc i)) to back) (drop (suc i) w) =
-    subst (λ (n : ℕ). Ends (walks_along next (slice_index w n) to back) (drop n w)) e c.loop-back.invariant in
-    subst (λ (n : ℕ). Ends (walks_along next (slice_index w i) to n) (drop i w)) (sym (add-one back))
+    let last : IsLast (row_of rows (slice_index w i)) (slice_index w (suc i)) =
+    subst (λ (l : List ℕ). IsLast l (slice_index w (suc i))) row (subst (IsLast c.nodes_at-row.result.now) node c.in-None.ensures.none) in
+    let tail : IsLast (walks_along next (slice_index w (suc i)) to back) (drop (suc i) w) =
+    subst (λ (n : ℕ). IsLast (walks_along next (slice_index w n) to back) (drop n w)) e c.loop-back.invariant in
+    subst (λ (n : ℕ). IsLast (walks_along next (slice_index w i) to n) (drop i w)) (sym (add-one back))
     (ends_before next c.args.self.now.from to i back k w (omega (arith, c.loop-back-test.true)) c.requires.there last tail)
 
 pub returns-clause-none : goal.returns-clause-none
@@ -70,5 +70,5 @@ returns-clause-none c =
     let none : k - back ≡ 0 = omega (arith, all) in
     let s = starts next c.args.self.now.from to k w c.requires.there in
     let head : slice_index w 0 ≡ c.args.self.now.from = ap (λ (u : List ℕ). slice_index u 0) (sym s.1) in
-    subst (λ (x : ℕ). Ends (walks_along next x to k) w) head (subst (λ (n : ℕ). Ends (walks_along next (slice_index w 0) to n) w) all
-    (subst (λ (n : ℕ). Ends (walks_along next (slice_index w n) to back) (drop n w)) none c.loop-back.invariant))
+    subst (λ (x : ℕ). IsLast (walks_along next x to k) w) head (subst (λ (n : ℕ). IsLast (walks_along next (slice_index w 0) to n) w) all
+    (subst (λ (n : ℕ). IsLast (walks_along next (slice_index w n) to back) (drop n w)) none c.loop-back.invariant))

@@ -1,7 +1,0 @@
-use Rattle.std.proofs.Common.{◌≡◌, ◌++◌, take}
-use Rattle.std.specs.List.{flat_map}
-use Rattle.rule_ends.specs.Inner.EndRows.{rules_of}
-use Rattle.rule_ends.proofs.row_walking.push_rules_of_each.Given as goal
-
-abbrev pub invariant-loop-end : goal.invariant-loop-end
-invariant-loop-end l = l.found.items ≡ l.initial.found.items ++ flat_map (rules_of l.rows) (take l.end-index l.ends)

@@ -1,7 +1,0 @@
-use Rattle.std.proofs.Common.{◌≡◌, take}
-use Rattle.value_groups.specs.Inner.Grouping.{group_of}
-use Rattle.rule_ends.specs.Inner.EndTables.{rules_under}
-use Rattle.rule_ends.proofs.walking.rules_with.Given as goal
-
-abbrev pub invariant-loop-end : goal.invariant-loop-end
-invariant-loop-end l = l.found.items ≡ rules_under l.rules (group_of l.groups) (take l.end-index l.from)

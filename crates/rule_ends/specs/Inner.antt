@@ -1,2 +1,0 @@
-pub mod EndTables
-pub mod EndRows

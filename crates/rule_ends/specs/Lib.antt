@@ -1,4 +1,0 @@
-pub mod PlainTypes
-pub mod ChosenRules
-pub mod RulesByEnd
-pub mod Inner

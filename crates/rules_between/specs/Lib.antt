@@ -1,0 +1,2 @@
+pub mod ChosenRules
+pub mod Inner

@@ -1,0 +1,5 @@
+pub mod Rows
+pub mod RowPlaces
+pub mod Permuted
+pub mod Halves
+pub mod SortedParts

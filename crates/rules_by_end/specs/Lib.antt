@@ -1,0 +1,2 @@
+pub mod RulesByEnd
+pub mod Inner

@@ -1,4 +1,0 @@
-use Rattle.se_walks.proofs.writing.ends_of.Given as goal
-
-abbrev pub ghosts-counted_ends : goal.ghosts-counted_ends
-ghosts-counted_ends g a = record { name = a.blank.name; parts = a.blank.parts }
