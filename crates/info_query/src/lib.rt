@@ -1,4 +1,13 @@
-//! The lines of each listing of a policy.
+//! The lines of each listing of a policy, one after the other, as they are asked for ([`lines_of`], [`ListingLines`]).
+//!
+//! ```text
+//! let Some(mut lines) = lines_of(alloc, &policy, false, Listing::Types, None)? else {
+//!     return Ok(());
+//! };
+//! for _ in 0..lines.count() {
+//!     lines.push_line(&mut buffer)?;
+//! }
+//! ```
 #![tactic(auto)]
 
 mod capabilities;

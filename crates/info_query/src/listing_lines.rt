@@ -141,7 +141,7 @@ pub fn lines_of<'p, 'a>(
     }
 }
 
-// Those of the records of a table.
+// The lines of the records of a table.
 fn table_lines<'p, 'a>(
     alloc: Global,
     policy: &'p Policy<'a>,
@@ -157,7 +157,7 @@ fn table_lines<'p, 'a>(
     }
 }
 
-// Those of the constraints of a kind.
+// The lines of the constraints of a kind.
 fn constraints<'p, 'a>(
     alloc: Global,
     policy: &'p Policy<'a>,
@@ -172,7 +172,7 @@ fn constraints<'p, 'a>(
     }
 }
 
-// Those of default rules.
+// The lines of default rules.
 fn defaults<'p, 'a>(alloc: Global, policy: &'p Policy<'a>, name: Option<&[u8]>) -> Found<'p, 'a>
     ensures { IfOk result (λ lines. option_map left_of lines ≡ default_listing policy.now.symbols (option_map (λ name. name.now) name.entry)) }
 {
@@ -182,7 +182,7 @@ fn defaults<'p, 'a>(alloc: Global, policy: &'p Policy<'a>, name: Option<&[u8]>) 
     }
 }
 
-// Those of a set of types.
+// The lines of a set of types.
 fn types<'p, 'a>(
     alloc: Global,
     policy: &'p Policy<'a>,
@@ -198,7 +198,7 @@ fn types<'p, 'a>(
     }
 }
 
-// Those of attributes.
+// The lines of attributes.
 #[tactic(auto, unfolding(crate::specs::Listings::attribute_lines))]
 fn attributes<'p, 'a>(
     alloc: Global,
@@ -215,7 +215,7 @@ fn attributes<'p, 'a>(
     }
 }
 
-// Those of attributes with their types.
+// The lines of attributes with their types.
 #[tactic(auto, unfolding(crate::specs::Listings::attribute_lines))]
 fn statements<'p, 'a>(alloc: Global, policy: &'p Policy<'a>, name: Option<&[u8]>) -> Found<'p, 'a>
     ensures { IfOk result (λ lines. option_map left_of lines ≡ attribute_lines policy.now true (option_map (λ name. name.now) name.entry)) }

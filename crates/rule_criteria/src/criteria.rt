@@ -1,3 +1,4 @@
+// Criteria of a search, and how the text of one is compared.
 ghost use Rattle.std.specs.Prelude.{◌≡◌};
 ghost use Rattle.rule_criteria.specs.Modes.{is_pattern, is_direct};
 

@@ -1,3 +1,4 @@
+// The text of a criterion.
 ghost use Rattle.std.specs.Prelude.{◌≡◌, string_bytes};
 
 use std::marker::Model;

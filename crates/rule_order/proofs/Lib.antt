@@ -6,3 +6,5 @@ pub mod KeyOrder
 pub mod SortedNumbers
 pub mod GatheredKeys
 pub mod ListedOnce
+pub mod FirstOrdered
+pub mod LeastRules

@@ -10,9 +10,11 @@
 mod key_list;
 mod keys;
 mod laws;
+mod least_keys;
 mod rule_keys;
 mod sorting;
 
 pub use laws::{rules_are_listed_once, rules_have_one_order};
+pub use least_keys::LeastKeys;
 pub use rule_keys::RuleKeys;
 pub use sorting::sort_by_rule_order;

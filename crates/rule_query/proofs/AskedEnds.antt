@@ -9,9 +9,9 @@ use Rattle.rule_criteria.specs.declared.Criterion.{Criterion}
 use Rattle.rule_query.specs.declared.given.Aspect.{Aspect}
 use Rattle.rule_query.specs.declared.given.Aspect.TheVariants.{Source, Target, Class, Permissions, Numbers, Default, Booleans}
 use Rattle.rule_query.specs.declared.tests.Test.{Test}
-use Rattle.rule_query.specs.Given.{Given, given_as, in_word_order, source_given, target_given, with_all, with_given}
-use Rattle.rule_query.specs.Inner.Resolved.{AreTypesOf}
-use Rattle.rule_query.specs.Inner.Tests.{first_of}
+use Rattle.rule_query.specs.GivenCriteria.{Given, given_as, in_word_order, source_given, target_given, with_all, with_given}
+use Rattle.rule_query.specs.Queries.{AreTypesOf}
+use Rattle.rule_query.specs.QueryTests.{first_of}
 
 -- ---- the first of some things
 

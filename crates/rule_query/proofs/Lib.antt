@@ -1,4 +1,5 @@
 pub mod WordOrder
+pub mod GivenOrder
 pub mod TypeEnds
 pub mod MeantValues
 pub mod NodeTests

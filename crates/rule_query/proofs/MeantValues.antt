@@ -15,7 +15,7 @@ use Rattle.named_values.specs.Found.{is_found}
 use Rattle.rule_criteria.specs.Modes.{is_pattern}
 use Rattle.rule_criteria.specs.declared.Criterion.{Criterion}
 use Rattle.rule_query.specs.Ends.{is_meant}
-use Rattle.rule_query.specs.Inner.Tests.{HasPattern, is_asked_name, is_asked_type}
+use Rattle.rule_query.specs.Inner.LookedUp.{HasPattern, is_asked_name, is_asked_type}
 
 -- ---- a set of values where the criterion is a pattern, and where it is none
 

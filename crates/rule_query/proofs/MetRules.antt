@@ -1,5 +1,5 @@
 -- Rules that are gathered in file order: one rule more, and where those of the next conditional node stand.
-use Rattle.std.proofs.Common.{◌≡◌, ℕ, suc, ◌+◌, ◌-◌, ◌<◌, Bool, true, false, Some, List, [], ◌∷◌, ◌++◌, length, map, slice_get, refl, sym, ap, subst, ◌∙◌, append-nil, arith}
+use Rattle.std.proofs.Common.{◌≡◌, ℕ, suc, ◌+◌, ◌-◌, ◌<◌, Bool, true, false, Option, Some, List, [], ◌∷◌, ◌++◌, length, map, slice_get, refl, sym, ap, subst, ◌∙◌, append-nil, arith}
 use Rattle.std.specs.List.{flat_map, range_with_len}
 use Rattle.std.proofs.lemmas.List.{length-append}
 use Rattle.std.proofs.lemmas.Option.{slice_get_within}
@@ -10,19 +10,22 @@ use Rattle.pol_file.specs.declared.Parts.{Parts}
 use Rattle.pol_read.specs.DeclaredRules.{IsDeclaredRule}
 use Rattle.pol_read.specs.StoredRules.{StoredRule, av_rule, rules_of_branch, rules_of_node, stored_rules}
 use Rattle.pol_read.proofs.RuleSums.{get_left, get_right}
-use Rattle.rule_order.specs.declared.keys.Key.{Key}
-use Rattle.rule_order.specs.RuleKeys.{AreGathered}
+use Rattle.rule_query.specs.declared.found_rules.FoundRules.{FoundRules}
 use Rattle.rule_query.specs.declared.query.Query.{Query}
+use Rattle.rule_order.specs.ListedOrder.{in_rule_order}
+use Rattle.rule_criteria.specs.declared.Criteria.{Criteria}
+use Rattle.rule_query.specs.Inner.FoundRules.{AreFound, first_ones, limit_of}
 use Rattle.rule_query.specs.Inner.Gathering.{HasMet, StandFrom}
-use Rattle.rule_query.specs.Meeting.{meets}
-use Rattle.rule_query.specs.Inner.Tests.{passes}
+use Rattle.rule_query.specs.Meeting.{meeting, meets}
+use Rattle.rule_query.specs.Queries.{IsQueryOf}
+use Rattle.rule_query.specs.QueryTests.{passes}
 use Rattle.rule_query.proofs.Passing.{kept_next, meets_at}
 
 -- ---- one rule more
 
 module _ (policy : Parts) (query : Query) (rule : StoredRule) (n : ℕ) (there : slice_get (stored_rules policy) n ≡ Some rule) where
   -- a rule that passes
-  pub met_passing : (old new : List Key) → IsDeclaredRule policy rule → passes policy.symbols query rule ≡ true → ((numbers : List ℕ) → AreGathered policy numbers old → AreGathered policy (numbers ++ n ∷ []) new) → HasMet policy query n old → HasMet policy query (n + 1) new
+  pub met_passing : (old new : FoundRules) → IsDeclaredRule policy rule → passes policy.symbols query rule ≡ true → ((numbers : List ℕ) → AreFound policy numbers old → AreFound policy (numbers ++ n ∷ []) new) → HasMet policy query n old → HasMet policy query (n + 1) new
   met_passing old new declared passing added met = record {
     within = omega (arith, slice_get_within (stored_rules policy) n rule there);
     few = met.few;
@@ -34,7 +37,7 @@ module _ (policy : Parts) (query : Query) (rule : StoredRule) (n : ℕ) (there :
   }
 
   -- one that does not
-  pub met_failing : (found : List Key) → IsDeclaredRule policy rule → passes policy.symbols query rule ≡ false → HasMet policy query n found → HasMet policy query (n + 1) found
+  pub met_failing : (found : FoundRules) → IsDeclaredRule policy rule → passes policy.symbols query rule ≡ false → HasMet policy query n found → HasMet policy query (n + 1) found
   met_failing found declared failing met = record {
     within = omega (arith, slice_get_within (stored_rules policy) n rule there);
     few = met.few;
@@ -44,6 +47,17 @@ module _ (policy : Parts) (query : Query) (rule : StoredRule) (n : ℕ) (there :
         kept_next (meets policy criteria) n met.numbers met.numbers false (met.meet criteria is) (sym (append-nil met.numbers))
         (meets_at policy criteria query rule n false is declared there (sym failing));
   }
+
+-- ---- all rules
+
+-- the numbers that are listed of the rules that are found
+pub listed_are : (policy : Parts) (query : Query) (found : FoundRules) (limit : Option ℕ) (listed : List ℕ) → limit_of found ≡ limit → HasMet policy query (length (stored_rules policy)) found
+    → ((numbers : List ℕ) → AreFound policy numbers found → listed ≡ first_ones (limit_of found) (in_rule_order policy numbers))
+    → (criteria : Criteria) → IsQueryOf policy criteria query → listed ≡ first_ones limit (in_rule_order policy (meeting policy criteria))
+listed_are policy query found limit listed same met are criteria is =
+    are met.numbers met.gathered
+    ∙ ap (λ (o : Option ℕ). first_ones o (in_rule_order policy met.numbers)) same
+    ∙ ap (λ (numbers : List ℕ). first_ones limit (in_rule_order policy numbers)) (met.meet criteria is)
 
 -- ---- rules that stand one behind the other
 

@@ -18,16 +18,16 @@ use Rattle.pol_read.specs.StoredRules.{StoredRule, av_rule, stored_rules}
 use Rattle.pol_read.proofs.RuleSums.{section_sizes, table_first}
 use Rattle.pol_read.proofs.RulesDeclared.{rule_is_declared, source_of, target_of}
 use Rattle.pol_symbols.specs.declared.Symbols.{Symbols}
-use Rattle.rule_order.specs.declared.keys.Key.{Key}
 use Rattle.rule_tests.specs.AskedKinds.{is_kind_asked}
 use Rattle.rule_tests.specs.Inner.AskedVectors.{VectorMarks, is_asked_at, is_kind_marked, is_standing, is_value_asked, low_marks, may_be_asked, standing_at}
 use Rattle.rule_tests.proofs.KindMarks.{kind_marked}
+use Rattle.rule_query.specs.declared.found_rules.FoundRules.{FoundRules}
 use Rattle.rule_query.specs.declared.query.Query.{Query}
 use Rattle.rule_query.specs.declared.tests.Test.{Test}
 use Rattle.rule_query.specs.declared.tests.Test.TheVariants as tests
 use Rattle.rule_query.specs.Inner.Gathering.{Gathers, HasMet, PassesOver, is_passing, passes_at}
 use Rattle.rule_query.specs.Inner.MarkedSets.{AreMarksOf, AreMarksOfSome}
-use Rattle.rule_query.specs.Inner.Tests.{first_of, has_end, rule_test, source_types, sources_of, target_types, targets_of}
+use Rattle.rule_query.specs.QueryTests.{first_of, has_end, rule_test, source_types, sources_of, target_types, targets_of}
 use Rattle.rule_query.proofs.MetRules.{met_failing}
 use Rattle.value_groups.specs.Inner.Marking.{MarkedValues}
 
@@ -130,7 +130,7 @@ gathered asked wanted (suc count) from only =
 
 -- ---- rules that are passed over
 
-module _ (policy : Parts) (query : Query) (bytes : List ℕ) (found : List Key) (accepted : accept bytes ≡ Ok policy) where
+module _ (policy : Parts) (query : Query) (bytes : List ℕ) (found : FoundRules) (accepted : accept bytes ≡ Ok policy) where
   one_passed : (n : ℕ) → n < length (stored_rules policy) → passes_at policy query n ≡ false → HasMet policy query n found → HasMet policy query (n + 1) found
   unfolding passes_at
   one_passed n lt e met =
@@ -159,18 +159,18 @@ gathered_passing policy query marks from to over rises within =
     rw behind at (gathered (is_asked_at marks policy.rules.table) (passes_at policy query) (to - from) from (λ n lt e. passed_at policy query marks n over (omega (arith, lt, behind, within)) e))
 
 -- numbers that are left, behind the rules that were gone through
-pub record AreLeft (policy : Parts) (query : Query) (found : List Key) (numbers : List ℕ) (to : ℕ) : Type 0 where
+pub record AreLeft (policy : Parts) (query : Query) (found : FoundRules) (numbers : List ℕ) (to : ℕ) : Type 0 where
   pub from : ℕ
   pub met : HasMet policy query from found
   pub gathered : Gathers (passes_at policy query) from numbers to
 
 -- the first of them
-pub record IsNext (policy : Parts) (query : Query) (found : List Key) (number : ℕ) (numbers : List ℕ) (to : ℕ) : Type 0 where
+pub record IsNext (policy : Parts) (query : Query) (found : FoundRules) (number : ℕ) (numbers : List ℕ) (to : ℕ) : Type 0 where
   pub below : number < to
   pub met : HasMet policy query number found
   pub gathered : Gathers (passes_at policy query) (number + 1) numbers to
 
-module _ (policy : Parts) (query : Query) (bytes : List ℕ) (found : List Key) (accepted : accept bytes ≡ Ok policy) (to : ℕ) (within : to ≤ length policy.rules.table) where
+module _ (policy : Parts) (query : Query) (bytes : List ℕ) (found : FoundRules) (accepted : accept bytes ≡ Ok policy) (to : ℕ) (within : to ≤ length policy.rules.table) where
   pub next_number : (numbers : List ℕ) (i : ℕ) (d : ℕ) → i < length numbers → AreLeft policy query found (drop i numbers) to → IsNext policy query found (get_or numbers i d) (drop (i + 1) numbers) to
   next_number numbers i d lt left =
       let number = get_or numbers i d in

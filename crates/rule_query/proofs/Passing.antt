@@ -10,10 +10,11 @@ use Rattle.pol_read.specs.StoredRules.{StoredRule, stored_rules}
 use Rattle.rule_criteria.specs.declared.Criteria.{Criteria}
 use Rattle.rule_query.specs.declared.tests.Test.{Test}
 use Rattle.rule_query.specs.declared.query.Query.{Query}
-use Rattle.rule_query.specs.Given.{Given, in_word_order, source_given, target_given}
+use Rattle.rule_query.specs.GivenCriteria.{Given, in_word_order, source_given, target_given}
 use Rattle.rule_query.specs.Meeting.{meets, meets_found, meets_given, meets_rule}
-use Rattle.rule_query.specs.Inner.Tests.{first_of, passes, rule_test, sources_of, targets_of}
-use Rattle.rule_query.specs.Inner.Resolved.{AreSameTests, AreTypesOf, IsQueryOf, Gains}
+use Rattle.rule_query.specs.QueryTests.{first_of, passes, rule_test, sources_of, targets_of}
+use Rattle.rule_query.specs.Inner.Resolved.{AreSameTests, Gains}
+use Rattle.rule_query.specs.Queries.{AreTypesOf, IsQueryOf}
 use Rattle.rule_query.proofs.AskedEnds.{asked_more, source_in_order, target_in_order}
 
 -- tests pass the declared rules that meet these criteria, and have the types that they ask for

@@ -13,12 +13,13 @@ use Rattle.rule_query.specs.declared.resolving.QueryError.{QueryError}
 use Rattle.rule_query.specs.declared.resolving.QueryError.TheVariants.{UnknownName, BadNumber, BadPattern, Memory}
 use Rattle.rule_query.specs.declared.tests.Test.{Test}
 use Rattle.rule_query.specs.declared.given.GivenCriterion.{GivenCriterion}
-use Rattle.rule_query.specs.Given.{Given, in_word_order, shown}
+use Rattle.rule_query.specs.GivenCriteria.{Given, in_word_order, shown}
 use Rattle.rule_tests.proofs.ClassPermissions.{take_get}
 use Rattle.rule_query.specs.Refusals.{is_pattern_word, pattern_texts}
 use Rattle.rule_query.specs.Inner.Resolved.{AreSameTests, Gains}
 use Rattle.rule_query.specs.AskedPatterns.{AskedFor, IsFaulty}
-use Rattle.rule_query.specs.Inner.Resolving.{Passes, Stops, Ends, Resolves, AskEnds, Asks}
+use Rattle.rule_query.specs.Resolving.{Passes, Stops, FailsAs, Resolves}
+use Rattle.rule_query.specs.Inner.ResolvingWords.{AskEnds, Asks}
 use Rattle.rule_query.proofs.Passing.{PassAlike, no_tests, one_test, put_alike, query_is}
 
 -- ---- texts that are asked for
@@ -65,7 +66,7 @@ module _ (policy : Parts) (criteria : Criteria) (old mid new : Option (List (Lis
     stops : (word : ℕ) → word ≡ given.criterion.word → Stops policy criteria done given word
     stops word e = record { after = after; order = order; passed = so_far.passed; word_is = sym e }
 
-    ends_at : (error : QueryError) → AskEnds policy.symbols criteria.kinds given mid new now later error → now ≤ later → Ends policy criteria old new past later error
+    ends_at : (error : QueryError) → AskEnds policy.symbols criteria.kinds given mid new now later error → now ≤ later → FailsAs policy criteria old new past later error
     ends_at (UnknownName word) e le = record { before = done; given = given; stops = stops word e.0; refused = e.1; asked = asked_same old mid new (pattern_texts done) so_far.asked e.2 }
     ends_at (BadNumber word) e le = record { before = done; given = given; stops = stops word e.0; refused = e.1; asked = asked_same old mid new (pattern_texts done) so_far.asked e.2 }
     ends_at (BadPattern word kind) e le = record {

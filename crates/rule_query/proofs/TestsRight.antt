@@ -8,13 +8,13 @@ use Rattle.pol_file.specs.declared.Parts.{Parts}
 use Rattle.pol_read.specs.DeclaredRules.{IsDeclaredIn}
 use Rattle.rule_criteria.specs.declared.Criterion.{Criterion}
 use Rattle.rule_tests.specs.declared.PermissionTest.{PermissionTest}
-use Rattle.rule_tests.specs.Inner.Tests.{IsPermissionTest}
+use Rattle.rule_tests.specs.PartTests.{IsPermissionTest}
 use Rattle.rule_tests.proofs.PermissionTests.{permissions_are}
 use Rattle.rule_query.specs.declared.given.Aspect.TheVariants as aspects
 use Rattle.rule_query.specs.declared.ends.Ends.{Ends}
 use Rattle.rule_query.specs.declared.tests.Test.TheVariants as tests
 use Rattle.rule_query.specs.Ends.{is_meant, meets_type}
-use Rattle.rule_query.specs.Inner.Tests.{AreEnds, AreMeant}
+use Rattle.rule_query.specs.Inner.LookedUp.{AreEnds, AreMeant}
 use Rattle.rule_query.specs.Inner.Resolved.{IsTestOf}
 
 -- ---- ends

@@ -26,7 +26,7 @@ use Rattle.named_values.proofs.Tests.{any_from_there, there_from_any}
 use Rattle.rule_criteria.specs.Modes.{is_pattern}
 use Rattle.rule_criteria.specs.declared.Criterion.{Criterion}
 use Rattle.rule_query.specs.Ends.{expands_to, shares_with}
-use Rattle.rule_query.specs.Inner.Tests.{is_asked_name, is_asked_type, is_in_expansion}
+use Rattle.rule_query.specs.Inner.LookedUp.{is_asked_name, is_asked_type, is_in_expansion}
 use Rattle.rule_tests.proofs.ListTests.{same_tests, any_from, any_to, none_passes}
 
 -- ---- declared types

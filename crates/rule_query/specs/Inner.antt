@@ -1,7 +1,8 @@
+pub mod FoundRules
 pub mod Gathering
 pub mod MarkedSets
 pub mod NumberedRules
 pub mod Refusing
-pub mod Tests
+pub mod LookedUp
 pub mod Resolved
-pub mod Resolving
+pub mod ResolvingWords

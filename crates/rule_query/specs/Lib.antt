@@ -1,7 +1,10 @@
-pub mod Given
+pub mod GivenCriteria
 pub mod Ends
 pub mod Listed
 pub mod Meeting
 pub mod Refusals
 pub mod AskedPatterns
+pub mod QueryTests
+pub mod Queries
+pub mod Resolving
 pub mod Inner

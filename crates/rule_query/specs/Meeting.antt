@@ -9,11 +9,11 @@ use Rattle.rule_criteria.specs.declared.Criteria.{Criteria}
 use Rattle.rule_criteria.specs.declared.Criterion.{Criterion}
 use Rattle.rule_query.specs.declared.given.Aspect.{Aspect}
 use Rattle.rule_query.specs.declared.given.Aspect.TheVariants.{Source, Target, Class, Permissions, Numbers, Default, Booleans}
-use Rattle.rule_query.specs.Given.{Given, in_word_order}
+use Rattle.rule_query.specs.GivenCriteria.{Given, in_word_order}
 use Rattle.rule_query.specs.Ends.{meets_end}
 use Rattle.rule_tests.specs.AskedKinds.{is_kind_asked}
-use Rattle.rule_tests.specs.Permissions.{meets_permissions}
-use Rattle.rule_tests.specs.Numbers.{meets_numbers}
+use Rattle.rule_tests.specs.AskedPermissions.{meets_permissions}
+use Rattle.rule_tests.specs.AskedNumbers.{meets_numbers}
 use Rattle.rule_query.specs.Listed.{meets_class, meets_default, meets_condition}
 
 -- ---- rules

@@ -16,10 +16,10 @@ use Rattle.rule_query.specs.declared.given.Aspect.{Aspect}
 use Rattle.rule_query.specs.declared.given.Aspect.TheVariants as aspects
 use Rattle.rule_query.specs.declared.refusing.Refusal.{Refusal}
 use Rattle.rule_query.specs.declared.refusing.Refusal.TheVariants.{NotThere, NoNumber}
-use Rattle.rule_query.specs.Given.{Given}
+use Rattle.rule_query.specs.GivenCriteria.{Given}
 use Rattle.rule_tests.specs.AskedKinds.{is_kind_asked}
-use Rattle.rule_tests.specs.Permissions.{is_among}
-use Rattle.rule_tests.specs.Numbers.{span_of}
+use Rattle.rule_tests.specs.AskedPermissions.{is_one_of}
+use Rattle.rule_tests.specs.AskedNumbers.{span_of}
 
 -- ---- the kinds of rules
 
@@ -27,7 +27,7 @@ use Rattle.rule_tests.specs.Numbers.{span_of}
 abbrev pub all_kinds : List RuleKind
 all_kinds = Allow ∷ Auditallow ∷ Dontaudit ∷ AllowXperm ∷ AuditallowXperm ∷ DontauditXperm ∷ TypeTransition ∷ TypeChange ∷ TypeMember ∷ RoleAllow ∷ RoleTransition ∷ RangeTransition ∷ []
 
--- those whose rules have a default
+-- the kinds whose rules have a default
 abbrev pub default_kinds : List RuleKind
 default_kinds = TypeTransition ∷ TypeChange ∷ TypeMember ∷ RoleTransition ∷ []
 
@@ -43,7 +43,7 @@ is_end_missing symbols kinds some table_of name = list_any (λ kind. is_kind_ask
 
 -- a permission of the name is among some
 abbrev pub is_permission_of : List PermissionRec → List ℕ → Bool
-is_permission_of permissions name = is_among (map (λ permission. permission.name) permissions) name
+is_permission_of permissions name = is_one_of (map (λ permission. permission.name) permissions) name
 
 -- a class or a common has a permission of the name
 abbrev pub is_permission : Symbols → List ℕ → Bool
@@ -63,7 +63,7 @@ is_pattern_word given = may_be_pattern given.aspect && is_pattern given.criterio
 abbrev pub refuse_if : Bool → Refusal → Option Refusal
 refuse_if test refusal = if test then Some refusal else None
 
--- that of a criterion that is no pattern
+-- why a criterion that is no pattern is refused
 abbrev pub refusal_of_names : Symbols → List Bool → Aspect → List ℕ → Option Refusal
 refusal_of_names symbols kinds aspects.Source text = refuse_if (is_end_missing symbols kinds all_kinds source_table text) NotThere
 refusal_of_names symbols kinds aspects.Target text = refuse_if (is_end_missing symbols kinds all_kinds target_table text) NotThere

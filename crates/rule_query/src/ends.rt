@@ -6,7 +6,7 @@ ghost use Rattle.pol_file.specs.TypeValues.{IsTypeValue};
 ghost use Rattle.pol_expand.specs.PolicyMap.{IsPolicyMap, expand};
 ghost use Rattle.pol_read.specs.DeclaredRules.{IsDeclaredIn};
 ghost use Rattle.rule_query.specs.Ends.{is_meant, meets_type, expands_to};
-ghost use Rattle.rule_query.specs.Inner.Tests.{AreEnds, AreMeant, HasPattern, IsMapIfMade, is_asked_name, is_asked_type};
+ghost use Rattle.rule_query.specs.Inner.LookedUp.{AreEnds, AreMeant, HasPattern, IsMapIfMade, is_asked_name, is_asked_type};
 
 use crate::marked_set::MarkedSet;
 use named_values::{values_found, values_named};
@@ -33,9 +33,9 @@ impl Drop for Ends {
 }
 
 impl Ends {
-    ghost use Rattle.rule_query.specs.Inner.Tests.{has_end};
+    ghost use Rattle.rule_query.specs.QueryTests.{has_end};
 
-    // Those of a set of types and one of roles.
+    // The ends of a set of types and one of roles.
     fn of(alloc: Global, types: Set, roles: Set) -> Result<Ends, AllocError>
         ensures types { IfOk result (λ ends. ends.types ≡ types) }
         ensures roles { IfOk result (λ ends. ends.roles ≡ roles) }
@@ -156,7 +156,7 @@ fn made_map(
     }
 }
 
-// Those that expand to some type that is asked.
+// The types and attributes that expand to some type that is asked.
 fn expanding(
     alloc: Global,
     policy: &Policy<'_>,

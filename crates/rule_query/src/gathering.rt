@@ -1,16 +1,16 @@
 // The rules that meet a query, gathered section by section, where they stand.
 ghost use Rattle.std.specs.Prelude.{◌≡◌, ◌+◌, ◌<◌, ◌≤◌, [], Some, IfOk, OnOk, length, option_map, slice_get};
 ghost use Rattle.pol_read.specs.StoredRules.{av_rule, ends_of, rules_of_branch, rules_of_node, stored_rules};
-ghost use Rattle.rule_order.specs.RuleKeys.{AreGathered};
+ghost use Rattle.rule_query.specs.Inner.FoundRules.{AreFound, limit_of};
 ghost use Rattle.rule_query.specs.Inner.Gathering.{HasMet, PassesOver, StandFrom};
 ghost use Rattle.rule_query.specs.Inner.MarkedSets.{AreMarksOfSome};
-ghost use Rattle.rule_query.specs.Inner.Tests.{first_of, types_of};
+ghost use Rattle.rule_query.specs.QueryTests.{first_of, types_of};
 
+use crate::found_rules::FoundRules;
 use crate::given::Aspect;
 use crate::query::Query;
 use pol_avtab::AvView;
 use pol_read::{Condition, Policy, RuleEnds, vector_ends};
-use rule_order::RuleKeys;
 use rule_tests::AskedVectors;
 use std::alloc::AllocError;
 use value_groups::DenseSet;
@@ -21,10 +21,11 @@ impl Query {
     pub(crate) fn add_all(
         &self,
         policy: &Policy<'_>,
-        found: &mut RuleKeys,
+        found: &mut FoundRules,
     ) -> Result<(), AllocError>
-        requires { AreGathered policy.now [] found.old }
-        ensures { OnOk result (HasMet policy.now self.now (length (stored_rules policy.now)) found.new) }
+        requires { AreFound policy.now [] found.old }
+        ensures limit { OnOk result (limit_of found.new ≡ limit_of found.old) }
+        ensures found { OnOk result (HasMet policy.now self.now (length (stored_rules policy.now)) found.new) }
     {
         let count = policy.rule_count();
         let asked = self.asked_vectors();
@@ -41,11 +42,12 @@ impl Query {
         &self,
         policy: &Policy<'_>,
         asked: &AskedVectors<'_>,
-        found: &mut RuleKeys,
+        found: &mut FoundRules,
     ) -> Result<(), AllocError>
         requires asked { PassesOver self.now asked.now }
         requires found { HasMet policy.now self.now 0 found.old }
-        ensures { OnOk result (HasMet policy.now self.now (length policy.now.rules.table) found.new) }
+        ensures limit { OnOk result (limit_of found.new ≡ limit_of found.old) }
+        ensures found { OnOk result (HasMet policy.now self.now (length policy.now.rules.table) found.new) }
     {
         let count = policy.table().len();
         let mut from = 0;
@@ -81,14 +83,15 @@ impl Query {
         asked: &AskedVectors<'_>,
         from: u32,
         to: u32,
-        found: &mut RuleKeys,
+        found: &mut FoundRules,
     ) -> Result<(), AllocError>
         requires rising { from ≤ to }
         requires within { to ≤ length policy.now.rules.table }
         requires few { to ≤ from + 128 }
         requires asked { PassesOver self.now asked.now }
         requires found { HasMet policy.now self.now from found.old }
-        ensures { OnOk result (HasMet policy.now self.now to found.new) }
+        ensures limit { OnOk result (limit_of found.new ≡ limit_of found.old) }
+        ensures found { OnOk result (HasMet policy.now self.now to found.new) }
     {
         // the policy was accepted, and so what its rules name is declared
         policy.is_accepted();
@@ -107,11 +110,12 @@ impl Query {
         &self,
         policy: &Policy<'_>,
         number: u32,
-        found: &mut RuleKeys,
+        found: &mut FoundRules,
     ) -> Result<(), AllocError>
         requires within { number < length policy.now.rules.table }
         requires found { HasMet policy.now self.now number found.old }
-        ensures { OnOk result (HasMet policy.now self.now (number + 1) found.new) }
+        ensures limit { OnOk result (limit_of found.new ≡ limit_of found.old) }
+        ensures found { OnOk result (HasMet policy.now self.now (number + 1) found.new) }
     {
         let ends = vector_ends(policy.table().view(number).key());
         self.add_met(policy, number, ends, found)
@@ -122,11 +126,12 @@ impl Query {
         &self,
         policy: &Policy<'_>,
         asked: &AskedVectors<'_>,
-        found: &mut RuleKeys,
+        found: &mut FoundRules,
     ) -> Result<u32, AllocError>
         requires asked { PassesOver self.now asked.now }
         requires found { HasMet policy.now self.now (length policy.now.rules.table) found.old }
-        ensures { IfOk result (λ next. HasMet policy.now self.now next found.new) }
+        ensures limit { IfOk result (λ next. limit_of found.new ≡ limit_of found.old) }
+        ensures found { IfOk result (λ next. HasMet policy.now self.now next found.new) }
     {
         let mut next = policy.table().len();
         for node in 0..policy.conditionals().len() {
@@ -142,12 +147,13 @@ impl Query {
         asked: &AskedVectors<'_>,
         node: u32,
         first: u32,
-        found: &mut RuleKeys,
+        found: &mut FoundRules,
     ) -> Result<u32, AllocError>
         requires asked { PassesOver self.now asked.now }
         requires node { node < length policy.now.rules.conditionals }
         requires rules { StandFrom policy.now first (rules_of_node policy.now.rules.conditionals node) }
         requires found { HasMet policy.now self.now first found.old }
+        ensures limit { IfOk result (λ next. limit_of found.new ≡ limit_of found.old) }
         ensures next { IfOk result (λ next. next ≡ first + length (rules_of_node policy.now.rules.conditionals node)) }
         ensures found { IfOk result (λ next. HasMet policy.now self.now next found.new) }
     {
@@ -167,12 +173,13 @@ impl Query {
         asked: &AskedVectors<'_>,
         condition: Condition,
         first: u32,
-        found: &mut RuleKeys,
+        found: &mut FoundRules,
     ) -> Result<u32, AllocError>
         requires asked { PassesOver self.now asked.now }
         requires node { condition.node < length policy.now.rules.conditionals }
         requires rules { StandFrom policy.now first (rules_of_branch policy.now.rules.conditionals condition.node condition.branch) }
         requires found { HasMet policy.now self.now first found.old }
+        ensures limit { IfOk result (λ next. limit_of found.new ≡ limit_of found.old) }
         ensures next { IfOk result (λ next. next ≡ first + length (rules_of_branch policy.now.rules.conditionals condition.node condition.branch)) }
         ensures found { IfOk result (λ next. HasMet policy.now self.now next found.new) }
     {
@@ -194,12 +201,13 @@ impl Query {
         number: u32,
         view: &AvView<'_>,
         condition: Condition,
-        found: &mut RuleKeys,
+        found: &mut FoundRules,
     ) -> Result<(), AllocError>
         requires asked { PassesOver self.now asked.now }
         requires rule { slice_get (stored_rules policy.now) number ≡ Some (av_rule (Some condition) view.now) }
         requires found { HasMet policy.now self.now number found.old }
-        ensures { OnOk result (HasMet policy.now self.now (number + 1) found.new) }
+        ensures limit { OnOk result (limit_of found.new ≡ limit_of found.old) }
+        ensures found { OnOk result (HasMet policy.now self.now (number + 1) found.new) }
     {
         // the policy was accepted, and so what its rules name is declared
         policy.is_accepted();
@@ -216,11 +224,12 @@ impl Query {
         policy: &Policy<'_>,
         number: u32,
         ends: RuleEnds,
-        found: &mut RuleKeys,
+        found: &mut FoundRules,
     ) -> Result<(), AllocError>
         requires rule { option_map ends_of (slice_get (stored_rules policy.now) number) ≡ Some ends }
         requires found { HasMet policy.now self.now number found.old }
-        ensures { OnOk result (HasMet policy.now self.now (number + 1) found.new) }
+        ensures limit { OnOk result (limit_of found.new ≡ limit_of found.old) }
+        ensures found { OnOk result (HasMet policy.now self.now (number + 1) found.new) }
     {
         // the policy was accepted, and so what its rules name is declared
         policy.is_accepted();

@@ -5,7 +5,7 @@ ghost use Rattle.pol_fields.specs.declared.TableKind.TheVariants.{Booleans};
 ghost use Rattle.pol_bitmap.specs.Nodes.{bits_of, has_bit};
 ghost use Rattle.pol_bitmap.specs.Sets.{ContainsEach};
 ghost use Rattle.rule_query.specs.Listed.{is_listed, meets_node};
-ghost use Rattle.rule_query.specs.Inner.Tests.{HasPattern};
+ghost use Rattle.rule_query.specs.Inner.LookedUp.{HasPattern};
 
 use named_values::{values_found, values_named};
 use pol_bitmap::Set;
@@ -58,7 +58,7 @@ pub fn nodes(
     Set::from_rising(alloc, &nodes)
 }
 
-// Those nodes, rising.
+// The nodes whose booleans meet a criterion, rising.
 fn meeting_nodes(
     alloc: Global,
     policy: &Policy<'_>,

@@ -1,19 +1,21 @@
-ghost use Rattle.std.specs.Prelude.{◌≡◌, ◌<◌, ◌-◌, IfOk, length, option_map};
+// Criteria that were looked up, and the rules that meet them.
+ghost use Rattle.std.specs.Prelude.{◌≡◌, ◌<◌, ◌-◌, IfOk, length, option_map, take};
 ghost use Rattle.std.specs.List.{find, list_all, range_with_len};
 ghost use Rattle.pol_read.specs.StoredRules.{stored_rules};
 ghost use Rattle.rule_order.specs.ListedOrder.{in_rule_order};
 ghost use Rattle.rule_criteria.specs.declared.Criteria.{Criteria};
 ghost use Rattle.rule_query.specs.Meeting.{meets, meeting};
 ghost use Rattle.rule_query.specs.Inner.NumberedRules.{IsRuleAt, rule_at};
-ghost use Rattle.rule_query.specs.Inner.Resolved.{IsQueryOf};
-ghost use Rattle.rule_query.specs.Inner.Tests.{first_of, passes, rule_test, source_types, target_types, types_of};
+ghost use Rattle.rule_query.specs.Queries.{IsQueryOf};
+ghost use Rattle.rule_query.specs.QueryTests.{first_of, passes, rule_test, source_types, target_types, types_of};
 
+use crate::found_rules::FoundRules;
 use crate::given::Aspect;
 use crate::marked_set::MarkedSet;
 use crate::tests::Test;
 use pol_bitmap::Set;
 use pol_read::{Policy, RuleEnds};
-use rule_order::RuleKeys;
+use rule_order::{LeastKeys, RuleKeys};
 use rule_tests::is_kind_asked;
 use std::alloc::{AllocError, Global};
 
@@ -72,7 +74,7 @@ impl Query {
         Some(self.types_of(Aspect::Target)?.set())
     }
 
-    // Those that are asked for at an end, by the first test of it.
+    // The types that are asked for at an end, by the first test of it.
     pub(crate) fn types_of(&self, end: Aspect) -> Option<&MarkedSet>
         ensures { option_map (λ set. set.now) result ≡ first_of (types_of end) self.now.tests.items }
     {
@@ -89,7 +91,42 @@ impl Query {
         ensures { (criteria : Criteria) → IsQueryOf policy.now criteria self.now → IfOk result (λ numbers. numbers.items ≡ in_rule_order policy.now (meeting policy.now criteria)) }
     {
         // room for those of the table, where nearly all rules stand: memory that nothing is written to is not used
-        let mut found = RuleKeys::with_capacity(alloc, policy.table().len() as usize)?;
+        let keys = RuleKeys::with_capacity(alloc, policy.table().len() as usize)?;
+        let mut found = FoundRules::All(keys);
+        self.add_all(policy, &mut found)?;
+        found.sorted(alloc, policy)
+    }
+
+    /// The numbers of the stored rules that meet the criteria and are listed first, `count` at most, in the order in which rules are
+    /// listed. It takes memory for a multiple of `count`, however many rules meet.
+    pub fn least(
+        &self,
+        alloc: Global,
+        policy: &Policy<'_>,
+        count: u64,
+    ) -> Result<Vec<u32>, AllocError>
+        ensures { (criteria : Criteria) → IsQueryOf policy.now criteria self.now → IfOk result (λ numbers. numbers.items ≡ take count (in_rule_order policy.now (meeting policy.now criteria))) }
+    {
+        // keys that are all sorted take less memory each, and less time
+        if count < policy.rule_count() as u64 / 16 {
+            self.first(alloc, policy, count as usize)
+        } else {
+            let mut numbers = self.sorted(alloc, policy)?;
+            numbers.truncate(count as usize);
+            Ok(numbers)
+        }
+    }
+
+    // The rules that are listed first, of which only so many are kept on the way.
+    fn first(
+        &self,
+        alloc: Global,
+        policy: &Policy<'_>,
+        count: usize,
+    ) -> Result<Vec<u32>, AllocError>
+        ensures { (criteria : Criteria) → IsQueryOf policy.now criteria self.now → IfOk result (λ numbers. numbers.items ≡ take count (in_rule_order policy.now (meeting policy.now criteria))) }
+    {
+        let mut found = FoundRules::First(LeastKeys::new(alloc, count));
         self.add_all(policy, &mut found)?;
         found.sorted(alloc, policy)
     }

@@ -1,8 +1,8 @@
 // Which criteria are refused by their names and numbers.
 ghost use Rattle.std.specs.Prelude.{◌≡◌, IfOk, is_some, map};
 ghost use Rattle.std.specs.List.{list_all, list_any};
-ghost use Rattle.rule_query.specs.Given.{shown};
-ghost use Rattle.rule_tests.specs.Numbers.{span_of};
+ghost use Rattle.rule_query.specs.GivenCriteria.{shown};
+ghost use Rattle.rule_tests.specs.AskedNumbers.{span_of};
 ghost use Rattle.rule_query.specs.Inner.Refusing.{end_table, refusal_of_elements};
 ghost use Rattle.rule_query.specs.Refusals.{is_end_missing, is_missing, is_pattern_word, is_permission, is_permission_of, may_be_pattern, refusal_of, refusal_of_names, refuse_if};
 

@@ -1,8 +1,10 @@
+// Criteria are looked up, word by word.
 ghost use Rattle.std.specs.Prelude.{◌≡◌, OnOk};
-ghost use Rattle.rule_query.specs.Given.{shown};
+ghost use Rattle.rule_query.specs.GivenCriteria.{shown};
 ghost use Rattle.rule_query.specs.Inner.Resolved.{AreSameTests, Gains};
-ghost use Rattle.rule_query.specs.Inner.Resolving.{Asks, BuildsWord, Resolves};
-ghost use Rattle.rule_query.specs.Inner.Tests.{HasPatternWord, IsMapIfMade};
+ghost use Rattle.rule_query.specs.Inner.ResolvingWords.{Asks, BuildsWord};
+ghost use Rattle.rule_query.specs.Resolving.{Resolves};
+ghost use Rattle.rule_query.specs.Inner.LookedUp.{HasPatternWord, IsMapIfMade};
 
 use crate::given::{GivenCriterion, in_word_order};
 use crate::query::Query;

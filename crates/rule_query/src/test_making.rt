@@ -1,7 +1,7 @@
 // The test of a criterion.
 ghost use Rattle.std.specs.Prelude.{IfOk};
-ghost use Rattle.rule_query.specs.Given.{shown};
-ghost use Rattle.rule_query.specs.Inner.Tests.{HasPatternWord, IsMapIfMade};
+ghost use Rattle.rule_query.specs.GivenCriteria.{shown};
+ghost use Rattle.rule_query.specs.Inner.LookedUp.{HasPatternWord, IsMapIfMade};
 ghost use Rattle.rule_query.specs.Inner.Resolved.{IsTestOf};
 
 use crate::ends::{defaults, ends_of};

@@ -2,7 +2,8 @@
 ghost use Rattle.std.specs.Prelude.{◌≡◌, ◌<◌, length, option_map};
 ghost use Rattle.pol_read.specs.StoredRules.{stored_rules};
 ghost use Rattle.rule_query.specs.Inner.NumberedRules.{IsRuleAt, rule_at};
-ghost use Rattle.rule_query.specs.Inner.Tests.{class_test, condition_test, default_test, reads_rule, rule_test, types_of};
+ghost use Rattle.rule_query.specs.QueryTests.{class_test, condition_test, default_test, rule_test, types_of};
+ghost use Rattle.rule_query.specs.Inner.LookedUp.{reads_rule};
 
 use crate::ends::Ends;
 use crate::given::Aspect;

@@ -9,7 +9,7 @@ use Rattle.pol_file.specs.declared.Parts.{Parts}
 use Rattle.rule_criteria.specs.Modes.{is_direct}
 use Rattle.rule_criteria.specs.declared.Criterion.{Criterion}
 use Rattle.rule_query.specs.Ends.{meets_type}
-use Rattle.rule_query.specs.Inner.Resolved.{AreTypesOf}
+use Rattle.rule_query.specs.Queries.{AreTypesOf}
 use Rattle.rule_singles.specs.Inner.EndSets.{AreAsked, leaves, types_left}
 use Rattle.rule_singles.proofs.SetCuts.{common_is_filter}
 

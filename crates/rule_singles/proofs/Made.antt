@@ -18,7 +18,7 @@ use Rattle.pol_read.specs.StoredRules.{StoredRule, ends_of, stored_rules}
 use Rattle.rule_criteria.specs.declared.Criteria.{Criteria}
 use Rattle.rule_criteria.specs.declared.Criterion.{Criterion}
 use Rattle.rule_singles.specs.Inner.EndSets.{AreAsked, AreSetsOf, Grows, IsEntryOf, IsNumberIn, ends_left, leaves}
-use Rattle.rule_singles.specs.Singles.{ends_found, ends_of_rule, is_listed_end, listed_ends}
+use Rattle.rule_singles.specs.FoundSingles.{ends_found, ends_of_rule, is_listed_end, listed_ends}
 use Rattle.rule_singles.proofs.DeclaredMembers.{members_are_declared}
 use Rattle.rule_singles.proofs.Pools.{bits_stay, longer}
 

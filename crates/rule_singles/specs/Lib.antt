@@ -1,2 +1,2 @@
-pub mod Singles
+pub mod FoundSingles
 pub mod Inner

@@ -5,7 +5,7 @@ ghost use Rattle.pol_fields.specs.declared.TableKind.TheVariants.{Types};
 ghost use Rattle.pol_bitmap.specs.Nodes.{bits_of};
 ghost use Rattle.pol_expand.specs.PolicyMap.{IsPolicyMap, expand};
 ghost use Rattle.pol_read.specs.DeclaredRules.{IsDeclaredIn};
-ghost use Rattle.rule_query.specs.Inner.Resolved.{AreTypesOf};
+ghost use Rattle.rule_query.specs.Queries.{AreTypesOf};
 ghost use Rattle.rule_singles.specs.Inner.EndSets.{AreAsked, AreSetsOf, Grows, IsNumberIn, ends_left, leaves};
 
 use crate::asked_types::{cut, types_left};

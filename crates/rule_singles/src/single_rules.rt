@@ -3,9 +3,9 @@ ghost use Rattle.pol_expand.specs.PolicyMap.{IsPolicyMap};
 ghost use Rattle.pol_read.specs.StoredRules.{stored_rules};
 ghost use Rattle.rule_order.specs.ListedOrder.{AreRules};
 ghost use Rattle.rule_criteria.specs.declared.Criteria.{Criteria};
-ghost use Rattle.rule_query.specs.Inner.Resolved.{IsQueryOf};
+ghost use Rattle.rule_query.specs.Queries.{IsQueryOf};
 ghost use Rattle.rule_singles.specs.Inner.EndSets.{AreAsked, AreSetsOf, Grows, IsEntryOf};
-ghost use Rattle.rule_singles.specs.Singles.{ends_of_rule};
+ghost use Rattle.rule_singles.specs.FoundSingles.{ends_of_rule};
 
 use crate::end_sets::EndSets;
 use pol_bitmap::Pool;

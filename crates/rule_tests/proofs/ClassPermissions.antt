@@ -11,8 +11,8 @@ use Rattle.pol_commons.specs.Permissions.{bit_of}
 use Rattle.rule_tests.specs.declared.class_bits.ClassBits.{ClassBits}
 use Rattle.rule_criteria.specs.declared.Mode.{Mode}
 use Rattle.rule_criteria.specs.declared.Mode.TheVariants.{Plain, Direct, Pattern, PatternDirect, Equal, Subset}
-use Rattle.rule_tests.specs.Permissions.{is_among, compare_names}
-use Rattle.rule_tests.specs.Inner.Tests.{bits_behind, bits_named, IsClassBits}
+use Rattle.rule_tests.specs.AskedPermissions.{is_one_of, compare_names}
+use Rattle.rule_tests.specs.PartTests.{bits_behind, bits_named, IsClassBits}
 
 pub together : (test : PermissionRec → Bool) (own inherited : List PermissionRec) → bits_behind (bits_behind 0 (filter test own)) (filter test inherited) ≡ bits_behind 0 (filter test (own ++ inherited))
 together test own inherited =
@@ -42,7 +42,7 @@ pub class_bits_are : {N : Type 0} (bytes : N → List ℕ) (names : List N) (per
     → IsClassBits (map bytes names) permissions bits
 class_bits_are bytes names permissions bits named others = record {
   named = named ∙ sym (map_map (λ (name : List ℕ). bits_named name permissions) bytes names);
-  others = others ∙ ap (bits_behind 0) (filter_same (λ (p : PermissionRec). not (list_any (λ other. bytes_eq p.name (bytes other)) names)) (λ (p : PermissionRec). not (is_among (map bytes names) p.name)) (λ p. ap not (sym (any_map (bytes_eq p.name) bytes names))) permissions);
+  others = others ∙ ap (bits_behind 0) (filter_same (λ (p : PermissionRec). not (list_any (λ other. bytes_eq p.name (bytes other)) names)) (λ (p : PermissionRec). not (is_one_of (map bytes names) p.name)) (λ p. ap not (sym (any_map (bytes_eq p.name) bytes names))) permissions);
 }
 
 pub two_lists : (test : PermissionRec → Bool) (own inherited own' inherited' : List PermissionRec) (a b : ℕ) → own ≡ own' → inherited ≡ inherited' → a ≡ bits_behind 0 (filter test own) → b ≡ bits_behind a (filter test inherited) → b ≡ bits_behind 0 (filter test (own' ++ inherited'))
@@ -78,26 +78,26 @@ all_names {N} p bytes items names xs same are = ap (λ (l : List N). list_all (�
 abbrev pub ioctl : List ℕ
 ioctl = codes "ioctl"
 
-pub equal_there : {N : Type 0} (bytes : N → List ℕ) (names : List N) (all : Bool) → list_any (λ other. bytes_eq ioctl (bytes other)) names ≡ true → all ≡ list_all (λ name. is_among (ioctl ∷ []) (bytes name)) names → all ≡ compare_names Equal (map bytes names) (ioctl ∷ [])
+pub equal_there : {N : Type 0} (bytes : N → List ℕ) (names : List N) (all : Bool) → list_any (λ other. bytes_eq ioctl (bytes other)) names ≡ true → all ≡ list_all (λ name. is_one_of (ioctl ∷ []) (bytes name)) names → all ≡ compare_names Equal (map bytes names) (ioctl ∷ [])
 equal_there bytes names all there is =
-    let among : is_among (map bytes names) ioctl ≡ true = any_map (bytes_eq ioctl) bytes names ∙ there in
-    rw among (is ∙ sym (all_map (is_among (ioctl ∷ [])) bytes names))
+    let among : is_one_of (map bytes names) ioctl ≡ true = any_map (bytes_eq ioctl) bytes names ∙ there in
+    rw among (is ∙ sym (all_map (is_one_of (ioctl ∷ [])) bytes names))
 
 pub equal_not : {N : Type 0} (bytes : N → List ℕ) (names : List N) (r : Bool) → r ≡ list_any (λ other. bytes_eq ioctl (bytes other)) names → r ≡ false → r ≡ compare_names Equal (map bytes names) (ioctl ∷ [])
 equal_not bytes names r is missing =
-    let among : is_among (map bytes names) ioctl ≡ false = any_map (bytes_eq ioctl) bytes names ∙ sym is ∙ missing in
+    let among : is_one_of (map bytes names) ioctl ≡ false = any_map (bytes_eq ioctl) bytes names ∙ sym is ∙ missing in
     rw among missing
 
-pub subset_is : {N : Type 0} (bytes : N → List ℕ) (names : List N) (all : Bool) → all ≡ list_all (λ name. is_among (ioctl ∷ []) (bytes name)) names → all ≡ compare_names Subset (map bytes names) (ioctl ∷ [])
-subset_is bytes names all is = is ∙ sym (all_map (is_among (ioctl ∷ [])) bytes names)
+pub subset_is : {N : Type 0} (bytes : N → List ℕ) (names : List N) (all : Bool) → all ≡ list_all (λ name. is_one_of (ioctl ∷ []) (bytes name)) names → all ≡ compare_names Subset (map bytes names) (ioctl ∷ [])
+subset_is bytes names all is = is ∙ sym (all_map (is_one_of (ioctl ∷ [])) bytes names)
 
-pub shares_is : {N : Type 0} (mode : Mode) (bytes : N → List ℕ) (names : List N) (any : Bool) → (mode ≡ Equal → ⊥) → (mode ≡ Subset → ⊥) → any ≡ list_any (λ name. is_among (ioctl ∷ []) (bytes name)) names → any ≡ compare_names mode (map bytes names) (ioctl ∷ [])
+pub shares_is : {N : Type 0} (mode : Mode) (bytes : N → List ℕ) (names : List N) (any : Bool) → (mode ≡ Equal → ⊥) → (mode ≡ Subset → ⊥) → any ≡ list_any (λ name. is_one_of (ioctl ∷ []) (bytes name)) names → any ≡ compare_names mode (map bytes names) (ioctl ∷ [])
 shares_is Equal bytes names any no_equal no_subset is = absurd (no_equal refl)
 shares_is Subset bytes names any no_equal no_subset is = absurd (no_subset refl)
-shares_is Plain bytes names any no_equal no_subset is = is ∙ sym (any_map (is_among (ioctl ∷ [])) bytes names)
-shares_is Direct bytes names any no_equal no_subset is = is ∙ sym (any_map (is_among (ioctl ∷ [])) bytes names)
-shares_is Pattern bytes names any no_equal no_subset is = is ∙ sym (any_map (is_among (ioctl ∷ [])) bytes names)
-shares_is PatternDirect bytes names any no_equal no_subset is = is ∙ sym (any_map (is_among (ioctl ∷ [])) bytes names)
+shares_is Plain bytes names any no_equal no_subset is = is ∙ sym (any_map (is_one_of (ioctl ∷ [])) bytes names)
+shares_is Direct bytes names any no_equal no_subset is = is ∙ sym (any_map (is_one_of (ioctl ∷ [])) bytes names)
+shares_is Pattern bytes names any no_equal no_subset is = is ∙ sym (any_map (is_one_of (ioctl ∷ [])) bytes names)
+shares_is PatternDirect bytes names any no_equal no_subset is = is ∙ sym (any_map (is_one_of (ioctl ∷ [])) bytes names)
 
 -- ---- spans that a text lists
 

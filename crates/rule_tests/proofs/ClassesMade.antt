@@ -6,7 +6,7 @@ use Rattle.pol_classes.specs.declared.ClassRec.{ClassRec}
 use Rattle.pol_symbols.specs.PolicySymbols.{permissions_of}
 use Rattle.pol_symbols.specs.declared.Symbols.{Symbols}
 use Rattle.rule_tests.specs.declared.class_bits.ClassBits.{ClassBits}
-use Rattle.rule_tests.specs.Inner.Tests.{AreClassBits, IsClassBits}
+use Rattle.rule_tests.specs.PartTests.{AreClassBits, IsClassBits}
 
 got_left : {X : Type 0} (xs ys : List X) (i : ℕ) (x : X) → slice_get xs i ≡ Some x → slice_get (xs ++ ys) i ≡ Some x
 got_left [] ys i x e = absurd cc

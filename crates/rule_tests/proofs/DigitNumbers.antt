@@ -1,10 +1,13 @@
 -- Numbers by their digits.
-use Rattle.std.proofs.Common.{◌≡◌, ℕ, suc, ◌+◌, ◌*◌, ◌<◌, ◌≤◌, Bool, true, false, Some, None, List, [], ◌∷◌, length, drop, slice_index, refl, add-one, drop-cons, arith}
+use Rattle.std.proofs.Common.{◌≡◌, ◌∙◌, ℕ, suc, ◌+◌, ◌*◌, ◌^◌, ◌<◌, ◌≤◌, Bool, true, false, Some, None, List, [], ◌∷◌, length, drop, slice_index, refl, sym, ap, add-one, drop-cons, arith}
 use Rattle.std.proofs.lemmas.List.{drop_all}
 use Rattle.std.specs.Prelude.{◌&&◌, nat_le, unwrap_or, if◌then◌else◌}
 use Rattle.std.specs.List.{list_all}
+use Rattle.std.proofs.Math.Nat.{add-mul, add_assoc, mul_assoc, mul_comm}
 use Rattle.std.proofs.lemmas.Bool.{leb-true, le-leb}
-use Rattle.rule_tests.specs.Numbers.{digit, is_digit, value_behind, number_behind}
+use Rattle.std.proofs.lemmas.Grind.{pow_more}
+use Rattle.rule_tests.specs.AskedNumbers.{digit, is_digit, number_of_all, value_of}
+use Rattle.rule_tests.specs.Inner.DigitNumbers.{number_behind, value_behind}
 
 -- digits behind a number make it no smaller
 at_least : (value : ℕ) (digits : List ℕ) → value ≤ value_behind value digits
@@ -43,3 +46,26 @@ next_at value i d digits lt e = rw (add-one, drop-cons digits i 0 lt) (next_digi
 
 pub end_at : (value i : ℕ) (digits : List ℕ) → length digits ≤ i → value ≤ 65535 → number_behind value (drop i digits) ≡ Some value
 end_at value i digits past le = rw (drop_all i digits past) (ended value le)
+
+-- ---- all digits
+
+times_more : (value d p : ℕ) → (value * 16 + d) * p ≡ value * (p * 16) + d * p
+times_more value d p = add-mul (value * 16) d p ∙ ap (λ (n : ℕ). n + d * p) (mul_assoc value 16 p ∙ ap (λ (n : ℕ). value * n) (mul_comm 16 p))
+
+-- a number counts for more with each digit behind it
+behind : (value : ℕ) (digits : List ℕ) → value_behind value digits ≡ value * 16 ^ length digits + value_of digits
+unfolding value_behind value_of
+behind value [] = omega arith
+behind value (byte ∷ bytes) =
+    let d = unwrap_or (digit byte) 0 in
+    let p = 16 ^ length bytes in
+    let more : 16 ^ (length bytes + 1) ≡ p * 16 = pow_more 16 (length bytes) in
+    let one : length bytes + 1 ≡ suc (length bytes) = omega arith in
+    behind (value * 16 + d) bytes
+    ∙ ap (λ (n : ℕ). n + value_of bytes) (times_more value d p ∙ ap (λ (n : ℕ). value * n + d * p) (sym more ∙ ap (λ (n : ℕ). 16 ^ n) one))
+    ∙ add_assoc (value * 16 ^ suc (length bytes)) (d * p) (value_of bytes)
+
+pub all_digits : (digits : List ℕ) → number_behind 0 digits ≡ number_of_all digits
+all_digits digits =
+    let e : value_behind 0 digits ≡ value_of digits = behind 0 digits ∙ (omega arith) in
+    rw e refl

@@ -4,8 +4,8 @@ use Rattle.pol_read.specs.declared.RulePart.{RulePart}
 use Rattle.pol_read.specs.declared.RulePart.TheVariants as parts
 use Rattle.rule_criteria.specs.declared.Criterion.{Criterion}
 use Rattle.rule_tests.specs.declared.number_test.NumberTest.{NumberTest}
-use Rattle.rule_tests.specs.Numbers.{meets_numbers}
-use Rattle.rule_tests.specs.Inner.Tests.{numbers_test, IsNumberTest}
+use Rattle.rule_tests.specs.AskedNumbers.{meets_numbers}
+use Rattle.rule_tests.specs.PartTests.{numbers_test, IsNumberTest}
 
 pub numbers_are : (criterion : Criterion) (test : NumberTest) (part : RulePart) → IsNumberTest criterion test → numbers_test test part ≡ meets_numbers criterion part
 numbers_are criterion test (parts.Numbers numbers) is = rw (is.mode, is.spans) refl

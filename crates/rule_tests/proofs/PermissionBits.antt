@@ -13,8 +13,8 @@ use Rattle.pol_commons.specs.Permissions.{bit_of, has_permission}
 use Rattle.rule_criteria.specs.declared.Mode.{Mode}
 use Rattle.rule_criteria.specs.declared.Mode.TheVariants.{Plain, Direct, Pattern, PatternDirect, Equal, Subset}
 use Rattle.rule_tests.specs.declared.class_bits.ClassBits.{ClassBits}
-use Rattle.rule_tests.specs.Permissions.{compare_names, is_among}
-use Rattle.rule_tests.specs.Inner.Tests.{shares_bit, bits_behind, bits_named, bits_of_others, IsClassBits, meets_bits}
+use Rattle.rule_tests.specs.AskedPermissions.{compare_names, is_one_of}
+use Rattle.rule_tests.specs.PartTests.{shares_bit, bits_behind, bits_named, bits_of_others, IsClassBits, meets_bits}
 
 -- ---- one bit
 
@@ -119,32 +119,32 @@ abbrev pub names_of : ℕ → List PermissionRec → List (List ℕ)
 names_of mask ps = map (λ (p : PermissionRec). p.name) (filter (has_permission mask) ps)
 
 -- a name is among them where the bits of its permissions are
-pub name_there : (mask : ℕ) (ps : List PermissionRec) (name : List ℕ) → shares_bit mask (bits_named name ps) ≡ is_among (names_of mask ps) name
+pub name_there : (mask : ℕ) (ps : List PermissionRec) (name : List ℕ) → shares_bit mask (bits_named name ps) ≡ is_one_of (names_of mask ps) name
 name_there mask ps name =
     shares_any mask (filter (λ (p : PermissionRec). bytes_eq name p.name) ps)
     ∙ exchanged mask (λ (p : PermissionRec). bytes_eq name p.name) ps
     ∙ sym (any_map (bytes_eq name) (λ (p : PermissionRec). p.name) (filter (has_permission mask) ps))
 
 -- all names of the mask are among some where it has no bit of another
-pub no_others : (mask : ℕ) (ps : List PermissionRec) (names : List (List ℕ)) → not (shares_bit mask (bits_of_others names ps)) ≡ list_all (is_among names) (names_of mask ps)
+pub no_others : (mask : ℕ) (ps : List PermissionRec) (names : List (List ℕ)) → not (shares_bit mask (bits_of_others names ps)) ≡ list_all (is_one_of names) (names_of mask ps)
 no_others mask ps names =
-    ap not (shares_any mask (filter (λ (p : PermissionRec). not (is_among names p.name)) ps) ∙ exchanged mask (λ (p : PermissionRec). not (is_among names p.name)) ps)
-    ∙ de_morgan (λ (p : PermissionRec). is_among names p.name) (filter (has_permission mask) ps)
-    ∙ sym (all_map (is_among names) (λ (p : PermissionRec). p.name) (filter (has_permission mask) ps))
+    ap not (shares_any mask (filter (λ (p : PermissionRec). not (is_one_of names p.name)) ps) ∙ exchanged mask (λ (p : PermissionRec). not (is_one_of names p.name)) ps)
+    ∙ de_morgan (λ (p : PermissionRec). is_one_of names p.name) (filter (has_permission mask) ps)
+    ∙ sym (all_map (is_one_of names) (λ (p : PermissionRec). p.name) (filter (has_permission mask) ps))
 
 module _ (names : List (List ℕ)) (ps : List PermissionRec) (bits : ClassBits) (are : IsClassBits names ps bits) (mask : ℕ) where
-  all_there : list_all (shares_bit mask) bits.named.items ≡ list_all (is_among (names_of mask ps)) names
-  all_there = ap (list_all (shares_bit mask)) are.named ∙ all_map (shares_bit mask) (λ (name : List ℕ). bits_named name ps) names ∙ all_same (λ (name : List ℕ). shares_bit mask (bits_named name ps)) (is_among (names_of mask ps)) (name_there mask ps) names
+  all_there : list_all (shares_bit mask) bits.named.items ≡ list_all (is_one_of (names_of mask ps)) names
+  all_there = ap (list_all (shares_bit mask)) are.named ∙ all_map (shares_bit mask) (λ (name : List ℕ). bits_named name ps) names ∙ all_same (λ (name : List ℕ). shares_bit mask (bits_named name ps)) (is_one_of (names_of mask ps)) (name_there mask ps) names
 
-  any_there : list_any (shares_bit mask) bits.named.items ≡ list_any (is_among (names_of mask ps)) names
-  any_there = ap (list_any (shares_bit mask)) are.named ∙ any_map (shares_bit mask) (λ (name : List ℕ). bits_named name ps) names ∙ any_same (λ (name : List ℕ). shares_bit mask (bits_named name ps)) (is_among (names_of mask ps)) (name_there mask ps) names
+  any_there : list_any (shares_bit mask) bits.named.items ≡ list_any (is_one_of (names_of mask ps)) names
+  any_there = ap (list_any (shares_bit mask)) are.named ∙ any_map (shares_bit mask) (λ (name : List ℕ). bits_named name ps) names ∙ any_same (λ (name : List ℕ). shares_bit mask (bits_named name ps)) (is_one_of (names_of mask ps)) (name_there mask ps) names
 
-  only_there : not (shares_bit mask bits.others) ≡ list_all (is_among names) (names_of mask ps)
+  only_there : not (shares_bit mask bits.others) ≡ list_all (is_one_of names) (names_of mask ps)
   only_there = ap (λ (b : ℕ). not (shares_bit mask b)) are.others ∙ no_others mask ps names
 
   -- a mask compares with the names as its permissions do
   pub compared : (mode : Mode) → meets_bits mode bits mask ≡ compare_names mode names (names_of mask ps)
-  compared Equal = rw (all_there, only_there) (swapped (list_all (is_among (names_of mask ps)) names) (list_all (is_among names) (names_of mask ps)))
+  compared Equal = rw (all_there, only_there) (swapped (list_all (is_one_of (names_of mask ps)) names) (list_all (is_one_of names) (names_of mask ps)))
     where
       swapped : (a b : Bool) → (a && b) ≡ (b && a)
       swapped true true = refl

@@ -18,8 +18,8 @@ use Rattle.rule_criteria.specs.declared.Mode.{Mode}
 use Rattle.rule_criteria.specs.declared.Mode.TheVariants.{Plain, Direct, Pattern, PatternDirect, Equal, Subset}
 use Rattle.rule_tests.specs.declared.class_bits.ClassBits.{ClassBits}
 use Rattle.rule_tests.specs.declared.permission_test.PermissionTest.{PermissionTest}
-use Rattle.rule_tests.specs.Permissions.{compare_names, is_among, meets_permissions, names_in_mask}
-use Rattle.rule_tests.specs.Inner.Tests.{bits_found, IsPermissionTest, meets_bits, meets_bits_found, meets_mask, permissions_test}
+use Rattle.rule_tests.specs.AskedPermissions.{compare_names, is_one_of, meets_permissions, names_in_mask}
+use Rattle.rule_tests.specs.PartTests.{bits_found, IsPermissionTest, meets_bits, meets_bits_found, meets_mask, permissions_test}
 use Rattle.rule_tests.proofs.PermissionBits.{compared, names_of}
 
 -- ---- no permissions
@@ -42,7 +42,7 @@ has_element : (text : List ℕ) → HasFirst (elements_of text)
 has_element [] = record { first = []; others = []; is = refl }
 has_element (x ∷ xs) = some_first (is_comma x) x (slice_split is_comma xs)
 
-none_among : (xs : List (List ℕ)) → list_any (is_among []) xs ≡ false
+none_among : (xs : List (List ℕ)) → list_any (is_one_of []) xs ≡ false
 none_among [] = refl
 none_among (x ∷ xs) = none_among xs
 

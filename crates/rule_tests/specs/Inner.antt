@@ -1,2 +1,2 @@
 pub mod AskedVectors
-pub mod Tests
+pub mod DigitNumbers

@@ -1,4 +1,5 @@
-pub mod Permissions
-pub mod Numbers
+pub mod AskedPermissions
+pub mod AskedNumbers
 pub mod AskedKinds
+pub mod PartTests
 pub mod Inner

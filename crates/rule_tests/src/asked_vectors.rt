@@ -86,7 +86,7 @@ struct KindMarks {
 }
 
 impl KindMarks {
-    // Those of some kinds.
+    // The marks of some kinds.
     fn of(kinds: &[bool; 12]) -> KindMarks
         ensures { result.marks ≡ low_marks kinds.now }
     {

@@ -3,7 +3,7 @@ ghost use Rattle.std.specs.Prelude.{◌≡◌, IfOk, map, not};
 ghost use Rattle.std.specs.Str.{bytes_eq};
 ghost use Rattle.std.specs.List.{filter, list_all, list_any};
 ghost use Rattle.pol_symbols.specs.PolicySymbols.{permissions_of};
-ghost use Rattle.rule_tests.specs.Inner.Tests.{IsClassBits, bits_named, bits_behind, shares_bit, meets_bits};
+ghost use Rattle.rule_tests.specs.PartTests.{IsClassBits, bits_named, bits_behind, shares_bit, meets_bits};
 
 use pol_classes::ClassView;
 use pol_commons::{PermissionList, inherited_from};
@@ -85,12 +85,12 @@ fn bits_of_others(bits: u32, permissions: PermissionList<'_>, names: &[&[u8]]) -
     ensures { result ≡ bits_behind bits (filter (λ permission. not (list_any (λ other. bytes_eq permission.name other.now) names.now)) permissions.entry) }
 {
     permissions
-        .filter(|permission| !is_among(names, permission.name()))
+        .filter(|permission| !is_one_of(names, permission.name()))
         .fold(bits, |mask, permission| mask | permission.bit())
 }
 
 /// Whether a name is one of some.
-pub fn is_among(names: &[&[u8]], name: &[u8]) -> bool
+pub fn is_one_of(names: &[&[u8]], name: &[u8]) -> bool
     ensures { result ≡ list_any (λ other. bytes_eq name.now other.now) names.now }
 {
     names.iter().any(|other| name == *other)

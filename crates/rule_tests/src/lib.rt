@@ -2,6 +2,11 @@
 //!
 //! A criterion lists names of permissions or numbers. They are looked up once, and what they mean is kept as bits and as spans of
 //! numbers, so that a rule is compared without its names ([`PermissionTest`], [`NumberTest`]).
+//!
+//! ```text
+//! let test = PermissionTest::of(alloc, symbols, &criterion)?;
+//! let is_met = test.meets(symbols, rule.class, &rule.part);
+//! ```
 #![tactic(auto)]
 
 mod asked_vectors;

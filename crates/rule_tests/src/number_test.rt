@@ -3,8 +3,8 @@ ghost use Rattle.std.specs.Prelude.{◌≡◌, IfOk, not};
 ghost use Rattle.std.specs.List.{filter_map, list_all, list_any};
 ghost use Rattle.pol_avtab.specs.XPerms.{numbers_of};
 ghost use Rattle.rule_criteria.specs.Elements.{elements_of};
-ghost use Rattle.rule_tests.specs.Numbers.{compare_numbers, holds_span, is_asked, is_within, span_of, spans_of};
-ghost use Rattle.rule_tests.specs.Inner.Tests.{numbers_test, IsNumberTest};
+ghost use Rattle.rule_tests.specs.AskedNumbers.{compare_numbers, holds_span, is_asked, is_within, span_of, spans_of};
+ghost use Rattle.rule_tests.specs.PartTests.{numbers_test, IsNumberTest};
 
 use crate::spans::Span;
 use crate::text_elements::elements;
@@ -51,7 +51,7 @@ fn spans_of(alloc: Global, text: &[u8]) -> Result<Vec<Span>, AllocError>
     all_spans(alloc, &elements)
 }
 
-// Those of some elements.
+// The spans that elements stand for.
 fn all_spans(alloc: Global, elements: &[&[u8]]) -> Result<Vec<Span>, AllocError>
     ensures { IfOk result (λ spans. spans.items ≡ filter_map (λ element. span_of element.now) elements.now) }
 {

@@ -1,10 +1,10 @@
 // What a criterion asks of the permissions of rules.
 ghost use Rattle.std.specs.Prelude.{◌≡◌, ◌∷◌, [], IfOk, codes, map};
 ghost use Rattle.std.specs.List.{list_all, list_any};
-ghost use Rattle.rule_tests.specs.Permissions.{compare_names, is_among};
-ghost use Rattle.rule_tests.specs.Inner.Tests.{meets_mask, permissions_test, IsPermissionTest, AreClassBits};
+ghost use Rattle.rule_tests.specs.AskedPermissions.{compare_names, is_one_of};
+ghost use Rattle.rule_tests.specs.PartTests.{meets_mask, permissions_test, IsPermissionTest, AreClassBits};
 
-use crate::class_bits::{ClassBits, is_among};
+use crate::class_bits::{ClassBits, is_one_of};
 use crate::text_elements::elements;
 use pol_fields::TableKind;
 use pol_read::RulePart;
@@ -21,7 +21,7 @@ pub struct PermissionTest {
 }
 
 impl PermissionTest {
-    /// That of a criterion.
+    /// The test of a criterion of permissions.
     pub fn of(
         alloc: Global,
         symbols: &Symbols<'_>,
@@ -67,7 +67,7 @@ fn has_ioctl(mode: Mode, names: &[&[u8]]) -> bool
     ensures { result ≡ compare_names mode (map (λ name. name.now) names.now) (codes "ioctl" ∷ []) }
 {
     match mode {
-        Mode::Equal => is_among(names, b"ioctl") && all_ioctl(names),
+        Mode::Equal => is_one_of(names, b"ioctl") && all_ioctl(names),
         Mode::Subset => all_ioctl(names),
         _ => any_ioctl(names),
     }
@@ -75,21 +75,21 @@ fn has_ioctl(mode: Mode, names: &[&[u8]]) -> bool
 
 // Whether each name is that of this permission.
 fn all_ioctl(names: &[&[u8]]) -> bool
-    ensures { result ≡ list_all (λ name. is_among (codes "ioctl" ∷ []) name.now) names.now }
+    ensures { result ≡ list_all (λ name. is_one_of (codes "ioctl" ∷ []) name.now) names.now }
 {
     names.iter().all(|name| is_ioctl(name))
 }
 
 // Whether one of them is.
 fn any_ioctl(names: &[&[u8]]) -> bool
-    ensures { result ≡ list_any (λ name. is_among (codes "ioctl" ∷ []) name.now) names.now }
+    ensures { result ≡ list_any (λ name. is_one_of (codes "ioctl" ∷ []) name.now) names.now }
 {
     names.iter().any(|name| is_ioctl(name))
 }
 
 // Whether a name is that of this permission.
 fn is_ioctl(name: &[u8]) -> bool
-    ensures { result ≡ is_among (codes "ioctl" ∷ []) name.now }
+    ensures { result ≡ is_one_of (codes "ioctl" ∷ []) name.now }
 {
     name == b"ioctl".as_slice()
 }

@@ -1,6 +1,6 @@
 // Spans of numbers.
 ghost use Rattle.std.specs.Prelude.{◌≡◌};
-ghost use Rattle.rule_tests.specs.Numbers.{is_within, holds_span, span_between};
+ghost use Rattle.rule_tests.specs.AskedNumbers.{is_within, holds_span, span_between};
 ghost use Rattle.std.specs.List.{list_any};
 ghost use Rattle.pol_avtab.specs.XPerms.{numbers_of};
 

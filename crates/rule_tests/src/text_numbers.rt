@@ -1,12 +1,13 @@
 // Numbers and ranges of numbers in a text.
 ghost use Rattle.std.specs.Prelude.{◌≡◌, ◌<◌, IfSome, length, []};
 ghost use Rattle.std.specs.List.{position_from};
-ghost use Rattle.rule_tests.specs.Numbers.{digit, is_dash, without_prefix, number_behind, number_of_digits, number_of, span_of};
+ghost use Rattle.rule_tests.specs.AskedNumbers.{digit, is_dash, without_prefix, number_of_digits, number_of, span_of};
+ghost use Rattle.rule_tests.specs.Inner.DigitNumbers.{number_behind};
 
 use crate::spans::Span;
 
 /// The numbers that an element of a list stands for: a number, or two that do not fall, joined by `-`.
-#[tactic(auto, unfolding(crate::specs::Numbers::span_of))]
+#[tactic(auto, unfolding(crate::specs::AskedNumbers::span_of))]
 pub fn span_of(element: &[u8]) -> Option<Span>
     ensures { result ≡ span_of element.now }
 {
@@ -25,7 +26,7 @@ fn first_dash(element: &[u8]) -> Option<usize>
 }
 
 // The number that a text is: hexadecimal, of 16 bits, with or without 0x or 0X.
-#[tactic(auto, unfolding(crate::specs::Numbers::number_of))]
+#[tactic(auto, unfolding(crate::specs::AskedNumbers::number_of))]
 fn number_of(text: &[u8]) -> Option<u16>
     ensures { result ≡ number_of text.now }
 {
@@ -43,6 +44,7 @@ fn without_prefix(text: &[u8]) -> &[u8]
 }
 
 // The number of digits, one at least.
+#[tactic(auto, using(crate::proofs::DigitNumbers::all_digits))]
 fn number_of_digits(digits: &[u8]) -> Option<u16>
     ensures { result ≡ number_of_digits digits.now }
 {

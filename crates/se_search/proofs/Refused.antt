@@ -7,9 +7,9 @@ use Rattle.pol_symbols.specs.declared.Symbols.{Symbols}
 use Rattle.rule_criteria.specs.declared.Criteria.{Criteria}
 use Rattle.rule_query.specs.declared.Refusal.{Refusal}
 use Rattle.rule_query.specs.declared.Refusal.TheVariants.{NotThere, NoNumber}
-use Rattle.rule_query.specs.Given.{Given}
+use Rattle.rule_query.specs.GivenCriteria.{Given}
 use Rattle.rule_query.specs.Refusals.{first_refused, is_pattern_word, refusal_of, refused_at, RefusedWord}
-use Rattle.rule_query.specs.Inner.Resolving.{Passes}
+use Rattle.rule_query.specs.Resolving.{Passes}
 use Rattle.se_status.specs.Meeting.{ComesTo}
 use Rattle.se_search.specs.SearchAnswer.{lines_unless}
 use Rattle.se_search.specs.SearchPatterns.{ComesAfter, IsRead}

@@ -2,9 +2,9 @@
 use Rattle.std.proofs.Common.{◌≡◌, ◌+◌, ◌++◌, ℕ, Bool, true, false, List, Option, Some, None, map, refl}
 use Rattle.std.specs.Prelude.{if◌then◌else◌}
 use Rattle.pol_file.specs.declared.Parts.{Parts}
-use Rattle.rule_query.specs.Given.{in_word_order}
+use Rattle.rule_query.specs.GivenCriteria.{in_word_order}
 use Rattle.rule_query.specs.Refusals.{RefusedWord, first_refused}
-use Rattle.rule_singles.specs.Singles.{singles_listed}
+use Rattle.rule_singles.specs.FoundSingles.{singles_listed}
 use Rattle.se_items.proofs.Resuming.{texts_then}
 use Rattle.se_words.specs.SearchRequest.{SearchAsks}
 use Rattle.se_search.specs.SearchAnswer.{found_rules, lines_unless, rule_line, rules_text, search_answer, search_text, single_line, singles_text}

@@ -10,9 +10,9 @@ use Rattle.rule_query.specs.declared.QueryError.{QueryError}
 use Rattle.rule_query.specs.declared.QueryError.TheVariants as errors
 use Rattle.rule_query.specs.declared.Refusal.{Refusal}
 use Rattle.rule_query.specs.declared.Refusal.TheVariants.{NotThere, NoNumber}
-use Rattle.rule_query.specs.Given.{Given, in_word_order}
+use Rattle.rule_query.specs.GivenCriteria.{Given, in_word_order}
 use Rattle.rule_query.specs.Refusals.{first_refused, is_pattern_word}
-use Rattle.rule_query.specs.Inner.Resolving.{AllPass, AsksSome, Ends, HasBadPattern, IsRefused}
+use Rattle.rule_query.specs.Resolving.{AllPass, AsksSome, FailsAs, HasBadPattern, IsRefused}
 use Rattle.se_items.proofs.Gains.{gains-none}
 use Rattle.se_status.specs.declared.Status.{Status}
 use Rattle.se_status.specs.declared.Status.TheVariants.{Done, Usage, ReadFault, TooLarge, BadPolicy, BadMap, UnknownName, BadNumber, BadPattern, WriteFault, Memory}
@@ -188,14 +188,14 @@ some-tried criteria old new past now some later = record {
 
 -- ---- whatever is refused
 
-pub ends-tried : (policy : Parts) (criteria : Criteria) (old new : Option (List (List ℕ))) (past now : ℕ) (error : QueryError) → Ends policy criteria old new past now error → past ≤ now
+pub ends-tried : (policy : Parts) (criteria : Criteria) (old new : Option (List (List ℕ))) (past now : ℕ) (error : QueryError) → FailsAs policy criteria old new past now error → past ≤ now
     → TriesPatterns (pattern_words criteria) old new past now (status_of error)
 ends-tried policy criteria old new past now (errors.UnknownName word) ends later = refused-tried policy criteria old new past now word NotThere ends later
 ends-tried policy criteria old new past now (errors.BadNumber word) ends later = refused-tried policy criteria old new past now word NoNumber ends later
 ends-tried policy criteria old new past now (errors.BadPattern word kind) ends later = bad-tried policy criteria old new past now word kind ends later
 ends-tried policy criteria old new past now errors.Memory ends later = some-tried criteria old new past now ends later
 
-pub ends-answer : (asks : SearchAsks) (policy : Parts) (sink : Option (List ℕ)) (faults : ℕ) (old new : Option (List (List ℕ))) (past now : ℕ) (error : QueryError) → Ends policy asks.criteria old new past now error
+pub ends-answer : (asks : SearchAsks) (policy : Parts) (sink : Option (List ℕ)) (faults : ℕ) (old new : Option (List (List ℕ))) (past now : ℕ) (error : QueryError) → FailsAs policy asks.criteria old new past now error
     → Concludes (search_answer asks policy) sink sink faults faults (status_of error)
 ends-answer asks policy sink faults old new past now (errors.UnknownName word) ends = refused-answer asks policy sink faults word NotThere old new ends
 ends-answer asks policy sink faults old new past now (errors.BadNumber word) ends = refused-answer asks policy sink faults word NoNumber old new ends

@@ -6,7 +6,7 @@ use Rattle.std.proofs.lemmas.Bool.{ltb-true, ltb-false}
 use Rattle.std.proofs.lemmas.List.Elements.{All-cons}
 use Rattle.rule_criteria.specs.declared.Criteria.{Criteria}
 use Rattle.rule_query.specs.declared.Aspect.TheVariants.{Source, Target, Class, Permissions, Numbers, Default, Booleans}
-use Rattle.rule_query.specs.Given.{Given, in_word_order, with_given, with_all, given_as}
+use Rattle.rule_query.specs.GivenCriteria.{Given, in_word_order, with_given, with_all, given_as}
 use Rattle.std.proofs.lemmas.List.Elements.{All-head, All-nil, All-tail}
 use Rattle.se_search.specs.SearchPatterns.{ComesAfter, ComesBefore}
 

@@ -7,10 +7,10 @@ use Rattle.set_products.specs.declared.Single.{Single}
 use Rattle.rule_order.specs.ListedOrder.{in_rule_order}
 use Rattle.rule_query.specs.declared.Refusal.{Refusal}
 use Rattle.rule_query.specs.declared.Refusal.TheVariants.{NotThere, NoNumber}
-use Rattle.rule_query.specs.Given.{in_word_order}
+use Rattle.rule_query.specs.GivenCriteria.{in_word_order}
 use Rattle.rule_query.specs.Meeting.{meeting}
 use Rattle.rule_query.specs.Refusals.{RefusedWord, first_refused}
-use Rattle.rule_singles.specs.Singles.{singles_listed}
+use Rattle.rule_singles.specs.FoundSingles.{singles_listed}
 use Rattle.rule_text.specs.RuleTexts.{single_text, text_of_rule}
 use Rattle.se_items.specs.Paging.{page}
 use Rattle.se_status.specs.declared.Status.{Status}

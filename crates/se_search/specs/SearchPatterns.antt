@@ -6,7 +6,7 @@ use Rattle.se_outside.specs.declared.PatternKind.{PatternKind}
 use Rattle.rule_criteria.specs.declared.Criteria.{Criteria}
 use Rattle.rule_query.specs.declared.QueryError.{QueryError}
 use Rattle.rule_query.specs.declared.QueryError.TheVariants as errors
-use Rattle.rule_query.specs.Given.{Given, in_word_order}
+use Rattle.rule_query.specs.GivenCriteria.{Given, in_word_order}
 use Rattle.rule_query.specs.Refusals.{is_pattern_word}
 use Rattle.rule_query.specs.AskedPatterns.{AskedFor, IsFaulty}
 use Rattle.se_status.specs.declared.Status.{Status}

@@ -1,10 +1,10 @@
 // The answer of sesearch about a policy.
 ghost use Rattle.std.specs.Prelude.{◌≡◌, IfOk, map};
-ghost use Rattle.rule_query.specs.Inner.Resolved.{IsQueryOf};
+ghost use Rattle.rule_query.specs.Queries.{IsQueryOf};
 ghost use Rattle.se_status.specs.Meeting.{Concludes, IsWritten, done};
 ghost use Rattle.se_words.specs.SearchRequest.{search_view};
 ghost use Rattle.se_items.specs.Writing.{Sends};
-ghost use Rattle.rule_singles.specs.Singles.{ends_of_rule};
+ghost use Rattle.rule_singles.specs.FoundSingles.{ends_of_rule};
 ghost use Rattle.se_search.specs.SearchAnswer.{found_rules, rules_text, search_answer, search_text, singles_text};
 ghost use Rattle.se_search.specs.SearchPatterns.{IsOfSearch, TriesPatterns, pattern_words, status_of};
 

@@ -7,8 +7,8 @@ ghost use Rattle.se_search.specs.SearchAnswer.{single_line};
 ghost use Rattle.se_search.specs.Inner.SingleLines.{AreOfRules, BeginsRow, CanBegin, StandsIn, Steps, end_of, lines_left};
 
 use crate::row_lines::{RowLines, SourceFrame, frame_between, push_targets};
-use set_products::{Place, Places, Row};
 use rule_text::RuleTexts;
+use set_products::{Place, Places, Row};
 use std::alloc::{AllocError, Global};
 
 // The most items of a listing.

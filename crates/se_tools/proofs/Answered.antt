@@ -4,7 +4,7 @@ use Rattle.std.specs.Global.{Global}
 use Rattle.std.specs.Prelude.{IsOk, MatchOption}
 use Rattle.std.proofs.lemmas.Bool.{ltb-true}
 use Rattle.pol_file.specs.Acceptance.{accept}
-use Rattle.rule_query.specs.Given.{Given}
+use Rattle.rule_query.specs.GivenCriteria.{Given}
 use Rattle.rule_query.specs.AskedPatterns.{AskedFor}
 use Rattle.se_outside.specs.Outside.{IsAsked, NoneAsked, Rose, SlotState, World, told}
 use Rattle.se_outside.specs.declared.Slot.{Slot}

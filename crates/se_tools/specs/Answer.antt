@@ -4,7 +4,7 @@ use Rattle.pol_fields.specs.declared.limits.TheConstants.{MAX_POLICY_BYTES}
 use Rattle.pol_fields.specs.declared.Fault.{Fault}
 use Rattle.pol_file.specs.Acceptance.{accept}
 use Rattle.pol_file.specs.declared.Parts.{Parts}
-use Rattle.rule_query.specs.Given.{Given}
+use Rattle.rule_query.specs.GivenCriteria.{Given}
 use Rattle.se_outside.specs.declared.Slot.{Slot}
 use Rattle.se_outside.specs.declared.Slot.TheVariants.{Policy, Map}
 use Rattle.se_words.specs.Request.{Asks, Info, Search, Dom, Flow, Make, policy_of}

@@ -8,27 +8,32 @@ use Rattle.pol_file.specs.declared.Parts.{Parts}
 use Rattle.pol_read.specs.declared.Condition.{Condition}
 use Rattle.pol_read.specs.StoredRules.{StoredRule, av_rule, stored_rules}
 use Rattle.rule_criteria.specs.declared.Criteria.{Criteria}
-use Rattle.rule_order.specs.declared.keys.Key.{Key}
-use Rattle.rule_order.specs.RuleKeys.{AreGathered}
 use Rattle.rule_tests.specs.Inner.AskedVectors.{VectorMarks, may_be_asked}
+use Rattle.rule_query.specs.declared.found_rules.FoundRules.{FoundRules}
 use Rattle.rule_query.specs.declared.query.Query.{Query}
 use Rattle.rule_query.specs.Meeting.{meets}
-use Rattle.rule_query.specs.Inner.Resolved.{IsQueryOf}
-use Rattle.rule_query.specs.Inner.Tests.{passes}
+use Rattle.rule_query.specs.Queries.{IsQueryOf}
+use Rattle.rule_query.specs.QueryTests.{passes}
+use Rattle.rule_query.specs.Inner.FoundRules.{AreFound, limit_of}
 
--- the keys of those of the rules below a number that meet the criteria of a query, and of no others
-pub record HasMet (policy : Parts) (query : Query) (below : ℕ) (found : List Key) : Type 0 where
+-- the rules below a number that meet the criteria of a query, and no others
+pub record HasMet (policy : Parts) (query : Query) (below : ℕ) (found : FoundRules) : Type 0 where
   pub within : below ≤ length (stored_rules policy)
   pub few : length (stored_rules policy) ≤ 400000000
   pub numbers : List ℕ
-  pub gathered : AreGathered policy numbers found
+  pub gathered : AreFound policy numbers found
   pub meet : (criteria : Criteria) → IsQueryOf policy criteria query → numbers ≡ filter (meets policy criteria) (range_with_len 0 below)
+
+-- they were found so, and as many of them are to be listed as at first
+pub record HasFound (policy : Parts) (query : Query) (below : ℕ) (before found : FoundRules) : Type 0 where
+  pub met : HasMet policy query below found
+  pub limit : limit_of found ≡ limit_of before
 
 -- rules stand among those of a policy, one behind the other, from a number on
 pub record StandFrom (policy : Parts) (first : ℕ) (rules : List StoredRule) : Type 0 where
   pub at : (i : ℕ) → i < length rules → slice_get (stored_rules policy) (first + i) ≡ slice_get rules i
 
--- ---- those of the table
+-- ---- the rules of the table
 
 -- no access vector passes that the marks pass over, under a condition or under none
 pub record PassesOver (query : Query) (marks : VectorMarks) : Type 0 where

@@ -10,7 +10,7 @@ abbrev pub AreMarksOf : List Node → Option MarkedValues → Type 0
 AreMarksOf set None = ⊤
 AreMarksOf set (Some marks) = (value : ℕ) → is_among marks.values value ≡ has_bit set value
 
--- the same of a set that may not be there, which then has none
+-- where a set is not there, there are no marks either
 abbrev pub AreMarksOfSome : Option (List Node) → Option MarkedValues → Type 0
 AreMarksOfSome None None = ⊤
 AreMarksOfSome None (Some marks) = ⊥

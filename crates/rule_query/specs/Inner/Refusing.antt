@@ -10,7 +10,7 @@ use Rattle.rule_query.specs.declared.given.Aspect.{Aspect}
 use Rattle.rule_query.specs.declared.given.Aspect.TheVariants.{Source, Target, Permissions, Numbers, Booleans}
 use Rattle.rule_query.specs.declared.refusing.Refusal.{Refusal}
 use Rattle.rule_query.specs.declared.refusing.Refusal.TheVariants.{NotThere, NoNumber}
-use Rattle.rule_tests.specs.Numbers.{span_of}
+use Rattle.rule_tests.specs.AskedNumbers.{span_of}
 use Rattle.rule_query.specs.Refusals.{is_missing, is_permission, refuse_if}
 
 -- the table of the sources of a kind, of its targets, or of its defaults

@@ -13,7 +13,7 @@ use Rattle.pol_read.specs.DeclaredRules.{IsDeclaredIn}
 use Rattle.rule_criteria.specs.Modes.{is_direct}
 use Rattle.rule_criteria.specs.declared.Criteria.{Criteria}
 use Rattle.rule_criteria.specs.declared.Criterion.{Criterion}
-use Rattle.rule_singles.specs.Singles.{ends_of_rule, is_listed_end}
+use Rattle.rule_singles.specs.FoundSingles.{ends_of_rule, is_listed_end}
 
 -- a type is left by a set, and by none each is
 abbrev pub leaves : Option (List Node) → ℕ → Bool

@@ -47,7 +47,7 @@ is_value_asked (Some marks) value = is_among marks.values value
 abbrev pub may_be_asked : VectorMarks → AvRec → Bool
 may_be_asked marks av = (is_value_asked marks.sources av.source && is_value_asked marks.targets av.target) && is_kind_marked marks.kinds av
 
--- ---- those of a table
+-- ---- the access vectors of a table
 
 abbrev pub is_standing : (AvRec → Bool) → Option (Placed AvRec) → Bool
 is_standing wanted None = false
@@ -57,6 +57,6 @@ is_standing wanted (Some av) = wanted av.value
 unfoldable pub standing_at : (AvRec → Bool) → List (Placed AvRec) → ℕ → Bool
 standing_at wanted table n = is_standing wanted (slice_get table n)
 
--- that of a number may be asked
+-- the access vector of a number may be asked
 abbrev pub is_asked_at : VectorMarks → List (Placed AvRec) → ℕ → Bool
 is_asked_at marks table = standing_at (may_be_asked marks) table

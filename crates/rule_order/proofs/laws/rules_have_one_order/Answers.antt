@@ -7,4 +7,4 @@ use Rattle.rule_order.proofs.laws.rules_have_one_order.Goals as goal
 pub returns : goal.returns
 returns c xs ys are moved =
     let policy = c.args.policy.now in
-    rearranged policy xs ys (are_declared c.is_accepted.ensures.accepted.1 policy c.is_accepted.ensures.accepted.2) are (All-permutation (λ (n : ℕ). n < length (stored_rules policy)) xs ys moved are) (IsPermutation-sym xs ys moved)
+    rearranged policy xs ys (are_declared c.is_accepted.ensures.accepted.0 policy c.is_accepted.ensures.accepted.1) are (All-permutation (λ (n : ℕ). n < length (stored_rules policy)) xs ys moved are) (IsPermutation-sym xs ys moved)

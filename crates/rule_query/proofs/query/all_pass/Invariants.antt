@@ -1,7 +1,7 @@
 use Rattle.std.proofs.Common.{◌≡◌, drop}
 use Rattle.std.specs.List.{list_all}
 use Rattle.rule_query.specs.Inner.NumberedRules.{rule_at}
-use Rattle.rule_query.specs.Inner.Tests.{rule_test}
+use Rattle.rule_query.specs.QueryTests.{rule_test}
 use Rattle.rule_query.proofs.query.all_pass.Given as goal
 
 -- those before pass

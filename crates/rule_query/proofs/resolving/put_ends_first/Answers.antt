@@ -1,6 +1,6 @@
 use Rattle.std.proofs.Common.{rules}
 use Rattle.std.proofs.lemmas.List.Sorted.{answers_always}
-use Rattle.rule_query.specs.Inner.Tests.{reads_rule}
+use Rattle.rule_query.specs.Inner.LookedUp.{reads_rule}
 use Rattle.rule_query.proofs.TestOrder.{put_are_same}
 use Rattle.rule_query.proofs.resolving.put_ends_first.Goals as goal
 

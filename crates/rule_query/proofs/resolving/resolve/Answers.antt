@@ -1,6 +1,6 @@
 use Rattle.std.proofs.Common.{◌+◌, ◌∙◌, List, map, take, drop, refl, sym, ap, subst}
 use Rattle.std.proofs.lemmas.Result.{err_from_is_err_and}
-use Rattle.rule_query.specs.Given.{Given, in_word_order, shown}
+use Rattle.rule_query.specs.GivenCriteria.{Given, in_word_order, shown}
 use Rattle.rule_query.proofs.Resolvings.{LookedUp, nothing_yet, one_more, stopped, no_place, no_room, all_words, split_at, one_taken, all_taken}
 use Rattle.rule_query.proofs.resolving.resolve.Goals as goal
 

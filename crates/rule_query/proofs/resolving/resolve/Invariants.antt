@@ -1,6 +1,6 @@
 use Rattle.std.proofs.Common.{map, take}
-use Rattle.rule_query.specs.Given.{shown}
-use Rattle.rule_query.specs.Inner.Tests.{IsMapIfMade}
+use Rattle.rule_query.specs.GivenCriteria.{shown}
+use Rattle.rule_query.specs.Inner.LookedUp.{IsMapIfMade}
 use Rattle.rule_query.proofs.Resolvings.{LookedUp}
 use Rattle.rule_query.proofs.resolving.resolve.Given as goal
 

@@ -6,10 +6,10 @@ use Rattle.rule_singles.specs.Inner.EndSets.{leaves}
 use Rattle.rule_singles.proofs.end_sets.expansion_left.Goals as goal
 
 pub expansion-requires : goal.expansion-requires
-expansion-requires c = in_map c.bytes-bytes.result.now c.args.policy.now c.args.types.now c.args.value c.bytes-bytes.ensures.accepted c.requires.map c.requires.declared
+expansion-requires c = in_map c.is_accepted.ensures.accepted.0 c.args.policy.now c.args.types.now c.args.value c.is_accepted.ensures.accepted.1 c.requires.map c.requires.declared
 
 pub returns : goal.returns
 returns c =
-    let declared = in_map c.bytes-bytes.result.now c.args.policy.now c.args.types.now c.args.value c.bytes-bytes.ensures.accepted c.requires.map c.requires.declared in
+    let declared = in_map c.is_accepted.ensures.accepted.0 c.args.policy.now c.args.types.now c.args.value c.is_accepted.ensures.accepted.1 c.requires.map c.requires.declared in
     let P : List ℕ → Type 0 = λ bits. IfOk c.cut.result (λ set. bits_of set ≡ filter (leaves c.args.left.now) bits) in
     subst P (c.in_ok-set.ensures.bits ∙ c.requires.map.expands c.args.value declared) c.cut.ensures

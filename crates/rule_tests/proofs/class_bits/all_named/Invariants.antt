@@ -1,6 +1,6 @@
 use Rattle.std.proofs.Common.{◌≡◌, map, take}
 use Rattle.pol_symbols.specs.PolicySymbols.{permissions_of}
-use Rattle.rule_tests.specs.Inner.Tests.{bits_named}
+use Rattle.rule_tests.specs.PartTests.{bits_named}
 use Rattle.rule_tests.proofs.class_bits.all_named.Given as goal
 
 abbrev pub invariant-loop-name : goal.invariant-loop-name

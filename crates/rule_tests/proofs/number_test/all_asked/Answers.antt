@@ -1,7 +1,7 @@
 use Rattle.std.proofs.Common.{◌∙◌, ap}
 use Rattle.std.specs.Prelude.{not}
 use Rattle.pol_avtab.specs.XPerms.{numbers_of}
-use Rattle.rule_tests.specs.Numbers.{is_asked}
+use Rattle.rule_tests.specs.AskedNumbers.{is_asked}
 use Rattle.rule_tests.proofs.PermissionBits.{de_morgan}
 use Rattle.rule_tests.proofs.number_test.all_asked.Goals as goal
 

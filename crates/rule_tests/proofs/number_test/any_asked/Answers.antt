@@ -1,6 +1,6 @@
 use Rattle.std.proofs.Common.{◌∙◌, ℕ}
 use Rattle.pol_avtab.specs.XPerms.{numbers_of}
-use Rattle.rule_tests.specs.Numbers.{is_within}
+use Rattle.rule_tests.specs.AskedNumbers.{is_within}
 use Rattle.rule_tests.specs.declared.spans.Span.{Span}
 use Rattle.rule_tests.proofs.SpanTests.{swapped}
 use Rattle.rule_tests.proofs.number_test.any_asked.Goals as goal

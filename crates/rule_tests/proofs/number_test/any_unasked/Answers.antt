@@ -3,7 +3,7 @@ use Rattle.std.specs.Prelude.{not}
 use Rattle.std.proofs.lemmas.Iterator.Search.{any_from_yields_List}
 use Rattle.std.proofs.lemmas.Iterator.Consumers.{YieldsList-from_first}
 use Rattle.pol_avtab.specs.XPerms.{numbers_of}
-use Rattle.rule_tests.specs.Numbers.{is_asked}
+use Rattle.rule_tests.specs.AskedNumbers.{is_asked}
 use Rattle.rule_tests.proofs.number_test.any_unasked.Goals as goal
 
 pub returns : goal.returns

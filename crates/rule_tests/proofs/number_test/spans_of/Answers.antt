@@ -1,7 +1,7 @@
 use Rattle.std.proofs.Common.{Bor, List, ℕ, Vec}
 use Rattle.std.specs.Global.{Global}
 use Rattle.rule_criteria.specs.Elements.{elements_of}
-use Rattle.rule_tests.specs.Numbers.{span_of}
+use Rattle.rule_tests.specs.AskedNumbers.{span_of}
 use Rattle.rule_tests.specs.declared.spans.Span.{Span}
 use Rattle.rule_tests.proofs.ClassPermissions.{listed_of}
 use Rattle.rule_tests.proofs.number_test.spans_of.Goals as goal

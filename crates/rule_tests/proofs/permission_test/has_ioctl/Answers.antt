@@ -2,11 +2,11 @@ use Rattle.std.proofs.Common.{◌∙◌, Bor, List, ℕ, sym}
 use Rattle.rule_tests.proofs.ClassPermissions.{equal_there, equal_not, subset_is, shares_is}
 use Rattle.rule_tests.proofs.permission_test.has_ioctl.Goals as goal
 
-pub returns-then-is_among : goal.returns-then-is_among
-returns-then-is_among c = rw c.in-Equal.is (equal_there (λ (name : Bor (List ℕ)). name.now) c.args.names.now c.all_ioctl.result (sym c.is_among.ensures ∙ c.if-is_among.true) c.all_ioctl.ensures)
+pub returns-then-is_one_of : goal.returns-then-is_one_of
+returns-then-is_one_of c = rw c.in-Equal.is (equal_there (λ (name : Bor (List ℕ)). name.now) c.args.names.now c.all_ioctl.result (sym c.is_one_of.ensures ∙ c.if-is_one_of.true) c.all_ioctl.ensures)
 
-pub returns-else-is_among : goal.returns-else-is_among
-returns-else-is_among c = rw c.in-Equal.is (equal_not (λ (name : Bor (List ℕ)). name.now) c.args.names.now c.is_among.result c.is_among.ensures c.if-is_among.false)
+pub returns-else-is_one_of : goal.returns-else-is_one_of
+returns-else-is_one_of c = rw c.in-Equal.is (equal_not (λ (name : Bor (List ℕ)). name.now) c.args.names.now c.is_one_of.result c.is_one_of.ensures c.if-is_one_of.false)
 
 pub returns-in-Subset : goal.returns-in-Subset
 returns-in-Subset c = rw c.in-Subset.is (subset_is (λ (name : Bor (List ℕ)). name.now) c.args.names.now c.all_ioctl-in-Subset.result c.all_ioctl-in-Subset.ensures)

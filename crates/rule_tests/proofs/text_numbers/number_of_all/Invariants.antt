@@ -1,5 +1,5 @@
 use Rattle.std.proofs.Common.{◌≡◌, ◌≤◌, drop}
-use Rattle.rule_tests.specs.Numbers.{number_behind}
+use Rattle.rule_tests.specs.Inner.DigitNumbers.{number_behind}
 use Rattle.rule_tests.proofs.text_numbers.number_of_all.Given as goal
 
 pub record Reading (small rest : Type 0) : Type 0 where

@@ -1,7 +1,7 @@
 use Rattle.std.proofs.Common.{◌≡◌, ◌∙◌, ℕ, List, ap, map, refl, subst, sym}
 use Rattle.pol_file.specs.declared.Parts.{Parts}
 use Rattle.set_products.specs.Members.{Product, members}
-use Rattle.rule_singles.specs.Singles.{ends_of_rule}
+use Rattle.rule_singles.specs.FoundSingles.{ends_of_rule}
 use Rattle.se_items.specs.Paging.{page}
 use Rattle.se_items.specs.Writing.{Sends}
 use Rattle.se_words.specs.SearchRequest.{search_view}

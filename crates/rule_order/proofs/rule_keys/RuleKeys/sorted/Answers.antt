@@ -11,7 +11,7 @@ pub returns-clause-sorted : goal.returns-clause-sorted
 returns-clause-sorted c =
     let policy = c.args.policy.now in
     let keys = c.self.inside.keys in
-    let declared = are_declared c.is_accepted.ensures.accepted.1 policy c.is_accepted.ensures.accepted.2 in
+    let declared = are_declared c.is_accepted.ensures.accepted.0 policy c.is_accepted.ensures.accepted.1 in
     rw (← c.self.view_is) (IfOk-weaker c.sorted_numbers.result (λ v. AreSortedNumbers keys v.items) (λ v. (numbers : List ℕ) → AreGathered policy numbers keys → v.items ≡ in_rule_order policy numbers) (λ v are numbers gathered. numbers_in_order policy keys numbers v.items gathered are declared) c.sorted_numbers.ensures)
 
 pub returns-clause-rules : goal.returns-clause-rules

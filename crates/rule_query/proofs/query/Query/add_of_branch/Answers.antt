@@ -1,4 +1,4 @@
-use Rattle.std.proofs.Common.{◌≡◌, ◌+◌, Some, List, ap, length, map, ◌∙◌, arith}
+use Rattle.std.proofs.Common.{◌≡◌, ◌+◌, Some, List, ap, length, map, refl, ◌∙◌, arith}
 use Rattle.pol_cursor.specs.References.{Placed}
 use Rattle.pol_avtab.specs.declared.AvRec.{AvRec}
 use Rattle.pol_read.specs.StoredRules.{StoredRule, av_rule, rules_of_branch}
@@ -17,7 +17,7 @@ loop-view-init c =
     record {
       rules = rw all c.requires.rules;
       end = ap (λ (rs : List StoredRule). c.args.first + length rs) all;
-      found = c.requires.found;
+      found = record { met = c.requires.found; limit = refl };
     }
 
 pub add_conditional-requires-clause-rule : goal.add_conditional-requires-clause-rule
@@ -26,7 +26,7 @@ add_conditional-requires-clause-rule c =
     stand_first c.args.policy.now c.loop-view.number (map rule c.loop-view.view-iterator) (map rule c.next.new.self) (rule c.in-Some.view) (ap (map rule) c.in-Some.ensures.steps) c.loop-view.invariant.rules
 
 pub overflow_add-number : goal.overflow_add-number
-overflow_add-number c = let met = c.in_ok-add_conditional.ensures in omega (arith, met.within, met.few)
+overflow_add-number c = let met = c.in_ok-add_conditional.ensures.found in omega (arith, met.within, met.few)
 
 pub loop-view-preserved : goal.loop-view-preserved
 loop-view-preserved c =
@@ -35,7 +35,7 @@ loop-view-preserved c =
     record {
       rules = stand_behind c.args.policy.now c.loop-view.number (map rule c.loop-view.view-iterator) (map rule c.next.new.self) (rule c.in-Some.view) rules c.loop-view.invariant.rules;
       end = omega (arith, ap (λ (rs : List StoredRule). length rs) rules, c.loop-view.invariant.end);
-      found = c.in_ok-add_conditional.ensures;
+      found = record { met = c.in_ok-add_conditional.ensures.found; limit = c.in_ok-add_conditional.ensures.limit ∙ c.loop-view.invariant.found.limit };
     }
 
 pub returns-clause-next : goal.returns-clause-next

@@ -10,4 +10,4 @@ pub returns : goal.returns
 returns c =
     let policy = c.args.policy.now in
     λ criteria is. meets_at policy criteria c.args.self.now (rule_at policy c.args.n) c.args.n c.passes.result is
-    (is_declared c.is_accepted.ensures.accepted.1 policy c.args.n c.is_accepted.ensures.accepted.2 c.requires) (is_there policy c.args.n c.requires) c.passes.ensures
+    (is_declared c.is_accepted.ensures.accepted.0 policy c.args.n c.is_accepted.ensures.accepted.1 c.requires) (is_there policy c.args.n c.requires) c.passes.ensures

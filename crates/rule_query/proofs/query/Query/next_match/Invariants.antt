@@ -3,7 +3,7 @@ use Rattle.std.specs.List.{find, range_with_len}
 use Rattle.pol_read.specs.StoredRules.{stored_rules}
 use Rattle.rule_criteria.specs.declared.Criteria.{Criteria}
 use Rattle.rule_query.specs.Meeting.{meets}
-use Rattle.rule_query.specs.Inner.Resolved.{IsQueryOf}
+use Rattle.rule_query.specs.Queries.{IsQueryOf}
 use Rattle.rule_query.proofs.query.Query.next_match.Given as goal
 
 abbrev pub invariant-loop-n : goal.invariant-loop-n

@@ -1,5 +1,5 @@
 use Rattle.std.proofs.Common.{◌≡◌, drop}
-use Rattle.rule_query.specs.Inner.Tests.{first_of, types_of}
+use Rattle.rule_query.specs.QueryTests.{first_of, types_of}
 use Rattle.rule_query.proofs.query.Query.types_of.Given as goal
 
 abbrev pub invariant-loop-test : goal.invariant-loop-test

@@ -1,7 +1,7 @@
 use Rattle.std.proofs.Common.{◌≡◌, ◌∙◌, ◌∷◌, [], Bor, List, ℕ, map, refl, ap, subst}
 use Rattle.rule_criteria.specs.Elements.{elements_of}
-use Rattle.rule_tests.specs.Permissions.{compare_names}
-use Rattle.rule_tests.specs.Inner.Tests.{AreClassBits}
+use Rattle.rule_tests.specs.AskedPermissions.{compare_names}
+use Rattle.rule_tests.specs.PartTests.{AreClassBits}
 use Rattle.rule_tests.proofs.ClassPermissions.{ioctl}
 use Rattle.rule_tests.proofs.permission_test.PermissionTest.of.Goals as goal
 

@@ -1,4 +1,4 @@
--- What rules are compared with in place of names of permissions and texts of numbers: bits and spans. It serves the code alone.
+-- What rules are compared with in place of names of permissions and texts of numbers: bits and spans.
 use Rattle.std.specs.Prelude.{◌≡◌, ℕ, Bool, false, not, ◌&&◌, ◌==◌, bit_and, bit_or, Option, Some, None, List, [], ◌∷◌, map, codes, slice_get}
 use Rattle.std.specs.Str.{bytes_eq}
 use Rattle.std.specs.List.{filter, fold, list_any, list_all}
@@ -18,8 +18,8 @@ use Rattle.rule_criteria.specs.declared.Mode.TheVariants.{Equal, Subset}
 use Rattle.rule_tests.specs.declared.class_bits.ClassBits.{ClassBits}
 use Rattle.rule_tests.specs.declared.permission_test.PermissionTest.{PermissionTest}
 use Rattle.rule_tests.specs.declared.number_test.NumberTest.{NumberTest}
-use Rattle.rule_tests.specs.Permissions.{compare_names, is_among}
-use Rattle.rule_tests.specs.Numbers.{compare_numbers, spans_of}
+use Rattle.rule_tests.specs.AskedPermissions.{compare_names, is_one_of}
+use Rattle.rule_tests.specs.AskedNumbers.{compare_numbers, spans_of}
 
 -- ---- permissions
 
@@ -30,13 +30,13 @@ shares_bit mask bits = not (bit_and bits mask == 0)
 abbrev pub bits_behind : ℕ → List PermissionRec → ℕ
 bits_behind bits permissions = fold (λ mask permission. bit_or mask (bit_of permission)) bits permissions
 
--- those of the permissions of a name
+-- the bits of the permissions of a name
 abbrev pub bits_named : List ℕ → List PermissionRec → ℕ
 bits_named name permissions = bits_behind 0 (filter (λ permission. bytes_eq name permission.name) permissions)
 
--- and those of the permissions of no such name
+-- the bits of the permissions of no such name
 abbrev pub bits_of_others : List (List ℕ) → List PermissionRec → ℕ
-bits_of_others names permissions = bits_behind 0 (filter (λ permission. not (is_among names permission.name)) permissions)
+bits_of_others names permissions = bits_behind 0 (filter (λ permission. not (is_one_of names permission.name)) permissions)
 
 pub record IsClassBits (names : List (List ℕ)) (permissions : List PermissionRec) (bits : ClassBits) : Type 0 where
   pub named : bits.named.items ≡ map (λ name. bits_named name permissions) names
@@ -47,7 +47,7 @@ meets_bits Equal bits mask = list_all (shares_bit mask) bits.named.items && not 
 meets_bits Subset bits mask = list_all (shares_bit mask) bits.named.items
 meets_bits other bits mask = list_any (shares_bit mask) bits.named.items
 
--- those of the classes, in file order
+-- the bits of the classes, in file order
 abbrev pub AreClassBits : Symbols → List (List ℕ) → List ClassBits → Type 0
 AreClassBits symbols names classes = (i : ℕ) (class : Placed ClassRec) → slice_get symbols.classes.records i ≡ Some class → (bits : ClassBits) × (slice_get classes i ≡ Some bits) × IsClassBits names (permissions_of symbols class.value) bits
 

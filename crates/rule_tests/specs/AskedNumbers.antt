@@ -1,5 +1,5 @@
 -- The ioctl numbers that are asked, and how those of a rule meet them (SETools' manual page of sesearch).
-use Rattle.std.specs.Prelude.{ℕ, ◌+◌, ◌-◌, ◌*◌, ◌==◌, nat_le, Bool, false, ◌&&◌, ◌||◌, Option, Some, None, List, [], ◌∷◌, is_some, unwrap_or, take, drop, if◌then◌else◌}
+use Rattle.std.specs.Prelude.{ℕ, ◌+◌, ◌-◌, ◌*◌, ◌^◌, ◌==◌, nat_le, Bool, false, ◌&&◌, ◌||◌, Option, Some, None, List, [], ◌∷◌, is_some, length, unwrap_or, take, drop, if◌then◌else◌}
 use Rattle.std.specs.List.{filter_map, list_any, list_all, position_from, range_with_len}
 use Rattle.pol_avtab.specs.XPerms.{Numbers as NumbersOf, numbers_of, holds}
 use Rattle.pol_read.specs.declared.RulePart.{RulePart}
@@ -23,10 +23,10 @@ digit byte =
 abbrev pub is_digit : ℕ → Bool
 is_digit byte = is_some (digit byte)
 
--- the value of digits behind a number
-unfoldable pub value_behind : ℕ → List ℕ → ℕ
-value_behind value [] = value
-value_behind value (byte ∷ bytes) = value_behind (value * 16 + unwrap_or (digit byte) 0) bytes
+-- the number that digits stand for: each counts sixteen times as much as the one behind it
+unfoldable pub value_of : List ℕ → ℕ
+value_of [] = 0
+value_of (byte ∷ bytes) = unwrap_or (digit byte) 0 * 16 ^ length bytes + value_of bytes
 
 -- a text without the 0x or 0X that it begins with
 abbrev pub without_prefix : List ℕ → List ℕ
@@ -34,14 +34,14 @@ without_prefix [] = []
 without_prefix (a ∷ []) = a ∷ []
 without_prefix (a ∷ b ∷ digits) = if a == 48 && (b == 120 || b == 88) then digits else a ∷ b ∷ digits
 
--- the number of 16 bits that digits behind a number stand for
-abbrev pub number_behind : ℕ → List ℕ → Option ℕ
-number_behind value digits = if list_all is_digit digits && nat_le (value_behind value digits) 65535 then Some (value_behind value digits) else None
+-- the number of 16 bits that all bytes of a text stand for, as digits
+abbrev pub number_of_all : List ℕ → Option ℕ
+number_of_all digits = if list_all is_digit digits && nat_le (value_of digits) 65535 then Some (value_of digits) else None
 
--- the number that digits stand for, one at least
+-- there is one digit at least
 abbrev pub number_of_digits : List ℕ → Option ℕ
 number_of_digits [] = None
-number_of_digits (byte ∷ bytes) = number_behind 0 (byte ∷ bytes)
+number_of_digits (byte ∷ bytes) = number_of_all (byte ∷ bytes)
 
 -- the number that a text is: hexadecimal, of 16 bits, with or without 0x or 0X
 unfoldable pub number_of : List ℕ → Option ℕ
@@ -66,7 +66,7 @@ span_at element (Some dash) = span_between (number_of (take dash element)) (numb
 unfoldable pub span_of : List ℕ → Option Span
 span_of element = span_at element (position_from is_dash 0 element)
 
--- those that a text lists
+-- the spans that a text lists
 abbrev pub spans_of : List ℕ → List Span
 spans_of text = filter_map span_of (elements_of text)
 

@@ -14,14 +14,14 @@ use Rattle.rule_criteria.specs.declared.Mode.TheVariants.{Equal, Subset}
 
 -- ---- sets of names
 
-abbrev pub is_among : List (List ℕ) → List ℕ → Bool
-is_among names name = list_any (bytes_eq name) names
+abbrev pub is_one_of : List (List ℕ) → List ℕ → Bool
+is_one_of names name = list_any (bytes_eq name) names
 
 -- Of two sets of names, those that are asked and those that a rule has: they are equal, the first is a part of the second, or they share one.
 abbrev pub compare_names : Mode → List (List ℕ) → List (List ℕ) → Bool
-compare_names Equal asked has = list_all (is_among asked) has && list_all (is_among has) asked
-compare_names Subset asked has = list_all (is_among has) asked
-compare_names other asked has = list_any (is_among has) asked
+compare_names Equal asked has = list_all (is_one_of asked) has && list_all (is_one_of has) asked
+compare_names Subset asked has = list_all (is_one_of has) asked
+compare_names other asked has = list_any (is_one_of has) asked
 
 -- ---- the permissions of a rule
 
@@ -29,7 +29,7 @@ compare_names other asked has = list_any (is_among has) asked
 abbrev pub names_in_mask : Symbols → ℕ → ℕ → List (List ℕ)
 names_in_mask symbols class mask = map (λ permission. permission.name) (filter (has_permission mask) (permissions_in_class symbols class))
 
--- those that a rule of a class shows: a rule of extended permissions has the one permission ioctl, and transitions and role allows have none
+-- the permissions that a rule of a class shows: a rule of extended permissions has the one permission ioctl, and transitions and role allows have none
 abbrev pub permission_names : Symbols → ℕ → RulePart → List (List ℕ)
 permission_names symbols class (Perms mask) = names_in_mask symbols class mask
 permission_names symbols class (Numbers numbers) = codes "ioctl" ∷ []
