@@ -8,4 +8,4 @@ loop-i-preserved c =
     rw c.in_ok-push.ensures.items (rw next (rw (c.in_ok-from_view.ensures.same, c.loop-i.invariant) refl))
 
 pub returns : goal.returns
-returns c = c.from_vec.ensures ∙ c.loop-i.invariant ∙ rows_all c.is_accepted.ensures.accepted.1 c.args.policy.now c.loop-i.i c.is_accepted.ensures.accepted.2 (omega arith)
+returns c = c.from_vec.ensures ∙ c.loop-i.invariant ∙ rows_all c.is_accepted.ensures.accepted.0 c.args.policy.now c.loop-i.i c.is_accepted.ensures.accepted.1 (omega arith)
