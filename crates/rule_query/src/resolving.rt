@@ -52,7 +52,7 @@ pub fn resolve<P: Patterns>(
     policy: &Policy<'_>,
     patterns: &mut P,
 ) -> Result<Query, QueryError>
-    ensures { Resolves policy.now criteria.now (P.asked patterns.old) (P.asked patterns.new) (P.refusals patterns.old) (P.refusals patterns.new) result }
+    ensures { Resolves policy.now criteria.now (P.state patterns.old).asked (P.state patterns.new).asked (P.state patterns.old).refusals (P.state patterns.new).refusals result }
 {
     let order = in_word_order(alloc, criteria)?;
     let mut types = None;
@@ -101,7 +101,7 @@ fn ask<P: Patterns>(
     given: &GivenCriterion<'_>,
     patterns: &mut P,
 ) -> Result<Option<Regex>, QueryError>
-    ensures { Asks symbols.now kinds.now (shown given.now) (P.asked patterns.old) (P.asked patterns.new) (P.refusals patterns.old) (P.refusals patterns.new) result }
+    ensures { Asks symbols.now kinds.now (shown given.now) (P.state patterns.old).asked (P.state patterns.new).asked (P.state patterns.old).refusals (P.state patterns.new).refusals result }
 {
     let word = given.criterion.word;
     match refusal_of(alloc, symbols, kinds, given)? {
@@ -122,7 +122,7 @@ fn build<P: Patterns>(
     given: &GivenCriterion<'_>,
     patterns: &mut P,
 ) -> Result<Regex, QueryError>
-    ensures { BuildsWord (shown given.now) (P.asked patterns.old) (P.asked patterns.new) (P.refusals patterns.old) (P.refusals patterns.new) result }
+    ensures { BuildsWord (shown given.now) (P.state patterns.old).asked (P.state patterns.new).asked (P.state patterns.old).refusals (P.state patterns.new).refusals result }
 {
     let word = given.criterion.word;
     match patterns.build(alloc, given.criterion.text.as_str()) {

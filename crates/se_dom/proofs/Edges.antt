@@ -1,25 +1,28 @@
 -- The edges of the graph are those that are listed.
-use Rattle.std.proofs.Common.{◌≡◌, ◌∙◌, ℕ, Bool, true, false, List, Option, refl, sym, ap, subst, map}
+use Rattle.std.proofs.Common.{◌≡◌, ◌∙◌, ℕ, Bool, List, Option, ap, refl}
 use Rattle.std.proofs.Math.Path.{fun_ext}
-use Rattle.std.specs.Prelude.{if◌then◌else◌}
 use Rattle.pol_bitmap.specs.declared.Node.{Node}
 use Rattle.pol_bitmap.specs.Nodes.{has_bit}
 use Rattle.pol_file.specs.declared.Parts.{Parts}
 use Rattle.dom_trans.specs.DomainEdges.{Domains, domain_edge, is_step}
+use Rattle.dom_trans.specs.Transitions.{is_transition}
 use Rattle.se_words.specs.DomRequest.{DomAsks}
+use Rattle.se_walks.specs.GraphAnswer.{excluded_in, is_edge, is_listed}
+use Rattle.se_items.specs.Paging.{page}
+use Rattle.se_items.specs.declared.Window.{Window}
 use Rattle.se_walks.specs.GraphItems.{items_between}
-use Rattle.se_walks.specs.TypeNames.{is_excluded}
 use Rattle.se_walks.specs.declared.Ends.{Ends}
 use Rattle.se_walks.proofs.AskedTypes.{AreExcluded, either-way}
+use Rattle.se_dom.specs.DomAnswer.{dom_graph}
 use Rattle.se_dom.specs.DomTexts.{dom_words}
-use Rattle.se_dom.specs.DomAnswer.{is_edge, is_listed}
 
 step-is : (asks : DomAsks) (policy : Parts) (excluded : List Node) (reverse : Bool) (a b : ℕ) → AreExcluded policy.symbols asks.excluded excluded
-    → is_step (record { policy = policy; excluded = excluded; reverse = reverse }) a b ≡ is_listed asks policy a b
+    → is_step (record { policy = policy; excluded = excluded; reverse = reverse }) a b ≡ is_listed (is_transition policy) (excluded_in (dom_graph asks) policy) a b
 unfolding is_step is_listed
 step-is asks policy excluded reverse a b same = rw (same a, same b) refl
 
-edges-are : (asks : DomAsks) (policy : Parts) (excluded : List Node) → AreExcluded policy.symbols asks.excluded excluded → domain_edge (record { policy = policy; excluded = excluded; reverse = asks.reverse }) ≡ is_edge asks policy
+edges-are : (asks : DomAsks) (policy : Parts) (excluded : List Node) → AreExcluded policy.symbols asks.excluded excluded
+    → domain_edge (record { policy = policy; excluded = excluded; reverse = asks.reverse }) ≡ is_edge (is_transition policy) (excluded_in (dom_graph asks) policy) asks.reverse
 edges-are asks policy excluded same =
     fun_ext (λ a. fun_ext (λ b. either-way asks.reverse _ _ _ _ (step-is asks policy excluded asks.reverse b a same) (step-is asks policy excluded asks.reverse a b same)))
 
@@ -27,9 +30,14 @@ edges-are asks policy excluded same =
 pub items-are : (asks : DomAsks) (policy : Parts) (excluded : List Node) (graph : Domains) (ends : Ends) → AreExcluded policy.symbols asks.excluded excluded
     → graph ≡ record { policy = policy; excluded = excluded; reverse = asks.reverse }
     → items_between (dom_words graph.policy) (domain_edge graph) policy (has_bit excluded) ends
-    ≡ items_between (dom_words policy) (is_edge asks policy) policy (is_excluded policy.symbols asks.excluded) ends
+    ≡ items_between (dom_words policy) (is_edge (is_transition policy) (excluded_in (dom_graph asks) policy) asks.reverse) policy (excluded_in (dom_graph asks) policy) ends
 items-are asks policy excluded graph ends same is =
-    let around : has_bit excluded ≡ is_excluded policy.symbols asks.excluded = fun_ext same in
+    let around : has_bit excluded ≡ excluded_in (dom_graph asks) policy = fun_ext same in
     ap (λ (g : Domains). items_between (dom_words g.policy) (domain_edge g) policy (has_bit excluded) ends) is
     ∙ ap (λ (edge : ℕ → ℕ → Bool). items_between (dom_words policy) edge policy (has_bit excluded) ends) (edges-are asks policy excluded same)
-    ∙ ap (λ (without : ℕ → Bool). items_between (dom_words policy) (is_edge asks policy) policy without ends) around
+    ∙ ap (λ (without : ℕ → Bool). items_between (dom_words policy) (is_edge (is_transition policy) (excluded_in (dom_graph asks) policy) asks.reverse) policy without ends) around
+
+-- the part that a window gives, of the same items
+pub paged : {A : Type 0} (window : Window) (from : ℕ) (limit : Option ℕ) → window ≡ record { from = from; limit = limit } → {xs ys : List A} → xs ≡ ys
+    → page window.from window.limit xs ≡ page from limit ys
+paged window from limit is {xs} {ys} same = ap (λ (w : Window). page w.from w.limit xs) is ∙ ap (page from limit) same

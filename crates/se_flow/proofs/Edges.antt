@@ -11,11 +11,14 @@ use Rattle.pol_expand.specs.PlainTypes.{are_two_types}
 use Rattle.flow_search.specs.Flows.{flow_weight}
 use Rattle.flow_search.specs.FlowEdges.{FlowSearch, flow_edge, is_flow}
 use Rattle.se_words.specs.FlowRequest.{FlowAsks}
+use Rattle.se_walks.specs.GraphAnswer.{excluded_in, is_edge, is_listed}
+use Rattle.se_items.specs.Paging.{page}
+use Rattle.se_items.specs.declared.Window.{Window}
 use Rattle.se_walks.specs.GraphItems.{items_between}
 use Rattle.se_walks.specs.TypeNames.{is_excluded}
 use Rattle.se_walks.specs.declared.Ends.{Ends}
 use Rattle.se_walks.proofs.AskedTypes.{AreExcluded, either-way}
-use Rattle.se_flow.specs.FlowAnswer.{is_edge, is_listed}
+use Rattle.se_flow.specs.FlowAnswer.{flow_graph, is_flow_of}
 use Rattle.se_flow.specs.FlowTexts.{flow_words}
 
 by-two : (two : Bool) (least weight : ℕ) → 1 ≤ least → (two && nat_le least (if two then weight else 0)) ≡ nat_le least (if two then weight else 0)
@@ -28,14 +31,14 @@ unfolding flow_weight
 weighs weights policy least a b le = by-two (are_two_types policy a b) least _ le
 
 flow-is : (asks : FlowAsks) (policy : Parts) (entries : List Entry) (excluded : List Node) (reverse : Bool) (a b : ℕ) → 1 ≤ asks.least → AreExcluded policy.symbols asks.excluded excluded
-    → is_flow (record { policy = policy; entries = entries; least = asks.least; excluded = excluded; reverse = reverse }) a b ≡ is_listed asks policy (weights_of entries) a b
+    → is_flow (record { policy = policy; entries = entries; least = asks.least; excluded = excluded; reverse = reverse }) a b ≡ is_listed (is_flow_of asks policy (weights_of entries)) (excluded_in (flow_graph asks) policy) a b
 unfolding is_flow is_listed
 flow-is asks policy entries excluded reverse a b le same =
     rw (same a, same b)
     (ap (λ weighs. weighs && not (is_excluded policy.symbols asks.excluded a) && not (is_excluded policy.symbols asks.excluded b)) (weighs (weights_of entries) policy asks.least a b le))
 
 edges-are : (asks : FlowAsks) (policy : Parts) (entries : List Entry) (excluded : List Node) → 1 ≤ asks.least → AreExcluded policy.symbols asks.excluded excluded
-    → flow_edge (record { policy = policy; entries = entries; least = asks.least; excluded = excluded; reverse = asks.reverse }) ≡ is_edge asks policy (weights_of entries)
+    → flow_edge (record { policy = policy; entries = entries; least = asks.least; excluded = excluded; reverse = asks.reverse }) ≡ is_edge (is_flow_of asks policy (weights_of entries)) (excluded_in (flow_graph asks) policy) asks.reverse
 edges-are asks policy entries excluded le same =
     fun_ext (λ a. fun_ext (λ b. either-way asks.reverse _ _ _ _ (flow-is asks policy entries excluded asks.reverse b a le same) (flow-is asks policy entries excluded asks.reverse a b le same)))
 
@@ -43,10 +46,15 @@ edges-are asks policy entries excluded le same =
 pub items-are : (asks : FlowAsks) (policy : Parts) (entries : List Entry) (excluded : List Node) (graph : FlowSearch) (ends : Ends) → 1 ≤ asks.least → AreExcluded policy.symbols asks.excluded excluded
     → graph ≡ record { policy = policy; entries = entries; least = asks.least; excluded = excluded; reverse = asks.reverse }
     → items_between (flow_words (weights_of graph.entries) graph.policy graph.least) (flow_edge graph) policy (has_bit excluded) ends
-    ≡ items_between (flow_words (weights_of entries) policy asks.least) (is_edge asks policy (weights_of entries)) policy (is_excluded policy.symbols asks.excluded) ends
+    ≡ items_between (flow_words (weights_of entries) policy asks.least) (is_edge (is_flow_of asks policy (weights_of entries)) (excluded_in (flow_graph asks) policy) asks.reverse) policy (excluded_in (flow_graph asks) policy) ends
 items-are asks policy entries excluded graph ends le same is =
     let words = flow_words (weights_of entries) policy asks.least in
-    let around : has_bit excluded ≡ is_excluded policy.symbols asks.excluded = fun_ext same in
+    let around : has_bit excluded ≡ excluded_in (flow_graph asks) policy = fun_ext same in
     ap (λ (g : FlowSearch). items_between (flow_words (weights_of g.entries) g.policy g.least) (flow_edge g) policy (has_bit excluded) ends) is
     ∙ ap (λ (edge : ℕ → ℕ → Bool). items_between words edge policy (has_bit excluded) ends) (edges-are asks policy entries excluded le same)
-    ∙ ap (λ (among : ℕ → Bool). items_between words (is_edge asks policy (weights_of entries)) policy among ends) around
+    ∙ ap (λ (among : ℕ → Bool). items_between words (is_edge (is_flow_of asks policy (weights_of entries)) (excluded_in (flow_graph asks) policy) asks.reverse) policy among ends) around
+
+-- the part that a window gives, of the same items
+pub paged : {A : Type 0} (window : Window) (from : ℕ) (limit : Option ℕ) → window ≡ record { from = from; limit = limit } → {xs ys : List A} → xs ≡ ys
+    → page window.from window.limit xs ≡ page from limit ys
+paged window from limit is {xs} {ys} same = ap (λ (w : Window). page w.from w.limit xs) is ∙ ap (page from limit) same

@@ -3,16 +3,14 @@ use Rattle.std.proofs.Common.{◌≡◌, ◌+◌, ◌++◌, ℕ, List, Some, Non
 use Rattle.pol_file.specs.declared.Parts.{Parts}
 use Rattle.perm_map.specs.declared.MapFault.{MapFault}
 use Rattle.perm_map.specs.PermissionMap.{Entry, map_of, weights_of}
-use Rattle.se_items.proofs.Resuming.{texts_then}
-use Rattle.se_status.proofs.Unless.{parts_then}
-use Rattle.se_walks.specs.TypeNames.{first_unknown, type_words}
+use Rattle.se_walks.proofs.GraphAnswered.{graph_then}
 use Rattle.se_words.specs.FlowRequest.{FlowAsks}
-use Rattle.se_flow.specs.FlowAnswer.{flow_answer, flow_items, flows_text, is_listed, mapped_answer}
+use Rattle.se_flow.specs.FlowAnswer.{flow_answer, flow_graph, is_flow_of, mapped_answer}
+use Rattle.se_flow.specs.FlowTexts.{flow_words}
 
 mapped-then : (asks : FlowAsks) (policy : Parts) (count : ℕ) (read : Result (List Entry) MapFault)
     → (mapped_answer (record asks { limit = Some count }) policy read).text ++ (mapped_answer (record asks { from = asks.from + count; limit = None }) policy read).text ≡ (mapped_answer (record asks { limit = None }) policy read).text
-unfolding flows_text is_listed
-mapped-then asks policy count (Ok entries) = parts_then (first_unknown policy (type_words asks.source asks.target asks.excluded)) _ _ _ (texts_then asks.from count (flow_items asks policy (weights_of entries)))
+mapped-then asks policy count (Ok entries) = graph_then (flow_words (weights_of entries) policy asks.least) (is_flow_of asks policy (weights_of entries)) (flow_graph asks) policy count
 mapped-then asks policy count (Err fault) = refl
 
 pub answer_then : (asks : FlowAsks) (policy : Parts) (bytes : List ℕ) (count : ℕ)

@@ -1,15 +1,15 @@
 // The answer of seinfoflow about a policy and a permission map.
-ghost use Rattle.std.specs.Prelude.{◌≡◌, ◌≤◌, length};
+ghost use Rattle.std.specs.Prelude.{◌≤◌, length};
 ghost use Rattle.std.specs.List.{concat};
 ghost use Rattle.se_items.specs.Paging.{page};
 ghost use Rattle.se_items.specs.Writing.{Sends};
-ghost use Rattle.se_status.specs.Meeting.{Concludes};
+ghost use Rattle.se_status.specs.Conclusion.{Concludes};
 ghost use Rattle.perm_map.specs.PermissionMap.{weights_of};
 ghost use Rattle.se_words.specs.FlowRequest.{flow_view};
-ghost use Rattle.se_flow.specs.FlowAnswer.{IsOfMap, flow_answer, flows_text, is_edge};
+ghost use Rattle.se_flow.specs.FlowAnswer.{IsOfMap, flow_answer, flow_graph, is_flow_of};
 ghost use Rattle.se_flow.specs.FlowTexts.{flow_words};
+ghost use Rattle.se_walks.specs.GraphAnswer.{excluded_in, graph_text, is_edge};
 ghost use Rattle.se_walks.specs.GraphItems.{AreWithin, items_between};
-ghost use Rattle.se_walks.specs.TypeNames.{is_excluded};
 
 use crate::flow_texts::FlowTexts;
 use flow_search::FlowGraph;
@@ -20,12 +20,12 @@ use rule_text::RuleTexts;
 use se_items::WriteEnd;
 use se_outside::Sink;
 use se_status::{Status, status_written};
-use se_walks::{Ends, Window, ends_named, excluded_set, first_unknown, write_items};
+use se_walks::{Ends, ends_named, excluded_set, first_unknown, write_items};
 use se_words::FlowRequest;
 use std::alloc::Global;
 
 /// Answers what seinfoflow is asked of a policy and the permission map with these bytes.
-#[tactic(auto, unfolding(crate::specs::FlowAnswer::flow_answer))]
+#[tactic(auto, unfolding(crate::specs::FlowAnswer::flow_answer, se_walks::specs::GraphAnswer::graph_answer))]
 pub fn answer_flow<S: Sink>(
     alloc: Global,
     policy: &Policy<'_>,
@@ -34,8 +34,7 @@ pub fn answer_flow<S: Sink>(
     out: &mut S,
 ) -> Status
     requires { length bytes.now ≤ 4194304 }
-    ensures answers { Concludes (flow_answer (flow_view asks.now) policy.now bytes.now)
-        (S.written out.old) (S.written out.new) (S.faults out.old) (S.faults out.new) result }
+    ensures answers { Concludes (flow_answer (flow_view asks.now) policy.now bytes.now) (S.state out.old) (S.state out.new) result }
     ensures about { IsOfMap result }
 {
     let map = match PermMap::read(alloc, bytes) {
@@ -50,7 +49,6 @@ pub fn answer_flow<S: Sink>(
 }
 
 // Writes the flows of the source that is named, or the walks to the target.
-#[tactic(auto, unfolding(crate::specs::FlowAnswer::flows_text), using(se_walks::proofs::NoItems::no_items_sent))]
 fn write_answer<'q, S: Sink>(
     alloc: Global,
     policy: &'q Policy<'_>,
@@ -58,13 +56,13 @@ fn write_answer<'q, S: Sink>(
     asks: &FlowRequest<'_>,
     out: &mut S,
 ) -> Result<(), WriteEnd>
-    ensures { Sends (S.written out.old) (S.written out.new) (S.faults out.old) (S.faults out.new)
-        (flows_text (flow_view asks.now) policy.now (weights_of map.now)) result }
+    ensures { Sends (S.state out.old) (S.state out.new) (graph_text (flow_words (weights_of map.now) policy.now asks.now.least)
+        (is_flow_of (flow_view asks.now) policy.now (weights_of map.now)) (flow_graph (flow_view asks.now)) policy.now) result }
 {
-    let Some(ends) = ends_named(policy, &asks.source, &asks.target, asks.reverse) else {
-        return Ok(());
-    };
-    write_between(alloc, policy, map, asks, ends, out)
+    match ends_named(policy, &asks.source, &asks.target, asks.reverse) {
+        Some(ends) => write_between(alloc, policy, map, asks, ends, out),
+        None => Ok(()),
+    }
 }
 
 // Writes the flows of a type, or the walks to another.
@@ -77,20 +75,15 @@ fn write_between<'q, S: Sink>(
     ends: Ends,
     out: &mut S,
 ) -> Result<(), WriteEnd>
-    requires reverse { ends.reverse ≡ asks.now.reverse }
-    requires types { AreWithin policy.now.symbols.types.nprim ends }
-    ensures { Sends (S.written out.old) (S.written out.new) (S.faults out.old) (S.faults out.new)
+    requires { AreWithin policy.now.symbols.types.nprim ends }
+    ensures { Sends (S.state out.old) (S.state out.new)
         (concat (page asks.now.from asks.now.limit (items_between (flow_words (weights_of map.now) policy.now asks.now.least)
-        (is_edge (flow_view asks.now) policy.now (weights_of map.now)) policy.now
-        (is_excluded policy.now.symbols (flow_view asks.now).excluded) ends))) result }
+        (is_edge (is_flow_of (flow_view asks.now) policy.now (weights_of map.now)) (excluded_in (flow_graph (flow_view asks.now)) policy.now) asks.now.reverse)
+        policy.now (excluded_in (flow_graph (flow_view asks.now)) policy.now) ends))) result }
 {
-    let Ok(excluded) = excluded_set(alloc, policy.symbols(), &asks.excluded) else {
-        return Err(WriteEnd::Memory);
-    };
-    let Ok(types) = type_map(alloc, policy) else {
-        return Err(WriteEnd::Memory);
-    };
-    let Ok(graph) = FlowGraph::new(
+    let excluded = excluded_set(alloc, policy.symbols(), &asks.excluded)?;
+    let types = type_map(alloc, policy)?;
+    let graph = FlowGraph::new(
         alloc,
         policy,
         &types,
@@ -98,19 +91,19 @@ fn write_between<'q, S: Sink>(
         asks.least,
         &excluded,
         asks.reverse,
-    ) else {
-        return Err(WriteEnd::Memory);
-    };
-    let window = Window {
-        from: asks.from,
-        limit: asks.limit,
-    };
-    let Ok(rules) = RuleTexts::new(alloc, graph.policy()) else {
-        return Err(WriteEnd::Memory);
-    };
+    )?;
+    let rules = RuleTexts::new(alloc, graph.policy())?;
     let texts = FlowTexts {
         graph: &graph,
         rules: &rules,
     };
-    write_items(alloc, &graph, &texts, &excluded, ends, window, out)
+    write_items(
+        alloc,
+        &graph,
+        &texts,
+        &excluded,
+        ends,
+        asks.window(),
+        out,
+    )
 }

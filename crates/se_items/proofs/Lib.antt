@@ -1,4 +1,5 @@
 pub mod Gains
 pub mod Wrotes
-pub mod ItemTexts
+pub mod PieceTexts
+pub mod Pages
 pub mod Resuming

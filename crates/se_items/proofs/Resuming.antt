@@ -3,12 +3,13 @@ use Rattle.std.proofs.Common.{◌≡◌, ◌+◌, ◌++◌, [], ℕ, zero, suc, 
 use Rattle.std.specs.List.{concat}
 use Rattle.std.proofs.lemmas.List.{take-append-drop, drop-drop}
 use Rattle.std.proofs.lemmas.List.Folds.{concat-append}
-use Rattle.se_items.specs.Paging.{page, most_items}
+use Rattle.se_items.specs.Paging.{page}
+use Rattle.se_items.specs.declared.window.TheConstants.{MOST_ITEMS}
 
 pub page_then : (from count : ℕ) (items : List (List ℕ)) → page from (Some count) items ++ page (from + count) None items ≡ page from None items
 unfolding page
 page_then from count items =
-    let all : List (List ℕ) = take most_items items in
+    let all : List (List ℕ) = take MOST_ITEMS items in
     ap (λ rest. take count (drop from all) ++ rest) (sym (drop-drop count from all)) ∙ take-append-drop count (drop from all)
 
 -- and so of their texts
@@ -26,5 +27,5 @@ drop-none (suc count) = refl
 -- of no items none are asked for
 pub page-none : (from : ℕ) (limit : Option ℕ) → page {A = List ℕ} from limit [] ≡ []
 unfolding page
-page-none from None = rw (take-none {A = List ℕ} most_items) (drop-none {A = List ℕ} from)
-page-none from (Some count) = rw (take-none {A = List ℕ} most_items, drop-none {A = List ℕ} from) (take-none {A = List ℕ} count)
+page-none from None = rw (take-none {A = List ℕ} MOST_ITEMS) (drop-none {A = List ℕ} from)
+page-none from (Some count) = rw (take-none {A = List ℕ} MOST_ITEMS, drop-none {A = List ℕ} from) (take-none {A = List ℕ} count)

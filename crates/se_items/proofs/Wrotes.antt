@@ -4,19 +4,20 @@ use Rattle.std.specs.Io.KnownBytes.{Appends}
 use Rattle.std.specs.List.{flat_map}
 use Rattle.std.proofs.lemmas.Grind.{flat_map-append}
 use Rattle.std.proofs.lemmas.List.{take_all, take_more, take-append-drop}
+use Rattle.se_outside.specs.Outside.{SinkState}
 use Rattle.se_items.specs.Writing.{Wrote, Sends, GainsPart}
 use Rattle.se_items.specs.declared.writing.WriteEnd.{WriteEnd}
 use Rattle.se_items.specs.declared.writing.WriteEnd.TheVariants.{Memory}
 use Rattle.se_items.proofs.Gains.{gains-none, gains-then, part-after, part-wider, texts-more}
 
-pub wrote-then : {T U E : Type 0} (a b c : Option (List ℕ)) (f g h : ℕ) (s t : List ℕ) (x : T) (r : Result U E)
-    → Wrote {E = E} a b f g s (Ok x) → Wrote b c g h t r → Wrote a c f h (s ++ t) r
-wrote-then a b c f g h s t x (Ok y) first then = record { later = omega (arith, first.later, then.later); whole = gains-then a b c s t first.whole then.whole; part = tt; failed = tt }
-wrote-then a b c f g h s t x (Err e) first then = record { later = omega (arith, first.later, then.later); whole = tt; part = part-after a b c s t first.whole then.part; failed = omega (arith, first.later, then.failed) }
+pub wrote-then : {T U E : Type 0} (a b c : SinkState) (s t : List ℕ) (x : T) (r : Result U E)
+    → Wrote {E = E} a b s (Ok x) → Wrote b c t r → Wrote a c (s ++ t) r
+wrote-then a b c s t x (Ok y) first then = record { later = omega (arith, first.later, then.later); whole = gains-then a.written b.written c.written s t first.whole then.whole; part = tt; failed = tt }
+wrote-then a b c s t x (Err e) first then = record { later = omega (arith, first.later, then.later); whole = tt; part = part-after a.written b.written c.written s t first.whole then.part; failed = omega (arith, first.later, then.failed) }
 
-pub wrote-stop : {T U E : Type 0} (a b : Option (List ℕ)) (f g : ℕ) (s t : List ℕ) (e d : E)
-    → Wrote {T = T} a b f g s (Err e) → Wrote {T = U} a b f g (s ++ t) (Err d)
-wrote-stop a b f g s t e d first = record { later = first.later; whole = tt; part = part-wider a b s t first.part; failed = first.failed }
+pub wrote-stop : {T U E : Type 0} (a b : SinkState) (s t : List ℕ) (e d : E)
+    → Wrote {T = T} a b s (Err e) → Wrote {T = U} a b (s ++ t) (Err d)
+wrote-stop a b s t e d first = record { later = first.later; whole = tt; part = part-wider a.written b.written s t first.part; failed = first.failed }
 
 -- The texts of a list were written up to an item, and then that of the item.
 pub texts-then : {A : Type 0} (f : A → List ℕ) (xs : List A) (i : ℕ) (d : A) (a b c : Option (List ℕ)) → i < length xs
@@ -35,33 +36,33 @@ texts-stop {A} f xs i d a b c lt so_far next =
     subst (λ vs. GainsPart a c vs) k all
 
 -- The texts of the items so far were written.
-pub record Texts {A : Type 0} (f : A → List ℕ) (done : List A) (old new : Option (List ℕ)) (before now : ℕ) : Type 0 where
-  pub later : before ≤ now
-  pub gained : Appends old new (flat_map f done)
+pub record Texts {A : Type 0} (f : A → List ℕ) (done : List A) (old new : SinkState) : Type 0 where
+  pub later : old.faults ≤ new.faults
+  pub gained : Appends old.written new.written (flat_map f done)
 
 -- Memory ran out before anything was written.
-pub nothing_sent : {T : Type 0} (sink : Option (List ℕ)) (faults : ℕ) (text : List ℕ) → Sends {T = T} sink sink faults faults text (Err Memory)
-nothing_sent sink faults text = record {
+pub nothing_sent : {T : Type 0} (sink : SinkState) (text : List ℕ) → Sends {T = T} sink sink text (Err Memory)
+nothing_sent sink text = record {
   later = omega arith;
   whole = tt;
-  part = ([], text, refl, gains-none sink);
+  part = ([], text, refl, gains-none sink.written);
   failed = λ h. absurd (cc h);
 }
 
 -- The texts of the items up to one were written, and its text in part.
-pub sends-stop : {A T : Type 0} (f : A → List ℕ) (xs : List A) (i : ℕ) (d : A) (a b c : Option (List ℕ)) (before m now : ℕ) (end : WriteEnd)
-    → i < length xs → Texts f (take i xs) a b before m → Sends {T = T} b c m now (f (get_or xs i d)) (Err end) → Sends {T = T} a c before now (flat_map f xs) (Err end)
-sends-stop f xs i d a b c before m now end lt texts next = record {
+pub sends-stop : {A T : Type 0} (f : A → List ℕ) (xs : List A) (i : ℕ) (d : A) (a b c : SinkState) (end : WriteEnd)
+    → i < length xs → Texts f (take i xs) a b → Sends {T = T} b c (f (get_or xs i d)) (Err end) → Sends {T = T} a c (flat_map f xs) (Err end)
+sends-stop f xs i d a b c end lt texts next = record {
   later = omega (arith, texts.later, next.later);
   whole = tt;
-  part = texts-stop f xs i d a b c lt texts.gained next.part;
+  part = texts-stop f xs i d a.written b.written c.written lt texts.gained next.part;
   failed = λ h. omega (arith, texts.later, next.failed h);
 }
 
 -- The texts of all items were written.
-pub sends-all : {A T : Type 0} (f : A → List ℕ) (xs : List A) (i : ℕ) (a b : Option (List ℕ)) (before now : ℕ) (u : T)
-    → length xs ≤ i → Texts f (take i xs) a b before now → Sends a b before now (flat_map f xs) (Ok u)
-sends-all f xs i a b before now u le texts = record {
+pub sends-all : {A T : Type 0} (f : A → List ℕ) (xs : List A) (i : ℕ) (a b : SinkState) (u : T)
+    → length xs ≤ i → Texts f (take i xs) a b → Sends a b (flat_map f xs) (Ok u)
+sends-all f xs i a b u le texts = record {
   later = texts.later;
   whole = rw (take_all i xs le) at texts.gained;
   part = tt;
@@ -69,5 +70,5 @@ sends-all f xs i a b before now u le texts = record {
 }
 
 -- No text was written, which is all of it.
-pub none_sent : {T : Type 0} (sink : Option (List ℕ)) (faults : ℕ) (u : T) → Sends sink sink faults faults [] (Ok u)
-none_sent sink faults u = record { later = omega arith; whole = gains-none sink; part = tt; failed = λ h. absurd (cc h) }
+pub none_sent : {T : Type 0} (sink : SinkState) (u : T) → Sends sink sink [] (Ok u)
+none_sent sink u = record { later = omega arith; whole = gains-none sink.written; part = tt; failed = λ h. absurd (cc h) }

@@ -1,3 +1,3 @@
 pub mod Writing
 pub mod Paging
-pub mod Inner
+pub mod Pieces

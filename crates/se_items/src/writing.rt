@@ -39,8 +39,7 @@ impl From<AllocError> for WriteEnd {
 
 /// Writes the whole text.
 pub fn write_all<S: Sink>(sink: &mut S, text: &[u8]) -> Result<(), Failed>
-    ensures { Wrote (S.written sink.old) (S.written sink.new) (S.faults sink.old) (S.faults sink.new)
-        text.now result }
+    ensures { Wrote (S.state sink.old) (S.state sink.new) text.now result }
 {
     let mut at = 0;
     while at < text.len() {
@@ -62,8 +61,7 @@ pub fn page_buffer(alloc: Global) -> Result<Vec<u8>, AllocError>
 
 /// Writes what the buffer holds, where that fills a page, and empties it.
 pub fn spill<S: Sink>(sink: &mut S, buffer: &mut Vec<u8>) -> Result<(), WriteEnd>
-    ensures emits { Emits (S.written sink.old) (S.written sink.new) (S.faults sink.old) (S.faults sink.new)
-        buffer.old.items buffer.new.items [] result }
+    ensures emits { Emits (S.state sink.old) (S.state sink.new) buffer.old.items buffer.new.items [] result }
     ensures small { OnOk result (length buffer.new.items < PAGE) }
 {
     if buffer.len() >= PAGE {

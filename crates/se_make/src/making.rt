@@ -4,19 +4,18 @@ ghost use Rattle.pol_file.specs.Acceptance.{accept};
 ghost use Rattle.pol_tree.specs.TreeSpelling.{spell};
 ghost use Rattle.pol_make.specs.Made.{Allowed, made};
 ghost use Rattle.se_items.specs.Writing.{Sends};
-ghost use Rattle.se_listing.specs.Listing.{line_text};
-ghost use Rattle.se_status.specs.Meeting.{Concludes, IsWritten};
+ghost use Rattle.se_info.specs.Listing.{line_text};
+ghost use Rattle.se_status.specs.Conclusion.{Concludes, IsWritten};
 ghost use Rattle.se_words.specs.MakeRequest.{make_view};
 ghost use Rattle.se_make.specs.MakeAnswer.{counts_text, make_answer, make_text, read_text, singles_line};
 
 use crate::singles::count_singles;
-use info_summary::summary;
 use pol_cursor::{ReadError, Written};
 use pol_make::make;
 use pol_read::{Policy, read};
 use pol_texts::push_decimal;
+use se_info::write_summary;
 use se_items::{WriteEnd, write_all};
-use se_listing::write_listing;
 use se_outside::Sink;
 use se_status::{Status, status_written};
 use se_words::MakeRequest;
@@ -25,7 +24,7 @@ use std::alloc::{AllocError, Global};
 /// Answers what make is asked.
 pub fn answer_make<S: Sink>(alloc: Global, asks: &MakeRequest, out: &mut S) -> Status
     ensures answers { Concludes (make_answer (make_view asks.now))
-        (S.written out.old) (S.written out.new) (S.faults out.old) (S.faults out.new) result }
+        (S.state out.old) (S.state out.new) result }
     ensures written { IsWritten result }
 {
     status_written(write_answer(alloc, asks, out))
@@ -34,16 +33,13 @@ pub fn answer_make<S: Sink>(alloc: Global, asks: &MakeRequest, out: &mut S) -> S
 // Writes the policy of so many types, or its summary.
 #[tactic(auto, unfolding(crate::specs::MakeAnswer::make_text), using(se_items::proofs::Wrotes::nothing_sent))]
 fn write_answer<S: Sink>(alloc: Global, asks: &MakeRequest, out: &mut S) -> Result<(), WriteEnd>
-    ensures { Sends (S.written out.old) (S.written out.new) (S.faults out.old) (S.faults out.new)
-        (make_text (make_view asks.now)) result }
+    ensures { Sends (S.state out.old) (S.state out.new) (make_text (make_view asks.now)) result }
 {
-    let Ok(bytes) = made_bytes(alloc, asks.types) else {
-        return Err(WriteEnd::Memory);
-    };
+    let bytes = made_bytes(alloc, asks.types)?;
     if asks.bytes {
         Ok(write_all(out, &bytes)?)
     } else {
-        write_summary(alloc, asks.types, &bytes, out)
+        write_read(alloc, asks.types, &bytes, out)
     }
 }
 
@@ -59,7 +55,7 @@ fn made_bytes(alloc: Global, types: u32) -> Result<Vec<u8>, AllocError>
 }
 
 // Writes the summary of the policy of so many types, which is read from its bytes.
-fn write_summary<S: Sink>(
+fn write_read<S: Sink>(
     alloc: Global,
     types: u32,
     bytes: &[u8],
@@ -67,8 +63,7 @@ fn write_summary<S: Sink>(
 ) -> Result<(), WriteEnd>
     requires types { Allowed types }
     requires bytes { bytes.now ≡ spell (made types) }
-    ensures { Sends (S.written out.old) (S.written out.new) (S.faults out.old) (S.faults out.new)
-        (read_text (accept bytes.now)) result }
+    ensures { Sends (S.state out.old) (S.state out.new) (read_text (accept bytes.now)) result }
 {
     match read(alloc, bytes) {
         Ok(policy) => {
@@ -84,16 +79,10 @@ fn write_summary<S: Sink>(
 // Writes the summary of the policy, and how many rules between single types it has.
 #[tactic(auto, unfolding(crate::specs::MakeAnswer::counts_text), using(se_items::proofs::Wrotes::nothing_sent))]
 fn write_counts<S: Sink>(alloc: Global, policy: &Policy<'_>, out: &mut S) -> Result<(), WriteEnd>
-    ensures { Sends (S.written out.old) (S.written out.new) (S.faults out.old) (S.faults out.new)
-        (counts_text policy.now) result }
+    ensures { Sends (S.state out.old) (S.state out.new) (counts_text policy.now) result }
 {
-    let Ok(singles) = singles_text(alloc, policy) else {
-        return Err(WriteEnd::Memory);
-    };
-    let Ok(mut lines) = summary(alloc, policy) else {
-        return Err(WriteEnd::Memory);
-    };
-    write_listing(alloc, b"", &mut lines, true, out)?;
+    let singles = singles_text(alloc, policy)?;
+    write_summary(alloc, policy, out)?;
     Ok(write_all(out, &singles)?)
 }
 

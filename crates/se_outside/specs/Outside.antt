@@ -87,9 +87,14 @@ pub record Reads {E : Type 0} (old new : Slot → SlotState) (slot : Slot) (into
   pub this : ReadsOne (old slot) (new slot) into result
   pub others : (s : Slot) → s ≢ slot → new s ≡ old s
 
+-- A sink: the bytes that it holds, where it tells them, and a count of faults.
+pub record SinkState : Type 0 where
+  pub written : Option (List ℕ)
+  pub faults : ℕ
+
 -- What a `write` of the piece does.
-pub record Writes {E : Type 0} (old new : Option (List ℕ)) (before now : ℕ) (piece : List ℕ) (result : Result ℕ E) : Type 0 where
-  pub later : before ≤ now
-  pub failed : OnErr result (Rose before now)
+pub record Writes {E : Type 0} (old new : SinkState) (piece : List ℕ) (result : Result ℕ E) : Type 0 where
+  pub later : old.faults ≤ new.faults
+  pub failed : OnErr result (Rose old.faults new.faults)
   pub some : IfOk result (λ k. (1 ≤ k) × (k ≤ length piece))
-  pub bytes : WriteAppends old new result piece
+  pub bytes : WriteAppends old.written new.written result piece

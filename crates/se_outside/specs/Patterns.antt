@@ -42,12 +42,17 @@ NotesAt old new text kind = Notes old new text
 abbrev pub NotesUnlessMemory : Option (List (List ℕ)) → Option (List (List ℕ)) → List ℕ → Result Regex PatternError → Type 0
 NotesUnlessMemory old new text result = MatchResult result (λ _. Notes old new text) (NotesAt old new text)
 
--- What `build` does: the texts asked, the count of refusals, and the result.
-pub record Builds (old new : Option (List (List ℕ))) (before now : ℕ) (text : List ℕ) (result : Result Regex PatternError) : Type 0 where
-  pub later : before ≤ now
-  pub noted : NotesUnlessMemory old new text result
+-- What is known of what builds patterns: the texts that it was asked for, where it tells them, and a count of refusals.
+pub record PatternsState : Type 0 where
+  pub asked : Option (List (List ℕ))
+  pub refusals : ℕ
+
+-- What `build` does.
+pub record Builds (old new : PatternsState) (text : List ℕ) (result : Result Regex PatternError) : Type 0 where
+  pub later : old.refusals ≤ new.refusals
+  pub noted : NotesUnlessMemory old.asked new.asked text result
   pub read : IsRead text result
-  pub refused : IsErrOf result Refused → Rose before now
+  pub refused : IsErrOf result Refused → Rose old.refusals new.refusals
 
 -- The count goes up with `Refused`, and stands still otherwise.
 abbrev pub CountsAt : ℕ → ℕ → PatternError → Type 0

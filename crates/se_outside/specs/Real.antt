@@ -1,11 +1,11 @@
--- What is known of the system's files: no content, and no name.
+-- What is known of the system's files and of a writer: no content, and no name.
 use Rattle.std.specs.Prelude.{ℕ, List, Option, None, is_some, option_and_then}
 use Rattle.se_outside.specs.declared.files.Slot.{Slot}
 use Rattle.se_outside.specs.declared.files.Slot.TheVariants.{Policy, Map}
 use Rattle.se_outside.specs.declared.real.RealSlot.{RealSlot}
 use Rattle.se_outside.specs.declared.real.RealFiles.{RealFiles}
 use Rattle.se_outside.specs.declared.real.RealSink.{RealSink}
-use Rattle.se_outside.specs.Outside.{SlotState, Untold}
+use Rattle.se_outside.specs.Outside.{SinkState, SlotState, Untold}
 
 abbrev pub real_slot : {F : Type 0} → RealSlot F → SlotState
 real_slot s = record { asked = s.asked; is_open = is_some s.file; name = Untold; left = None; faults = s.faults; turns = s.turns }
@@ -22,9 +22,9 @@ abbrev pub real_left : {R F D : Type 0} → (F → Option (List ℕ)) → RealFi
 real_left remaining m Policy = slot_left remaining m.policy
 real_left remaining m Map = slot_left remaining m.map
 
--- how many writes failed
-abbrev pub real_faults : {W : Type 0} → RealSink W → ℕ
-real_faults s = s.faults
+-- no byte, and how many writes failed
+abbrev pub real_sink : {W : Type 0} → RealSink W → SinkState
+real_sink s = record { written = None; faults = s.faults }
 
 abbrev pub real_writer : {W : Type 0} → RealSink W → W
 real_writer s = s.writer

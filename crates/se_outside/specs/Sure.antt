@@ -1,11 +1,11 @@
 -- Files and a sink that never fail.
-use Rattle.std.specs.Prelude.{ℕ, List, Some}
+use Rattle.std.specs.Prelude.{ℕ, List, None, Some}
 use Rattle.se_outside.specs.declared.files.Slot.{Slot}
 use Rattle.se_outside.specs.declared.files.Slot.TheVariants.{Policy, Map}
 use Rattle.se_outside.specs.declared.sure.SureSlot.{SureSlot}
 use Rattle.se_outside.specs.declared.sure.SureFiles.{SureFiles}
 use Rattle.se_outside.specs.declared.sure.SureSink.{SureSink}
-use Rattle.se_outside.specs.Outside.{SlotState, Untold, World}
+use Rattle.se_outside.specs.Outside.{SinkState, SlotState, Untold, World}
 
 abbrev pub sure_slot : SureSlot → SlotState
 sure_slot s = record { asked = s.asked; is_open = s.asked; name = Untold; left = Some s.rest.now; faults = 0; turns = s.turns }
@@ -25,6 +25,10 @@ holding policy map = Some (λ slot name. Some (by_slot policy map slot))
 
 abbrev pub sure_world : SureFiles → World
 sure_world f = holding f.policy.bytes.now f.map.bytes.now
+
+-- no byte, and no fault
+abbrev pub sure_sink : SinkState
+sure_sink = record { written = None; faults = 0 }
 
 -- how many bytes a sink took
 abbrev pub sure_count : SureSink → ℕ

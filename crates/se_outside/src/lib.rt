@@ -1,5 +1,15 @@
 //! The outside world as the tools see it: files by slot, sinks for text, and patterns, in memory, sure, and those of the
-//! system.
+//! system. A clause names what one of them stands for by one record: a `SlotState` a slot, a `SinkState`, a `PatternsState`.
+//!
+//! A run over bytes that are at hand, whose message nobody reads:
+//!
+//! ```
+//! let mut files = SureFiles::new(&policy, &map);
+//! let mut patterns = RegexPatterns::new();
+//! let mut out = MemSink::new(alloc, 1_048_576)?;
+//! let mut err = SureSink::new();
+//! let status = run(alloc, &words, &mut files, &mut patterns, &mut out, &mut err);
+//! ```
 #![tactic(auto)]
 
 mod counts;

@@ -1,5 +1,5 @@
 // Patterns that are built in memory, and refused as it is told.
-ghost use Rattle.std.specs.Prelude.{◌≡◌, Some};
+ghost use Rattle.std.specs.Prelude.{◌≡◌};
 
 use crate::plan::Plan;
 use crate::regex_patterns::read_pattern;
@@ -19,14 +19,14 @@ pub struct MemPatterns {
 
 impl MemPatterns {
     ghost use Rattle.std.specs.Prelude.{OnOk, OnErr, Err};
-    ghost use Rattle.se_outside.specs.MemPatterns.{patterns_state, new_patterns, told_patterns};
+    ghost use Rattle.se_outside.specs.MemPatterns.{mem_patterns, new_patterns, with_plan};
     ghost use Rattle.se_outside.specs.Patterns.{IsRead};
     ghost use Rattle.se_outside.specs.Plan.{with_failing, Called, IsDue};
     ghost use Rattle.se_outside.specs.declared.patterns.PatternError.TheVariants.{Refused};
 
     /// Asked for nothing yet, and no call that is refused.
     pub fn new(alloc: Global) -> MemPatterns
-        ensures { patterns_state result ≡ new_patterns }
+        ensures { mem_patterns result ≡ new_patterns }
     {
         MemPatterns {
             alloc,
@@ -38,9 +38,9 @@ impl MemPatterns {
 
     /// That call of `build` is refused, counted from 1. After an error, of memory alone, all is as it was.
     pub fn fail(&mut self, call: u64) -> Result<(), AllocError>
-        ensures ok { OnOk result (patterns_state self.new
-            ≡ told_patterns (patterns_state self.old) (with_failing (patterns_state self.old).orders call)) }
-        ensures err { OnErr result (patterns_state self.new ≡ patterns_state self.old) }
+        ensures ok { OnOk result (mem_patterns self.new
+            ≡ with_plan (mem_patterns self.old) (with_failing (mem_patterns self.old).orders call)) }
+        ensures err { OnErr result (mem_patterns self.new ≡ mem_patterns self.old) }
     {
         self.plan.fail(call)
     }
@@ -48,8 +48,8 @@ impl MemPatterns {
     // Builds a pattern, or refuses where this call is told to, and counts nothing yet.
     fn build_or_refuse(&mut self, alloc: Global, text: &str) -> Result<Regex, PatternError>
         ensures read { IsRead text.now result }
-        ensures called { Called (patterns_state self.old).orders (patterns_state self.new).orders }
-        ensures due { IsDue (patterns_state self.new).orders → result ≡ Err Refused }
+        ensures called { Called (mem_patterns self.old).orders (mem_patterns self.new).orders }
+        ensures due { IsDue (mem_patterns self.new).orders → result ≡ Err Refused }
         ensures texts { self.new.texts ≡ self.old.texts }
         ensures refusals { self.new.refusals ≡ self.old.refusals }
     {
@@ -61,21 +61,18 @@ impl MemPatterns {
 }
 
 impl Patterns for MemPatterns {
-    ghost use Rattle.se_outside.specs.MemPatterns.{patterns_state};
+    ghost use Rattle.se_outside.specs.MemPatterns.{mem_patterns, told_patterns};
     ghost use Rattle.se_outside.specs.Patterns.{Builds, IsRefusedOrMemory, RefusesOnRefused};
     ghost use Rattle.se_outside.specs.Plan.{Called, IsDue};
 
-    ghost asked = { λ p. Some (patterns_state p).texts };
-
-    ghost refusals = { λ p. (patterns_state p).refusals };
+    ghost state = { λ p. told_patterns (mem_patterns p) };
 
     /// Builds by `regex`. A call that was told to be refused is refused, whatever the text, but where memory runs out.
     fn build(&mut self, alloc: Global, text: &str) -> Result<Regex, PatternError>
-        ensures builds { Builds (Some (patterns_state self.old).texts) (Some (patterns_state self.new).texts)
-            (patterns_state self.old).refusals (patterns_state self.new).refusals text.now result }
-        ensures called { Called (patterns_state self.old).orders (patterns_state self.new).orders }
-        ensures due { IsDue (patterns_state self.new).orders → IsRefusedOrMemory result }
-        ensures counted { RefusesOnRefused (patterns_state self.old).refusals (patterns_state self.new).refusals result }
+        ensures builds { Builds (told_patterns (mem_patterns self.old)) (told_patterns (mem_patterns self.new)) text.now result }
+        ensures called { Called (mem_patterns self.old).orders (mem_patterns self.new).orders }
+        ensures due { IsDue (mem_patterns self.new).orders → IsRefusedOrMemory result }
+        ensures counted { RefusesOnRefused (mem_patterns self.old).refusals (mem_patterns self.new).refusals result }
     {
         let built = self.build_or_refuse(alloc, text);
         if let Err(PatternError::Memory) = built {

@@ -20,12 +20,12 @@ pub struct MemSink {
 
 impl MemSink {
     ghost use Rattle.std.specs.Prelude.{◌≡◌, IfOk, OnOk, OnErr};
-    ghost use Rattle.se_outside.specs.MemSink.{sink_state, new_sink, with_orders};
+    ghost use Rattle.se_outside.specs.MemSink.{mem_sink, new_sink, with_orders};
     ghost use Rattle.se_outside.specs.Plan.{with_failing, with_most};
 
     /// A sink that holds nothing yet, and at most `room` bytes. It takes that memory at once.
     pub fn new(alloc: Global, room: usize) -> Result<MemSink, AllocError>
-        ensures { IfOk result (λ s. sink_state s ≡ new_sink room) }
+        ensures { IfOk result (λ s. mem_sink s ≡ new_sink room) }
     {
         Ok(MemSink {
             bytes: Vec::with_capacity(alloc, room)?,
@@ -37,9 +37,9 @@ impl MemSink {
 
     /// That write fails, counted from 1. After an error, of memory alone, all is as it was.
     pub fn fail(&mut self, call: u64) -> Result<(), AllocError>
-        ensures ok { OnOk result (sink_state self.new
-            ≡ with_orders (sink_state self.old) (with_failing (sink_state self.old).orders call)) }
-        ensures err { OnErr result (sink_state self.new ≡ sink_state self.old) }
+        ensures ok { OnOk result (mem_sink self.new
+            ≡ with_orders (mem_sink self.old) (with_failing (mem_sink self.old).orders call)) }
+        ensures err { OnErr result (mem_sink self.new ≡ mem_sink self.old) }
     {
         self.plan.fail(call)
     }
@@ -47,40 +47,37 @@ impl MemSink {
     /// A write takes at most `n` bytes from now on.
     pub fn most(&mut self, n: usize)
         requires { 0 < n }
-        ensures { sink_state self.new
-            ≡ with_orders (sink_state self.old) (with_most (sink_state self.old).orders n) }
+        ensures { mem_sink self.new
+            ≡ with_orders (mem_sink self.old) (with_most (mem_sink self.old).orders n) }
     {
         self.plan.set_most(n);
     }
 
     /// The bytes that were written.
     pub fn bytes(&self) -> &[u8]
-        ensures { result.now ≡ (sink_state self.now).bytes }
+        ensures { result.now ≡ (mem_sink self.now).bytes }
     {
         &self.bytes
     }
 }
 
 impl Sink for MemSink {
-    ghost use Rattle.std.specs.Prelude.{◌≡◌, ◌↔◌, ◌⊎◌, Some, IsErr, IfOk};
+    ghost use Rattle.std.specs.Prelude.{◌≡◌, ◌↔◌, ◌⊎◌, IsErr, IfOk};
     ghost use Rattle.se_outside.specs.Outside.{Writes};
     ghost use Rattle.se_outside.specs.Plan.{Called, IsDue, FaultsOnErr};
-    ghost use Rattle.se_outside.specs.MemSink.{sink_state, IsFull, taken_of};
+    ghost use Rattle.se_outside.specs.MemSink.{mem_sink, told_sink, IsFull, taken_of};
 
-    ghost written = { λ s. Some s.bytes.items };
-
-    ghost faults = { λ s. s.faults };
+    ghost state = { λ s. told_sink (mem_sink s) };
 
     /// Fails where the write is told to fail or no room is left, and nowhere else. It takes no memory.
     fn write(&mut self, piece: &[u8]) -> Result<usize, Failed>
         requires { 0 < length piece.now }
-        ensures writes { Writes (Some (sink_state self.old).bytes) (Some (sink_state self.new).bytes)
-            (sink_state self.old).faults (sink_state self.new).faults piece.now result }
-        ensures room { (sink_state self.new).room ≡ (sink_state self.old).room }
-        ensures called { Called (sink_state self.old).orders (sink_state self.new).orders }
-        ensures fails { IsErr result ↔ (IsDue (sink_state self.new).orders ⊎ IsFull (sink_state self.old)) }
-        ensures faults { FaultsOnErr (sink_state self.old).faults (sink_state self.new).faults result }
-        ensures amount { IfOk result (λ k. k ≡ taken_of (sink_state self.old) piece.now) }
+        ensures writes { Writes (told_sink (mem_sink self.old)) (told_sink (mem_sink self.new)) piece.now result }
+        ensures room { (mem_sink self.new).room ≡ (mem_sink self.old).room }
+        ensures called { Called (mem_sink self.old).orders (mem_sink self.new).orders }
+        ensures fails { IsErr result ↔ (IsDue (mem_sink self.new).orders ⊎ IsFull (mem_sink self.old)) }
+        ensures faults { FaultsOnErr (mem_sink self.old).faults (mem_sink self.new).faults result }
+        ensures amount { IfOk result (λ k. k ≡ taken_of (mem_sink self.old) piece.now) }
     {
         let fails = self.plan.next_fails();
         let left = self.room - self.bytes.len();

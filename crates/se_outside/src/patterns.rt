@@ -1,7 +1,5 @@
 // What builds patterns out of texts, as the tools see it.
-ghost use Rattle.std.specs.Prelude.{ℕ, List};
-ghost use Rattle.std.specs.declared.option.Option.{Option};
-ghost use Rattle.se_outside.specs.Patterns.{Builds};
+ghost use Rattle.se_outside.specs.Patterns.{Builds, PatternsState};
 
 use regex::Regex;
 use std::alloc::Global;
@@ -28,13 +26,11 @@ pub enum PatternKind {
 
 /// What builds patterns of the crate `regex` out of their texts.
 pub trait Patterns {
-    /// The texts that it was asked for, where it tells them: that of each call but those that ran out of memory.
-    ghost asked: { Self → Option (List (List ℕ)) };
-
-    /// A count of refusals, which never falls and rises with each `Refused`.
-    ghost refusals: { Self → ℕ };
+    /// What is known of it: the texts that it was asked for, where it tells them, that of each call but those that ran out of memory; and
+    /// a count of refusals, which never falls and rises with each `Refused`.
+    ghost state: { Self → PatternsState };
 
     /// Builds the pattern that a text is.
     fn build(&mut self, alloc: Global, text: &str) -> Result<Regex, PatternError>
-        ensures { Builds (asked self.old) (asked self.new) (refusals self.old) (refusals self.new) text.now result };
+        ensures { Builds (state self.old) (state self.new) text.now result };
 }

@@ -149,28 +149,26 @@ pub struct RealSink<W: Write + Drop> {
 }
 
 impl<W: Write + Drop> RealSink<W> {
-    ghost use Rattle.se_outside.specs.Real.{real_faults};
+    ghost use Rattle.se_outside.specs.Real.{real_sink};
 
     /// A sink with no fault yet.
     pub fn new(writer: W) -> RealSink<W>
-        ensures { real_faults result ≡ 0 }
+        ensures { (real_sink result).faults ≡ 0 }
     {
         RealSink { writer, faults: 0 }
     }
 }
 
 impl<W: Write + Drop> Sink for RealSink<W> {
-    ghost use Rattle.se_outside.specs.Real.{real_faults, real_writer};
+    ghost use Rattle.se_outside.specs.Real.{real_sink, real_writer};
 
-    ghost written = { λ _. None };
-
-    ghost faults = { real_faults };
+    ghost state = { real_sink };
 
     /// Writes once, and flushes.
     fn write(&mut self, piece: &[u8]) -> Result<usize, Failed>
         requires { 0 < length piece.now }
-        ensures writes { Writes None None (real_faults self.old) (real_faults self.new) piece.now result }
-        ensures faults { FaultsOnErr (real_faults self.old) (real_faults self.new) result }
+        ensures writes { Writes (real_sink self.old) (real_sink self.new) piece.now result }
+        ensures faults { FaultsOnErr (real_sink self.old).faults (real_sink self.new).faults result }
         // What a writer that tells its contents has gained.
         ensures bytes { IfOk result (λ k. Appends (W.contents (real_writer self.old))
             (W.contents (real_writer self.new)) (take k piece.now)) }

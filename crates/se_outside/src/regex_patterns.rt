@@ -1,5 +1,5 @@
 // Patterns as the crate `regex` builds them. The edge that is trusted.
-ghost use Rattle.std.specs.Prelude.{◌≡◌, None};
+ghost use Rattle.std.specs.Prelude.{◌≡◌};
 ghost use Rattle.se_outside.specs.Patterns.{Builds, IsRead, RefusesOnRefused};
 
 use crate::{PatternError, Patterns};
@@ -14,27 +14,25 @@ pub struct RegexPatterns {
 }
 
 impl RegexPatterns {
-    ghost use Rattle.se_outside.specs.RegexPatterns.{regex_refusals};
+    ghost use Rattle.se_outside.specs.RegexPatterns.{regex_patterns};
 
     /// Nothing was refused yet.
     pub fn new() -> RegexPatterns
-        ensures { regex_refusals result ≡ 0 }
+        ensures { (regex_patterns result).refusals ≡ 0 }
     {
         RegexPatterns { refusals: 0 }
     }
 }
 
 impl Patterns for RegexPatterns {
-    ghost use Rattle.se_outside.specs.RegexPatterns.{regex_refusals};
+    ghost use Rattle.se_outside.specs.RegexPatterns.{regex_patterns};
 
-    ghost asked = { λ _. None };
-
-    ghost refusals = { regex_refusals };
+    ghost state = { regex_patterns };
 
     /// Builds by `regex`.
     fn build(&mut self, alloc: Global, text: &str) -> Result<Regex, PatternError>
-        ensures builds { Builds None None (regex_refusals self.old) (regex_refusals self.new) text.now result }
-        ensures counted { RefusesOnRefused (regex_refusals self.old) (regex_refusals self.new) result }
+        ensures builds { Builds (regex_patterns self.old) (regex_patterns self.new) text.now result }
+        ensures counted { RefusesOnRefused (regex_patterns self.old).refusals (regex_patterns self.new).refusals result }
     {
         let built = read_pattern(alloc, text);
         if let Err(PatternError::Refused) = built {

@@ -1,7 +1,7 @@
 // Files and a sink that never fail.
-ghost use Rattle.std.specs.Prelude.{◌≡◌, ◌<◌, Some, None, IsOk, IfOk, Ok, length, min, ◌+◌, ◌-◌, ◌^◌, true, false};
+ghost use Rattle.std.specs.Prelude.{◌≡◌, ◌<◌, Some, IsOk, IfOk, Ok, length, min, ◌+◌, ◌-◌, ◌^◌, true, false};
 ghost use Rattle.se_outside.specs.Outside.{NoneAsked, Opens, OpensOne, Reads, ReadsOne, Writes};
-ghost use Rattle.se_outside.specs.Sure.{sure_slot, sure_state, sure_world, sure_count, holding};
+ghost use Rattle.se_outside.specs.Sure.{sure_slot, sure_sink, sure_state, sure_world, sure_count, holding};
 
 use crate::{Failed, Files, Sink, Slot};
 
@@ -128,14 +128,12 @@ impl SureSink {
 }
 
 impl Sink for SureSink {
-    ghost written = { λ _. None };
-
-    ghost faults = { λ _. 0 };
+    ghost state = { λ _. sure_sink };
 
     /// Takes the whole piece.
     fn write(&mut self, piece: &[u8]) -> Result<usize, Failed>
         requires { 0 < length piece.now }
-        ensures writes { Writes None None 0 0 piece.now result }
+        ensures writes { Writes sure_sink sure_sink piece.now result }
         ensures whole { result ≡ Ok (length piece.now) }
         ensures count { sure_count self.new ≡ min (sure_count self.old + length piece.now) (2 ^ 64 - 1) }
     {

@@ -5,7 +5,6 @@ pub mod FoundRules
 pub mod LinesOfRules
 pub mod RowTexts
 pub mod SingleRows
-pub mod SingleTexts
 pub mod SingleItems
 pub mod Resumed
 pub mod Asked

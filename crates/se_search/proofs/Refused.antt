@@ -10,7 +10,7 @@ use Rattle.rule_query.specs.declared.Refusal.TheVariants.{NotThere, NoNumber}
 use Rattle.rule_query.specs.GivenCriteria.{Given}
 use Rattle.rule_query.specs.Refusals.{first_refused, is_pattern_word, refusal_of, refused_at, RefusedWord}
 use Rattle.rule_query.specs.Resolving.{Passes}
-use Rattle.se_status.specs.Meeting.{ComesTo}
+use Rattle.se_status.specs.Conclusion.{ComesTo}
 use Rattle.se_search.specs.SearchAnswer.{lines_unless}
 use Rattle.se_search.specs.SearchPatterns.{ComesAfter, IsRead}
 use Rattle.std.proofs.lemmas.List.Elements.{All-head, All-nil, All-tail}

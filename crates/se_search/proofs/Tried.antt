@@ -5,6 +5,8 @@ use Rattle.std.proofs.lemmas.List.Elements.{All-cons, All-filter, filter-append}
 use Rattle.std.proofs.lemmas.List.{map-append}
 use Rattle.pol_file.specs.declared.Parts.{Parts}
 use Rattle.rule_criteria.specs.declared.Criteria.{Criteria}
+use Rattle.se_outside.specs.Outside.{SinkState}
+use Rattle.se_outside.specs.Patterns.{PatternsState}
 use Rattle.se_outside.specs.declared.PatternKind.{PatternKind}
 use Rattle.rule_query.specs.declared.QueryError.{QueryError}
 use Rattle.rule_query.specs.declared.QueryError.TheVariants as errors
@@ -16,7 +18,7 @@ use Rattle.rule_query.specs.Resolving.{AllPass, AsksSome, FailsAs, HasBadPattern
 use Rattle.se_items.proofs.Gains.{gains-none}
 use Rattle.se_status.specs.declared.Status.{Status}
 use Rattle.se_status.specs.declared.Status.TheVariants.{Done, Usage, ReadFault, TooLarge, BadPolicy, BadMap, UnknownName, BadNumber, BadPattern, WriteFault, Memory}
-use Rattle.se_status.specs.Meeting.{Concludes, IsWritten, done, refusal}
+use Rattle.se_status.specs.Conclusion.{Concludes, IsWritten, done, refusal}
 use Rattle.se_words.specs.SearchRequest.{SearchAsks}
 use Rattle.se_search.specs.SearchAnswer.{search_answer, search_text, status_for}
 use Rattle.se_search.specs.SearchPatterns.{ComesAfter, ComesBefore, IsRead, IsOfSearch, TriedUntil, TriesPatterns, pattern_words, status_of}
@@ -37,14 +39,14 @@ written-until tried past now WriteFault h read = (refl, read)
 written-until tried past now Memory h read = tt
 
 -- all words pass, and the lines were written, or not
-pub all-tried : (policy : Parts) (criteria : Criteria) (old new : Option (List (List ℕ))) (past now : ℕ) (status : Status) → AllPass policy criteria old new → past ≤ now → IsWritten status
-    → TriesPatterns (pattern_words criteria) old new past now status
-all-tried policy criteria old new past now status all later written = record {
+pub all-tried : (policy : Parts) (criteria : Criteria) (old new : PatternsState) (status : Status) → AllPass policy criteria old.asked new.asked → old.refusals ≤ new.refusals → IsWritten status
+    → TriesPatterns (pattern_words criteria) old new status
+all-tried policy criteria old new status all later written = record {
   tried = pattern_words criteria;
   others = [];
   order = sym (append-nil (pattern_words criteria));
   asked = all.asked;
-  until = written-until (pattern_words criteria) past now status written (passed-read policy criteria (in_word_order criteria) all.passed);
+  until = written-until (pattern_words criteria) old.refusals new.refusals status written (passed-read policy criteria (in_word_order criteria) all.passed);
   later = later;
 }
 
@@ -53,10 +55,10 @@ pub none-refused : (policy : Parts) (criteria : Criteria) (old new : Option (Lis
 none-refused policy criteria old new all =
     ap (first_refused policy.symbols criteria.kinds) (sym (append-nil (in_word_order criteria))) ∙ passes-skip policy criteria (in_word_order criteria) [] all.passed
 
-pub answer-written : (asks : SearchAsks) (policy : Parts) (old new : Option (List ℕ)) (before now : ℕ) (status : Status) (p q : Option (List (List ℕ))) → AllPass policy asks.criteria p q
-    → Concludes (done (search_text asks policy)) old new before now status → Concludes (search_answer asks policy) old new before now status
+pub answer-written : (asks : SearchAsks) (policy : Parts) (old new : SinkState) (status : Status) (p q : Option (List (List ℕ))) → AllPass policy asks.criteria p q
+    → Concludes (done (search_text asks policy)) old new status → Concludes (search_answer asks policy) old new status
 unfolding search_answer
-answer-written asks policy old new before now status p q all concludes = rw (none-refused policy asks.criteria p q all) concludes
+answer-written asks policy old new status p q all concludes = rw (none-refused policy asks.criteria p q all) concludes
 
 -- what is written is an end of a search
 pub written-of-search : (status : Status) → IsWritten status → IsOfSearch status
@@ -93,18 +95,18 @@ from-word criteria before given after word is at =
     let here : ComesAfter word given = omega (arith, at) in
     All-filter is_pattern_word (ComesAfter word) (given ∷ after) (All-cons (ComesAfter word) given after here (after-given criteria before given after word is at))
 
-plainly-refused : (sink : Option (List ℕ)) (faults : ℕ) (cause : Refusal) (word : ℕ) → Concludes (refusal (status_for cause word)) sink sink faults faults (status_for cause word)
-plainly-refused sink faults NotThere word = record { meets = (refl, gains-none sink); silent = gains-none sink; wrote = λ h. absurd (cc h); later = omega arith }
-plainly-refused sink faults NoNumber word = record { meets = (refl, gains-none sink); silent = gains-none sink; wrote = λ h. absurd (cc h); later = omega arith }
+plainly-refused : (sink : SinkState) (cause : Refusal) (word : ℕ) → Concludes (refusal (status_for cause word)) sink sink (status_for cause word)
+plainly-refused sink NotThere word = record { meets = (refl, gains-none sink.written); silent = gains-none sink.written; wrote = λ h. absurd (cc h); later = omega arith }
+plainly-refused sink NoNumber word = record { meets = (refl, gains-none sink.written); silent = gains-none sink.written; wrote = λ h. absurd (cc h); later = omega arith }
 
 one-kept : (front : List Given) (given : Given) (after : List Given) → is_pattern_word given ≡ true → front ++ filter is_pattern_word (given ∷ after) ≡ (front ++ given ∷ []) ++ filter is_pattern_word after
 one-kept front given after is =
     ap (λ b. front ++ cond b (given ∷ filter is_pattern_word after) (filter is_pattern_word after)) is ∙ sym (append_assoc front (given ∷ []) (filter is_pattern_word after))
 
 -- a word is refused
-pub refused-tried : (policy : Parts) (criteria : Criteria) (old new : Option (List (List ℕ))) (past now word : ℕ) (cause : Refusal) → IsRefused policy criteria old new word cause → past ≤ now
-    → TriesPatterns (pattern_words criteria) old new past now (status_for cause word)
-refused-tried policy criteria old new past now word NotThere refused later = record {
+pub refused-tried : (policy : Parts) (criteria : Criteria) (old new : PatternsState) (word : ℕ) (cause : Refusal) → IsRefused policy criteria old.asked new.asked word cause → old.refusals ≤ new.refusals
+    → TriesPatterns (pattern_words criteria) old new (status_for cause word)
+refused-tried policy criteria old new word NotThere refused later = record {
   tried = filter is_pattern_word refused.before;
   others = filter is_pattern_word (refused.given ∷ refused.stops.after);
   order = order-of criteria refused.before (refused.given ∷ refused.stops.after) refused.stops.order;
@@ -116,7 +118,7 @@ refused-tried policy criteria old new past now word NotThere refused later = rec
   );
   later = later;
 }
-refused-tried policy criteria old new past now word NoNumber refused later = record {
+refused-tried policy criteria old new word NoNumber refused later = record {
   tried = filter is_pattern_word refused.before;
   others = filter is_pattern_word (refused.given ∷ refused.stops.after);
   order = order-of criteria refused.before (refused.given ∷ refused.stops.after) refused.stops.order;
@@ -130,20 +132,20 @@ refused-tried policy criteria old new past now word NoNumber refused later = rec
 }
 
 -- and is the answer
-pub refused-answer : (asks : SearchAsks) (policy : Parts) (sink : Option (List ℕ)) (faults word : ℕ) (cause : Refusal) (old new : Option (List (List ℕ))) → IsRefused policy asks.criteria old new word cause
-    → Concludes (search_answer asks policy) sink sink faults faults (status_for cause word)
+pub refused-answer : (asks : SearchAsks) (policy : Parts) (sink : SinkState) (word : ℕ) (cause : Refusal) (old new : Option (List (List ℕ))) → IsRefused policy asks.criteria old new word cause
+    → Concludes (search_answer asks policy) sink sink (status_for cause word)
 unfolding search_answer
-refused-answer asks policy sink faults word cause old new refused =
+refused-answer asks policy sink word cause old new refused =
     let e : first_refused policy.symbols asks.criteria.kinds (in_word_order asks.criteria) ≡ Some (record { word = word; refusal = cause }) =
     ap (first_refused policy.symbols asks.criteria.kinds) refused.stops.order
     ∙ passes-skip policy asks.criteria refused.before (refused.given ∷ refused.stops.after) refused.stops.passed
     ∙ refused-here policy.symbols asks.criteria.kinds refused.given refused.stops.after cause word refused.stops.word_is refused.refused in
-    rw e (plainly-refused sink faults cause word)
+    rw e (plainly-refused sink cause word)
 
 -- a pattern was not built
-pub bad-tried : (policy : Parts) (criteria : Criteria) (old new : Option (List (List ℕ))) (past now word : ℕ) (kind : PatternKind) → HasBadPattern policy criteria old new past now word kind → past ≤ now
-    → TriesPatterns (pattern_words criteria) old new past now (BadPattern word kind)
-bad-tried policy criteria old new past now word kind bad later =
+pub bad-tried : (policy : Parts) (criteria : Criteria) (old new : PatternsState) (word : ℕ) (kind : PatternKind) → HasBadPattern policy criteria old.asked new.asked old.refusals new.refusals word kind → old.refusals ≤ new.refusals
+    → TriesPatterns (pattern_words criteria) old new (BadPattern word kind)
+bad-tried policy criteria old new word kind bad later =
     let after = after-given criteria bad.before bad.given bad.stops.after word bad.stops.order bad.stops.word_is in
     record {
       tried = filter is_pattern_word bad.before ++ bad.given ∷ [];
@@ -164,20 +166,20 @@ bad-tried policy criteria old new past now word kind bad later =
       later = later;
     }
 
-pub bad-answer : (asks : SearchAsks) (policy : Parts) (sink : Option (List ℕ)) (faults : ℕ) (old new : Option (List (List ℕ))) (past now word : ℕ) (kind : PatternKind) → HasBadPattern policy asks.criteria old new past now word kind
-    → Concludes (search_answer asks policy) sink sink faults faults (BadPattern word kind)
+pub bad-answer : (asks : SearchAsks) (policy : Parts) (sink : SinkState) (old new : Option (List (List ℕ))) (past now word : ℕ) (kind : PatternKind) → HasBadPattern policy asks.criteria old new past now word kind
+    → Concludes (search_answer asks policy) sink sink (BadPattern word kind)
 unfolding search_answer
-bad-answer asks policy sink faults old new past now word kind bad =
+bad-answer asks policy sink old new past now word kind bad =
     let e : first_refused policy.symbols asks.criteria.kinds (in_word_order asks.criteria) ≡ first_refused policy.symbols asks.criteria.kinds bad.stops.after =
     ap (first_refused policy.symbols asks.criteria.kinds) bad.stops.order
     ∙ passes-skip policy asks.criteria bad.before (bad.given ∷ bad.stops.after) bad.stops.passed
     ∙ passed-here policy.symbols asks.criteria.kinds bad.given bad.stops.after (pattern-passes policy.symbols asks.criteria.kinds bad.given bad.pattern) in
     let come = comes-to policy.symbols asks.criteria.kinds word (search_text asks policy) bad.stops.after (after-given asks.criteria bad.before bad.given bad.stops.after word bad.stops.order bad.stops.word_is) in
-    rw e (record { meets = (come, gains-none sink); silent = gains-none sink; wrote = λ h. absurd (cc h); later = omega arith })
+    rw e (record { meets = (come, gains-none sink.written); silent = gains-none sink.written; wrote = λ h. absurd (cc h); later = omega arith })
 
 -- out of memory
-pub some-tried : (criteria : Criteria) (old new : Option (List (List ℕ))) (past now : ℕ) → AsksSome criteria old new → past ≤ now → TriesPatterns (pattern_words criteria) old new past now Memory
-some-tried criteria old new past now some later = record {
+pub some-tried : (criteria : Criteria) (old new : PatternsState) → AsksSome criteria old.asked new.asked → old.refusals ≤ new.refusals → TriesPatterns (pattern_words criteria) old new Memory
+some-tried criteria old new some later = record {
   tried = filter is_pattern_word some.before;
   others = filter is_pattern_word some.after;
   order = order-of criteria some.before some.after some.order;
@@ -188,19 +190,19 @@ some-tried criteria old new past now some later = record {
 
 -- ---- whatever is refused
 
-pub ends-tried : (policy : Parts) (criteria : Criteria) (old new : Option (List (List ℕ))) (past now : ℕ) (error : QueryError) → FailsAs policy criteria old new past now error → past ≤ now
-    → TriesPatterns (pattern_words criteria) old new past now (status_of error)
-ends-tried policy criteria old new past now (errors.UnknownName word) ends later = refused-tried policy criteria old new past now word NotThere ends later
-ends-tried policy criteria old new past now (errors.BadNumber word) ends later = refused-tried policy criteria old new past now word NoNumber ends later
-ends-tried policy criteria old new past now (errors.BadPattern word kind) ends later = bad-tried policy criteria old new past now word kind ends later
-ends-tried policy criteria old new past now errors.Memory ends later = some-tried criteria old new past now ends later
+pub ends-tried : (policy : Parts) (criteria : Criteria) (old new : PatternsState) (error : QueryError) → FailsAs policy criteria old.asked new.asked old.refusals new.refusals error → old.refusals ≤ new.refusals
+    → TriesPatterns (pattern_words criteria) old new (status_of error)
+ends-tried policy criteria old new (errors.UnknownName word) ends later = refused-tried policy criteria old new word NotThere ends later
+ends-tried policy criteria old new (errors.BadNumber word) ends later = refused-tried policy criteria old new word NoNumber ends later
+ends-tried policy criteria old new (errors.BadPattern word kind) ends later = bad-tried policy criteria old new word kind ends later
+ends-tried policy criteria old new errors.Memory ends later = some-tried criteria old new ends later
 
-pub ends-answer : (asks : SearchAsks) (policy : Parts) (sink : Option (List ℕ)) (faults : ℕ) (old new : Option (List (List ℕ))) (past now : ℕ) (error : QueryError) → FailsAs policy asks.criteria old new past now error
-    → Concludes (search_answer asks policy) sink sink faults faults (status_of error)
-ends-answer asks policy sink faults old new past now (errors.UnknownName word) ends = refused-answer asks policy sink faults word NotThere old new ends
-ends-answer asks policy sink faults old new past now (errors.BadNumber word) ends = refused-answer asks policy sink faults word NoNumber old new ends
-ends-answer asks policy sink faults old new past now (errors.BadPattern word kind) ends = bad-answer asks policy sink faults old new past now word kind ends
-ends-answer asks policy sink faults old new past now errors.Memory ends = record { meets = ([], _, refl, gains-none sink); silent = tt; wrote = λ h. absurd (cc h); later = omega arith }
+pub ends-answer : (asks : SearchAsks) (policy : Parts) (sink : SinkState) (old new : Option (List (List ℕ))) (past now : ℕ) (error : QueryError) → FailsAs policy asks.criteria old new past now error
+    → Concludes (search_answer asks policy) sink sink (status_of error)
+ends-answer asks policy sink old new past now (errors.UnknownName word) ends = refused-answer asks policy sink word NotThere old new ends
+ends-answer asks policy sink old new past now (errors.BadNumber word) ends = refused-answer asks policy sink word NoNumber old new ends
+ends-answer asks policy sink old new past now (errors.BadPattern word kind) ends = bad-answer asks policy sink old new past now word kind ends
+ends-answer asks policy sink old new past now errors.Memory ends = record { meets = ([], _, refl, gains-none sink.written); silent = tt; wrote = λ h. absurd (cc h); later = omega arith }
 
 pub ends-about : (error : QueryError) → IsOfSearch (status_of error)
 ends-about (errors.UnknownName word) = tt

@@ -15,7 +15,7 @@ use Rattle.rule_text.specs.RuleTexts.{single_text, text_of_rule}
 use Rattle.se_items.specs.Paging.{page}
 use Rattle.se_status.specs.declared.Status.{Status}
 use Rattle.se_status.specs.declared.Status.TheVariants.{UnknownName, BadNumber}
-use Rattle.se_status.specs.Meeting.{Answer, done, refusal}
+use Rattle.se_status.specs.Conclusion.{Answer, done, refusal}
 use Rattle.se_words.specs.SearchRequest.{SearchAsks}
 
 -- the line of the rule of a number

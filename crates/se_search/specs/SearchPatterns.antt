@@ -1,7 +1,7 @@
 -- What a run does with the words that are patterns.
 use Rattle.std.specs.Prelude.{◌≡◌, ◌≤◌, ℕ, List, [], ◌∷◌, ◌++◌, map, ⊤, Option}
 use Rattle.std.specs.List.{All, filter}
-use Rattle.se_outside.specs.Patterns.{IsPatternText}
+use Rattle.se_outside.specs.Patterns.{IsPatternText, PatternsState}
 use Rattle.se_outside.specs.declared.PatternKind.{PatternKind}
 use Rattle.rule_criteria.specs.declared.Criteria.{Criteria}
 use Rattle.rule_query.specs.declared.QueryError.{QueryError}
@@ -52,13 +52,13 @@ TriedUntil tried others past now Memory = ⊤
 TriedUntil tried others past now status = tried ≡ []
 
 -- What was asked of the object that builds patterns: the texts of the first words that are patterns.
-pub record TriesPatterns (words : List Given) (old new : Option (List (List ℕ))) (past now : ℕ) (status : Status) : Type 0 where
+pub record TriesPatterns (words : List Given) (old new : PatternsState) (status : Status) : Type 0 where
   pub tried : List Given
   pub others : List Given
   pub order : words ≡ tried ++ others
-  pub asked : AskedFor old new (map (λ given. given.criterion.text) tried)
-  pub until : TriedUntil tried others past now status
-  pub later : past ≤ now
+  pub asked : AskedFor old.asked new.asked (map (λ given. given.criterion.text) tried)
+  pub until : TriedUntil tried others old.refusals new.refusals status
+  pub later : old.refusals ≤ new.refusals
 
 -- What a policy that was read ends with: names, numbers and patterns of words can be refused.
 abbrev pub IsOfSearch : Status → Type 0

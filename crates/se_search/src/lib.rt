@@ -6,7 +6,6 @@ mod row_lines;
 mod rule_lines;
 mod search;
 mod single_lines;
-mod single_writing;
 
 pub use laws::searches_resume;
 pub use search::answer_search;

@@ -1,11 +1,11 @@
-// The lines of rules, as items that are written one after the other.
+// The lines of rules, as a text that is made line by line.
 ghost use Rattle.std.specs.Prelude.{◌≡◌, ◌<◌, ◌++◌, OnOk, length, map};
 ghost use Rattle.rule_order.specs.ListedOrder.{AreRules};
 ghost use Rattle.pol_read.specs.StoredRules.{stored_rules};
 ghost use Rattle.se_search.specs.SearchAnswer.{rule_line};
 
 use rule_listing::{ListedRule, ListedTexts, RulesAhead};
-use se_items::Items;
+use se_items::Pieces;
 use std::alloc::AllocError;
 
 /// The lines of the stored rules of some numbers.
@@ -29,16 +29,15 @@ impl<'q, 'p, 'a> RuleLines<'q, 'p, 'a> {
     }
 }
 
-impl Items for RuleLines<'_, '_, '_> {
-    ghost use Rattle.se_search.specs.Inner.RuleLines.{lines_left};
+impl Pieces for RuleLines<'_, '_, '_> {
+    ghost use Rattle.std.specs.Prelude.{⊤};
+    ghost use Rattle.se_search.specs.Inner.RuleLines.{text_left};
 
-    ghost left = { lines_left };
+    ghost left = { text_left };
 
-    fn pass(&mut self) -> bool {
-        self.rules.pass()
-    }
+    ghost stands = { λ _. ⊤ };
 
-    fn push_next(&mut self, buffer: &mut Vec<u8>) -> Result<bool, AllocError> {
+    fn push_piece(&mut self, buffer: &mut Vec<u8>) -> Result<bool, AllocError> {
         let Some(rule) = self.rules.front() else {
             return Ok(false);
         };

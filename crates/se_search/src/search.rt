@@ -1,7 +1,7 @@
 // The answer of sesearch about a policy.
 ghost use Rattle.std.specs.Prelude.{◌≡◌, IfOk, map};
 ghost use Rattle.rule_query.specs.Queries.{IsQueryOf};
-ghost use Rattle.se_status.specs.Meeting.{Concludes, IsWritten, done};
+ghost use Rattle.se_status.specs.Conclusion.{Concludes, IsWritten, done};
 ghost use Rattle.se_words.specs.SearchRequest.{search_view};
 ghost use Rattle.se_items.specs.Writing.{Sends};
 ghost use Rattle.rule_singles.specs.FoundSingles.{ends_of_rule};
@@ -10,14 +10,13 @@ ghost use Rattle.se_search.specs.SearchPatterns.{IsOfSearch, TriesPatterns, patt
 
 use crate::rule_lines::RuleLines;
 use crate::single_lines::SingleLines;
-use crate::single_writing::write_lines;
 use pol_expand::type_map;
 use pol_read::Policy;
 use rule_listing::ListedTexts;
 use rule_query::{Query, QueryError, resolve};
 use rule_singles::SingleRules;
 use rule_text::RuleTexts;
-use se_items::{WriteEnd, listed, write_page};
+use se_items::{WriteEnd, write_pieces};
 use se_outside::{Patterns, Sink};
 use se_status::{Status, status_written};
 use se_words::SearchRequest;
@@ -32,10 +31,11 @@ pub fn answer_search<P: Patterns, S: Sink>(
     out: &mut S,
 ) -> Status
     ensures answers { Concludes (search_answer (search_view asks.now) policy.now)
-        (S.written out.old) (S.written out.new) (S.faults out.old) (S.faults out.new) result }
+        (S.state out.old) (S.state out.new)
+        result }
     ensures about { IsOfSearch result }
     ensures patterns { TriesPatterns (pattern_words (search_view asks.now).criteria)
-        (P.asked patterns.old) (P.asked patterns.new) (P.refusals patterns.old) (P.refusals patterns.new) result }
+        (P.state patterns.old) (P.state patterns.new) result }
 {
     match resolve(alloc, &asks.criteria, policy, patterns) {
         Ok(query) => write_found(alloc, policy, asks, &query, out),
@@ -65,7 +65,8 @@ fn write_found<S: Sink>(
 ) -> Status
     requires { IsQueryOf policy.now asks.now.criteria query.now }
     ensures writes { Concludes (done (search_text (search_view asks.now) policy.now))
-        (S.written out.old) (S.written out.new) (S.faults out.old) (S.faults out.new) result }
+        (S.state out.old) (S.state out.new)
+        result }
     ensures plain { IsWritten result }
 {
     if asks.singles {
@@ -85,17 +86,14 @@ fn write_rules<S: Sink>(
     out: &mut S,
 ) -> Result<(), WriteEnd>
     requires { IsQueryOf policy.now asks.now.criteria query.now }
-    ensures { Sends (S.written out.old) (S.written out.new) (S.faults out.old) (S.faults out.new)
+    ensures { Sends (S.state out.old) (S.state out.new)
         (rules_text (search_view asks.now) policy.now) result }
 {
-    let Ok(numbers) = query.sorted(alloc, policy) else {
-        return Err(WriteEnd::Memory);
-    };
-    let Ok(texts) = ListedTexts::new(alloc, policy) else {
-        return Err(WriteEnd::Memory);
-    };
-    let mut lines = RuleLines::new(texts, listed(&numbers));
-    write_page(alloc, &mut lines, asks.from, asks.limit, out)
+    let window = asks.window();
+    let numbers = query.least(alloc, policy, window.end())?;
+    let texts = ListedTexts::new(alloc, policy)?;
+    let mut lines = RuleLines::new(texts, window.of(&numbers));
+    write_pieces(alloc, &mut lines, out)
 }
 
 // Writes the lines of the rules between single types.
@@ -108,17 +106,13 @@ fn write_singles<S: Sink>(
     out: &mut S,
 ) -> Result<(), WriteEnd>
     requires { IsQueryOf policy.now asks.now.criteria query.now }
-    ensures { Sends (S.written out.old) (S.written out.new) (S.faults out.old) (S.faults out.new)
+    ensures { Sends (S.state out.old) (S.state out.new)
         (singles_text (search_view asks.now) policy.now) result }
 {
-    let Ok(rules) = single_rules(alloc, policy, asks, query) else {
-        return Err(WriteEnd::Memory);
-    };
-    let Ok(texts) = RuleTexts::new(alloc, policy) else {
-        return Err(WriteEnd::Memory);
-    };
-    let mut lines = SingleLines::new(&texts, rules.places(), asks.from, asks.limit);
-    write_lines(alloc, &mut lines, out)
+    let rules = single_rules(alloc, policy, asks, query)?;
+    let texts = RuleTexts::new(alloc, policy)?;
+    let mut lines = SingleLines::new(&texts, rules.places(), asks.window());
+    write_pieces(alloc, &mut lines, out)
 }
 
 // The rules that meet a query, in the order in which rules are listed, each with the types that are listed of its ends.

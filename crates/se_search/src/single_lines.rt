@@ -4,15 +4,13 @@ ghost use Rattle.set_products.specs.Members.{members};
 ghost use Rattle.se_items.specs.Paging.{most_items, page};
 ghost use Rattle.se_search.specs.Inner.RowLines.{IsLast};
 ghost use Rattle.se_search.specs.SearchAnswer.{single_line};
-ghost use Rattle.se_search.specs.Inner.SingleLines.{AreOfRules, BeginsRow, CanBegin, StandsIn, Steps, end_of, lines_left};
+ghost use Rattle.se_search.specs.Inner.SingleLines.{AreOfRules, BeginsRow, CanBegin, StandsIn, end_of, lines_left};
 
 use crate::row_lines::{RowLines, SourceFrame, frame_between, push_targets};
-use rule_text::RuleTexts;
+use se_items::{MOST_ITEMS, Pieces, Window};
 use set_products::{Place, Places, Row};
+use rule_text::RuleTexts;
 use std::alloc::{AllocError, Global};
-
-// The most items of a listing.
-const MOST_ITEMS: u64 = 999_999_999_999_999_999;
 
 // The most lines that are added at a time.
 const MOST_LINES: u64 = 64;
@@ -36,48 +34,23 @@ impl<'s, 'p, 'a> SingleLines<'s, 'p, 'a> {
     pub fn new(
         texts: &'s RuleTexts<'p, 'a>,
         places: Places<'s>,
-        from: u64,
-        limit: Option<u64>,
+        window: Window,
     ) -> SingleLines<'s, 'p, 'a>
         requires { AreOfRules texts.now places }
         ensures stands { StandsIn result }
-        ensures lines { lines_left result ≡ page from limit (map (single_line texts.now) (members places.entry)) }
+        ensures lines { lines_left result ≡ page window.from window.limit (map (single_line texts.now) (members places.entry)) }
     {
         let all = count_listed(&places);
-        let passed = from.min(all);
+        let passed = window.from.min(all);
         let after = places.skip(passed);
         SingleLines {
             texts,
             places,
             passed,
-            end: end_of(all, passed, limit),
+            end: end_of(all, passed, window.limit),
             row: None,
             after,
         }
-    }
-
-    /// Adds some of the lines that are left, or begins a row. Answers whether there was one.
-    pub fn push_some(&mut self, buffer: &mut Vec<u8>) -> Result<bool, AllocError>
-        requires { StandsIn self.old }
-        ensures { IfOk result (Steps self.old self.new buffer.old.items buffer.new.items) }
-    {
-        if self.passed >= self.end {
-            return Ok(false);
-        }
-        let Some(lines) = self.row.take() else {
-            self.begin_row(*buffer.allocator(), None)?;
-            return Ok(true);
-        };
-        let RowLines { mut row, frame } = lines;
-        let most = MOST_LINES.min(self.end - self.passed);
-        let count = push_targets(&frame, &mut row.targets, most, buffer)?;
-        if count == 0 {
-            self.begin_row(*buffer.allocator(), Some(frame))?;
-            return Ok(true);
-        }
-        self.passed += count;
-        self.row = Some(RowLines { row, frame });
-        Ok(true)
     }
 
     // Begins the row of the place behind the last one, whose frame is handed in.
@@ -97,6 +70,35 @@ impl<'s, 'p, 'a> SingleLines<'s, 'p, 'a> {
         self.row = Some(RowLines { row, frame });
         self.after = after;
         Ok(())
+    }
+}
+
+impl Pieces for SingleLines<'_, '_, '_> {
+    ghost use Rattle.se_search.specs.Inner.SingleLines.{text_left};
+
+    ghost left = { text_left };
+
+    ghost stands = { λ lines. StandsIn lines };
+
+    // Adds some of the lines that are left, or begins a row.
+    fn push_piece(&mut self, buffer: &mut Vec<u8>) -> Result<bool, AllocError> {
+        if self.passed >= self.end {
+            return Ok(false);
+        }
+        let Some(lines) = self.row.take() else {
+            self.begin_row(*buffer.allocator(), None)?;
+            return Ok(true);
+        };
+        let RowLines { mut row, frame } = lines;
+        let most = MOST_LINES.min(self.end - self.passed);
+        let count = push_targets(&frame, &mut row.targets, most, buffer)?;
+        if count == 0 {
+            self.begin_row(*buffer.allocator(), Some(frame))?;
+            return Ok(true);
+        }
+        self.passed += count;
+        self.row = Some(RowLines { row, frame });
+        Ok(true)
     }
 }
 

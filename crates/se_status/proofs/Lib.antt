@@ -1,3 +1,4 @@
 pub mod Puts
 pub mod Causes
 pub mod Unless
+pub mod LeastNumbers

@@ -1,6 +1,6 @@
 -- A text that is answered unless a name is unknown.
 use Rattle.std.proofs.Common.{◌≡◌, ◌++◌, ℕ, List, Option, Some, None, refl}
-use Rattle.se_status.specs.Meeting.{text_unless}
+use Rattle.se_status.specs.Conclusion.{text_unless}
 
 -- in two parts, one after the other
 pub parts_then : (word : Option ℕ) (front rest whole : List ℕ) → front ++ rest ≡ whole → (text_unless word front).text ++ (text_unless word rest).text ≡ (text_unless word whole).text

@@ -1,3 +1,4 @@
 pub mod Status
 pub mod Message
-pub mod Meeting
+pub mod LeastWord
+pub mod Conclusion

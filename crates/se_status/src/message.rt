@@ -23,8 +23,7 @@ pub enum Part<'a> {
 
 /// Writes the message of a status.
 pub fn report<E: Sink>(status: &Status, err: &mut E) -> Result<(), Failed>
-    ensures { Wrote (E.written err.old) (E.written err.new) (E.faults err.old) (E.faults err.new)
-        (message_of status.now) result }
+    ensures { Wrote (E.state err.old) (E.state err.new) (message_of status.now) result }
 {
     match *status {
         Status::Done => Ok(()),
@@ -43,16 +42,14 @@ pub fn report<E: Sink>(status: &Status, err: &mut E) -> Result<(), Failed>
 
 // Writes a message that is one text.
 fn say_text<E: Sink>(text: &str, err: &mut E) -> Result<(), Failed>
-    ensures { Wrote (E.written err.old) (E.written err.new) (E.faults err.old) (E.faults err.new)
-        (said (text.now ∷ [])) result }
+    ensures { Wrote (E.state err.old) (E.state err.new) (said (text.now ∷ [])) result }
 {
     say(&[Part::Text(text)], err)
 }
 
 // Writes a message on a word.
 fn say_word<E: Sink>(word: u64, after: &str, err: &mut E) -> Result<(), Failed>
-    ensures { Wrote (E.written err.old) (E.written err.new) (E.faults err.old) (E.faults err.new)
-        (said (codes "word " ∷ decimal word ∷ after.now ∷ [])) result }
+    ensures { Wrote (E.state err.old) (E.state err.new) (said (codes "word " ∷ decimal word ∷ after.now ∷ [])) result }
 {
     say(
         &[Part::Text("word "), Part::Number(word), Part::Text(after)],
@@ -62,16 +59,14 @@ fn say_word<E: Sink>(word: u64, after: &str, err: &mut E) -> Result<(), Failed>
 
 // Writes a message on the file of a slot.
 fn say_slot<E: Sink>(slot: Slot, after: &str, err: &mut E) -> Result<(), Failed>
-    ensures { Wrote (E.written err.old) (E.written err.new) (E.faults err.old) (E.faults err.new)
-        (said (slot_word slot ∷ after.now ∷ [])) result }
+    ensures { Wrote (E.state err.old) (E.state err.new) (said (slot_word slot ∷ after.now ∷ [])) result }
 {
     say(&[Part::Text(slot_word(slot)), Part::Text(after)], err)
 }
 
 // Writes the message of a permission map's fault.
 fn say_map_fault<E: Sink>(fault: &MapFault, err: &mut E) -> Result<(), Failed>
-    ensures { Wrote (E.written err.old) (E.written err.new) (E.faults err.old) (E.faults err.new)
-        (message_of (Status.BadMap fault.now)) result }
+    ensures { Wrote (E.state err.old) (E.state err.new) (message_of (Status.BadMap fault.now)) result }
 {
     let line = Part::Number(fault.line as u64);
     say(
@@ -87,8 +82,7 @@ fn say_map_fault<E: Sink>(fault: &MapFault, err: &mut E) -> Result<(), Failed>
 
 // Writes the message of a policy's fault.
 fn say_fault<E: Sink>(fault: &Fault, err: &mut E) -> Result<(), Failed>
-    ensures { Wrote (E.written err.old) (E.written err.new) (E.faults err.old) (E.faults err.new)
-        (message_of (Status.BadPolicy fault.now)) result }
+    ensures { Wrote (E.state err.old) (E.state err.new) (message_of (Status.BadPolicy fault.now)) result }
 {
     let place = Part::Number(fault.place as u64);
     let field = Part::Text(fault.field.word());
@@ -145,8 +139,7 @@ fn pattern_words(kind: PatternKind) -> &'static str
 
 // Writes the line of a message.
 fn say<E: Sink>(parts: &[Part], err: &mut E) -> Result<(), Failed>
-    ensures { Wrote (E.written err.old) (E.written err.new) (E.faults err.old) (E.faults err.new)
-        (codes "setools: " ++ (flat_map part_text parts.now ++ codes "\n")) result }
+    ensures { Wrote (E.state err.old) (E.state err.new) (codes "setools: " ++ (flat_map part_text parts.now ++ codes "\n")) result }
 {
     let mut line = Line::new();
     put("setools: ", &mut line, err)?;
@@ -157,8 +150,7 @@ fn say<E: Sink>(parts: &[Part], err: &mut E) -> Result<(), Failed>
 
 // Puts the parts into a line.
 fn put_parts<E: Sink>(parts: &[Part], line: &mut Line, err: &mut E) -> Result<(), Failed>
-    ensures { Puts (E.written err.old) (E.written err.new) (E.faults err.old) (E.faults err.new)
-        line.old.bytes line.new.bytes (flat_map part_text parts.now) result }
+    ensures { Puts (E.state err.old) (E.state err.new) line.old.bytes line.new.bytes (flat_map part_text parts.now) result }
 {
     for part in parts {
         put_part(part, line, err)?;
@@ -167,8 +159,7 @@ fn put_parts<E: Sink>(parts: &[Part], line: &mut Line, err: &mut E) -> Result<()
 }
 
 fn put_part<E: Sink>(part: &Part, line: &mut Line, err: &mut E) -> Result<(), Failed>
-    ensures { Puts (E.written err.old) (E.written err.new) (E.faults err.old) (E.faults err.new)
-        line.old.bytes line.new.bytes (part_text part.now) result }
+    ensures { Puts (E.state err.old) (E.state err.new) line.old.bytes line.new.bytes (part_text part.now) result }
 {
     match part {
         Part::Text(text) => put(text, line, err),
@@ -178,8 +169,7 @@ fn put_part<E: Sink>(part: &Part, line: &mut Line, err: &mut E) -> Result<(), Fa
 
 // Puts a text into a line, which is written first where the text does not fit beside what it has.
 fn put<E: Sink>(text: &str, line: &mut Line, err: &mut E) -> Result<(), Failed>
-    ensures { Puts (E.written err.old) (E.written err.new) (E.faults err.old) (E.faults err.new)
-        line.old.bytes line.new.bytes text.now result }
+    ensures { Puts (E.state err.old) (E.state err.new) line.old.bytes line.new.bytes text.now result }
 {
     let Err(_full) = line.try_push_str(text) else {
         return Ok(());

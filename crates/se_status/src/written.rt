@@ -1,8 +1,8 @@
 // The status of an answer that was written, or not.
 ghost use Rattle.std.specs.Prelude.{◌≡◌, ℕ, List};
-ghost use Rattle.std.specs.declared.option.Option.{Option};
+ghost use Rattle.se_outside.specs.Outside.{SinkState};
 ghost use Rattle.se_items.specs.Writing.{Sends};
-ghost use Rattle.se_status.specs.Meeting.{Concludes, IsWritten, done, written_status};
+ghost use Rattle.se_status.specs.Conclusion.{Concludes, IsWritten, done, written_status};
 
 use crate::Status;
 use se_items::WriteEnd;
@@ -10,8 +10,7 @@ use se_items::WriteEnd;
 /// How a run ends whose answer was written, or why not.
 pub fn status_written(end: Result<(), WriteEnd>) -> Status
     ensures status { result ≡ written_status end }
-    ensures concludes { (old new : Option (List ℕ)) (before now : ℕ) (text : List ℕ)
-        → Sends old new before now text end → Concludes (done text) old new before now result }
+    ensures concludes { (old new : SinkState) (text : List ℕ) → Sends old new text end → Concludes (done text) old new result }
     ensures plain { IsWritten result }
 {
     match end {

@@ -6,21 +6,19 @@ use Rattle.std.proofs.lemmas.Bool.{ltb-true}
 use Rattle.pol_file.specs.Acceptance.{accept}
 use Rattle.rule_query.specs.GivenCriteria.{Given}
 use Rattle.rule_query.specs.AskedPatterns.{AskedFor}
-use Rattle.se_outside.specs.Outside.{IsAsked, NoneAsked, Rose, SlotState, World, told}
+use Rattle.se_outside.specs.Outside.{IsAsked, NoneAsked, Rose, SinkState, SlotState, World, told}
+use Rattle.se_outside.specs.Patterns.{PatternsState}
 use Rattle.se_outside.specs.declared.Slot.{Slot}
 use Rattle.se_outside.specs.declared.Slot.TheVariants.{Policy, Map}
-use Rattle.se_words.specs.Request.{Asks, Info, Search, Dom, Flow, Make, request_view}
-use Rattle.se_words.specs.declared.MakeRequest.{MakeRequest}
-use Rattle.se_words.specs.declared.Request.{Request}
-use Rattle.se_words.specs.declared.Request.TheVariants as codes
+use Rattle.se_words.specs.Request.{About, Asks, Question, policy_of}
 use Rattle.se_items.specs.Writing.{GainsPart}
 use Rattle.se_items.proofs.Gains.{gains-none}
 use Rattle.se_search.specs.SearchPatterns.{TriedUntil, TriesPatterns}
 use Rattle.se_status.specs.declared.Status.{Status}
 use Rattle.se_status.specs.declared.Status.TheVariants.{Done, Usage, ReadFault, TooLarge, BadPolicy, BadMap, UnknownName, BadNumber, BadPattern, WriteFault, Memory}
-use Rattle.se_status.specs.Meeting.{Answer, refusal}
-use Rattle.se_tools.specs.Answer.{Contents, answer_of, asked_name, asked_patterns, by_file, file_limit, name_in, patterns_in, policy_answer}
-use Rattle.se_tools.specs.Answers.{Answers, AsksMap, AsksOnly, HoldsPolicy, IsAbout, IsAskedUnder, IsSettled, Settles, Tells}
+use Rattle.se_status.specs.Conclusion.{Answer, refusal}
+use Rattle.se_tools.specs.Answer.{Contents, answer_of, asked_name, asked_patterns, by_file, file_limit, map_in, name_in, patterns_in, policy_answer}
+use Rattle.se_tools.specs.Answers.{Answers, AsksMap, AsksOnly, HoldsPolicy, IsAbout, IsAskedUnder, IsSettled, Outside, Settles, Tells}
 use Rattle.se_tools.specs.Reading.{ReadsWhole}
 use Rattle.se_tools.specs.declared.reading.ReadEnd.{ReadEnd}
 use Rattle.se_tools.specs.declared.reading.ReadEnd.TheVariants as ends
@@ -86,12 +84,12 @@ asked-none : (old : Option (List (List ℕ))) → AskedFor old old []
 asked-none None = tt
 asked-none (Some had) = ap Some (sym (append-nil had))
 
-pub untried : (words : List Given) (asked : Option (List (List ℕ))) (past : ℕ) (status : Status) → TriedUntil [] words past past status → TriesPatterns words asked asked past past status
-untried words asked past status until = record { tried = []; others = words; order = refl; asked = asked-none asked; until = until; later = omega arith }
+pub untried : (words : List Given) (patterns : PatternsState) (status : Status) → TriedUntil [] words patterns.refusals patterns.refusals status → TriesPatterns words patterns patterns status
+untried words patterns status until = record { tried = []; others = words; order = refl; asked = asked-none patterns.asked; until = until; later = omega arith }
 
 -- ---- the status of a policy that was read
 
-settled-about : (asks : Asks) (status : Status) → IsSettled asks status → IsAbout (Ok asks) status
+settled-about : (asks : Question) (status : Status) → IsSettled asks status → IsAbout (Ok (About asks)) status
 settled-about asks Done h = refl
 settled-about asks (Usage word) h = absurd h
 settled-about asks (ReadFault slot) (is, some) = rw is some
@@ -104,7 +102,7 @@ settled-about asks (BadPattern word kind) h = refl
 settled-about asks WriteFault h = refl
 settled-about asks Memory h = tt
 
-not-policy : (asks : Asks) (status : Status) → IsSettled asks status → status ≡ ReadFault Policy → ⊥
+not-policy : (asks : Question) (status : Status) → IsSettled asks status → status ≡ ReadFault Policy → ⊥
 not-policy asks (ReadFault slot) (is, some) e = cc
 not-policy asks Done h e = cc
 not-policy asks (Usage word) h e = cc
@@ -121,33 +119,13 @@ not-policy asks Memory h e = cc
 Reads : List ℕ → World → (Slot → SlotState) → (Slot → SlotState) → Result (Vec ℕ Global) ReadEnd → Type 0
 Reads name world old new result = ReadsWhole world old new Policy name (file_limit Policy) result
 
--- the answer to a request about a policy of some name
-by_policy : (asks : Asks) (name : List ℕ) (contents : Contents) → name_in asks Policy ≡ Some name → answer_of (Ok asks) contents ≡ by_file Policy (contents Policy) (λ bytes. policy_answer asks (accept bytes) contents)
-by_policy (Info asks) name contents named = refl
-by_policy (Search asks) name contents named = refl
-by_policy (Dom asks) name contents named = refl
-by_policy (Flow asks) name contents named = refl
-by_policy (Make asks) name contents named = absurd (cc named)
-
--- A request that is none for make names a policy.
-pub names-policy : (request : Request) → ((asks : MakeRequest) → request ≡ codes.Make asks → ⊥) → name_in (request_view request) Policy ≡ None → ⊥
-names-policy (codes.Info asks) other none = cc none
-names-policy (codes.Search asks) other none = cc none
-names-policy (codes.Dom asks) other none = cc none
-names-policy (codes.Flow asks) other none = cc none
-names-policy (codes.Make asks) other none = other asks refl
-
--- what its file holds is told
-told-policy : (asks : Asks) (name : List ℕ) (world : World) (contents : Contents) → name_in asks Policy ≡ Some name → Tells world (Ok asks) contents → told world Policy name ≡ Some (contents Policy)
-told-policy asks name world contents named tells = let h = tells Policy in rw named at h
-
 -- ---- what a policy that was not read leaves
 
-asked-unread : (asks : Asks) (name : List ℕ) (world : World) (status : Status) (old new : Slot → SlotState) (result : Result (Vec ℕ Global) ReadEnd) → name_in asks Policy ≡ Some name → Reads name world old new result
-    → MatchOption (name_in asks Map) (new Map ≡ old Map) (λ name. IsAskedUnder world Map name status (old Map) (new Map)) → AsksOnly world (Ok asks) status old new
+asked-unread : (asks : Question) (world : World) (status : Status) (old new : Slot → SlotState) (result : Result (Vec ℕ Global) ReadEnd) → Reads (policy_of asks).text world old new result
+    → MatchOption (map_in asks) (new Map ≡ old Map) (λ name. IsAskedUnder world Map name status (old Map) (new Map)) → AsksOnly world (Ok (About asks)) status old new
 unfolding Reads
-asked-unread asks name world status old new result named reads at Policy = rw named (asked-policy world name status (old Policy) (new Policy) reads.asked reads.named)
-asked-unread asks name world status old new result named reads at Map = at
+asked-unread asks world status old new result reads at Policy = asked-policy world (policy_of asks).text status (old Policy) (new Policy) reads.asked reads.named
+asked-unread asks world status old new result reads at Map = at
 
 turns-unread : (name : List ℕ) (world : World) (old new : Slot → SlotState) (result : Result (Vec ℕ Global) ReadEnd) → Reads name world old new result
     → (slot : Slot) → (new slot).turns ≤ (old slot).turns + file_limit slot + 2
@@ -168,39 +146,37 @@ fault-at old new rose Map e = absurd (cc e)
 not-asked : (old new : SlotState) → old.asked ≡ false → new ≡ old → new.asked ≡ true → ⊥
 not-asked old new unasked same asked = let e = ap (λ (s : SlotState). s.asked) same in cc
 
-pub part-none : (sink : Option (List ℕ)) (text : List ℕ) → GainsPart sink sink text
-part-none sink text = ([], text, refl, gains-none sink)
+pub part-none : (sink : SinkState) (text : List ℕ) → GainsPart sink.written sink.written text
+part-none sink text = ([], text, refl, gains-none sink.written)
 
 -- ---- nothing was asked for
 
 -- The words do not fit.
-pub answers-usage : (word : ℕ) (world : World) (files : Slot → SlotState) (asked : Option (List (List ℕ))) (past : ℕ) (sink : Option (List ℕ)) (faults : ℕ) → NoneAsked files
-    → Answers (Err word) world files files asked asked past past sink sink faults faults (Usage word)
-answers-usage word world files asked past sink faults unasked = record {
-  meets = λ contents tells. (refl, gains-none sink);
+pub answers-usage : (word : ℕ) (world : World) (old : Outside) → NoneAsked old.files → Answers (Err word) world old old (Usage word)
+answers-usage word world old unasked = record {
+  meets = λ contents tells. (refl, gains-none old.sink.written);
   about = refl;
-  silent = gains-none sink;
+  silent = gains-none old.sink.written;
   asked = λ slot. refl;
   turns = λ slot. omega arith;
   read = λ slot e. absurd (cc e);
   mapped = λ e. cc (unasked Map, e);
-  patterns = untried [] asked past (Usage word) refl;
+  patterns = untried [] old.patterns (Usage word) refl;
   wrote = λ e. absurd (cc e);
   later = omega arith;
 }
 
 -- Memory ran out over the words.
-pub answers-nothing : (request : Result Asks ℕ) (world : World) (files : Slot → SlotState) (asked : Option (List (List ℕ))) (past : ℕ) (sink : Option (List ℕ)) (faults : ℕ) → NoneAsked files
-    → Answers request world files files asked asked past past sink sink faults faults Memory
-answers-nothing request world files asked past sink faults unasked = record {
-  meets = λ contents tells. part-none sink _;
+pub answers-nothing : (request : Result Asks ℕ) (world : World) (old : Outside) → NoneAsked old.files → Answers request world old old Memory
+answers-nothing request world old unasked = record {
+  meets = λ contents tells. part-none old.sink _;
   about = tt;
   silent = tt;
-  asked = λ slot. unasked-memory world (asked_name request slot) slot (files slot) (unasked slot);
+  asked = λ slot. unasked-memory world (asked_name request slot) slot (old.files slot) (unasked slot);
   turns = λ slot. omega arith;
   read = λ slot e. absurd (cc e);
   mapped = λ e. absurd (cc (unasked Map, e));
-  patterns = untried (asked_patterns request) asked past Memory tt;
+  patterns = untried (asked_patterns request) old.patterns Memory tt;
   wrote = λ e. absurd (cc e);
   later = omega arith;
 }
@@ -208,83 +184,77 @@ answers-nothing request world files asked past sink faults unasked = record {
 -- ---- the policy was not read
 
 -- A read failed.
-pub answers-fault : (asks : Asks) (name : List ℕ) (world : World) (files_old files_new : Slot → SlotState) (asked : Option (List (List ℕ))) (past : ℕ) (sink : Option (List ℕ)) (faults : ℕ) → name_in asks Policy ≡ Some name → (files_old Map).asked ≡ false
-    → ReadsWhole world files_old files_new Policy name (file_limit Policy) (Err ends.Fault)
-    → Answers (Ok asks) world files_old files_new asked asked past past sink sink faults faults (ReadFault Policy)
+pub answers-fault : (asks : Question) (world : World) (old : Outside) (files : Slot → SlotState) → (old.files Map).asked ≡ false
+    → ReadsWhole world old.files files Policy (policy_of asks).text (file_limit Policy) (Err ends.Fault) → Answers (Ok (About asks)) world old (record old { files = files }) (ReadFault Policy)
 unfolding Reads
-answers-fault asks name world files_old files_new asked past sink faults named unasked reads = record {
-  meets = λ contents tells. gains-none sink;
-  about = rw named refl;
-  silent = gains-none sink;
-  asked = asked-unread asks name world (ReadFault Policy) files_old files_new _ named reads (untouched-map (name_in asks Map) (files_new Map ≡ files_old Map) (reads.others Map other-map));
-  turns = turns-unread name world files_old files_new _ reads;
-  read = fault-at files_old files_new (reads.fault refl);
-  mapped = λ e. absurd (not-asked (files_old Map) (files_new Map) unasked (reads.others Map other-map) e);
-  patterns = untried (patterns_in asks) asked past (ReadFault Policy) refl;
+answers-fault asks world old files unasked reads = record {
+  meets = λ contents tells. gains-none old.sink.written;
+  about = refl;
+  silent = gains-none old.sink.written;
+  asked = asked-unread asks world (ReadFault Policy) old.files files _ reads (untouched-map (map_in asks) (files Map ≡ old.files Map) (reads.others Map other-map));
+  turns = turns-unread (policy_of asks).text world old.files files _ reads;
+  read = fault-at old.files files (reads.fault refl);
+  mapped = λ e. absurd (not-asked (old.files Map) (files Map) unasked (reads.others Map other-map) e);
+  patterns = untried (patterns_in asks) old.patterns (ReadFault Policy) refl;
   wrote = λ e. absurd (cc e);
   later = omega arith;
 }
 
 -- More was read than the limit.
-pub answers-large : (asks : Asks) (name : List ℕ) (world : World) (files_old files_new : Slot → SlotState) (asked : Option (List (List ℕ))) (past : ℕ) (sink : Option (List ℕ)) (faults : ℕ) → name_in asks Policy ≡ Some name → (files_old Map).asked ≡ false
-    → ReadsWhole world files_old files_new Policy name (file_limit Policy) (Err ends.TooLarge)
-    → Answers (Ok asks) world files_old files_new asked asked past past sink sink faults faults (TooLarge Policy)
+pub answers-large : (asks : Question) (world : World) (old : Outside) (files : Slot → SlotState) → (old.files Map).asked ≡ false
+    → ReadsWhole world old.files files Policy (policy_of asks).text (file_limit Policy) (Err ends.TooLarge) → Answers (Ok (About asks)) world old (record old { files = files }) (TooLarge Policy)
 unfolding Reads
-answers-large asks name world files_old files_new asked past sink faults named unasked reads = record {
+answers-large asks world old files unasked reads = record {
   meets = λ contents tells.
-      rw (
-        by_policy asks name contents named,
-        by_file-large world files_old files_new Policy name (contents Policy) (λ bytes. policy_answer asks (accept bytes) contents) reads (told-policy asks name world contents named tells),
-      ) (refl, gains-none sink);
-  about = rw named refl;
-  silent = gains-none sink;
-  asked = asked-unread asks name world (TooLarge Policy) files_old files_new _ named reads (untouched-map (name_in asks Map) (files_new Map ≡ files_old Map) (reads.others Map other-map));
-  turns = turns-unread name world files_old files_new _ reads;
+      rw (by_file-large world old.files files Policy (policy_of asks).text (contents Policy) (λ bytes. policy_answer asks (accept bytes) contents) reads (tells Policy))
+      (refl, gains-none old.sink.written);
+  about = refl;
+  silent = gains-none old.sink.written;
+  asked = asked-unread asks world (TooLarge Policy) old.files files _ reads (untouched-map (map_in asks) (files Map ≡ old.files Map) (reads.others Map other-map));
+  turns = turns-unread (policy_of asks).text world old.files files _ reads;
   read = λ slot e. absurd (cc e);
-  mapped = λ e. absurd (not-asked (files_old Map) (files_new Map) unasked (reads.others Map other-map) e);
-  patterns = untried (patterns_in asks) asked past (TooLarge Policy) refl;
+  mapped = λ e. absurd (not-asked (old.files Map) (files Map) unasked (reads.others Map other-map) e);
+  patterns = untried (patterns_in asks) old.patterns (TooLarge Policy) refl;
   wrote = λ e. absurd (cc e);
   later = omega arith;
 }
 
 -- Memory ran out.
-pub answers-memory : (asks : Asks) (name : List ℕ) (world : World) (files_old files_new : Slot → SlotState) (asked : Option (List (List ℕ))) (past : ℕ) (sink : Option (List ℕ)) (faults : ℕ) → name_in asks Policy ≡ Some name → (files_old Map).asked ≡ false
-    → ReadsWhole world files_old files_new Policy name (file_limit Policy) (Err ends.Memory)
-    → Answers (Ok asks) world files_old files_new asked asked past past sink sink faults faults Memory
+pub answers-memory : (asks : Question) (world : World) (old : Outside) (files : Slot → SlotState) → (old.files Map).asked ≡ false
+    → ReadsWhole world old.files files Policy (policy_of asks).text (file_limit Policy) (Err ends.Memory) → Answers (Ok (About asks)) world old (record old { files = files }) Memory
 unfolding Reads
-answers-memory asks name world files_old files_new asked past sink faults named unasked reads = record {
-  meets = λ contents tells. part-none sink _;
+answers-memory asks world old files unasked reads = record {
+  meets = λ contents tells. part-none old.sink _;
   about = tt;
   silent = tt;
-  asked = asked-unread asks name world Memory files_old files_new _ named reads (rw (reads.others Map other-map) (unasked-memory world (name_in asks Map) Map (files_old Map) unasked));
-  turns = turns-unread name world files_old files_new _ reads;
+  asked = asked-unread asks world Memory old.files files _ reads (rw (reads.others Map other-map) (unasked-memory world (map_in asks) Map (old.files Map) unasked));
+  turns = turns-unread (policy_of asks).text world old.files files _ reads;
   read = λ slot e. absurd (cc e);
-  mapped = λ e. absurd (not-asked (files_old Map) (files_new Map) unasked (reads.others Map other-map) e);
-  patterns = untried (patterns_in asks) asked past Memory tt;
+  mapped = λ e. absurd (not-asked (old.files Map) (files Map) unasked (reads.others Map other-map) e);
+  patterns = untried (patterns_in asks) old.patterns Memory tt;
   wrote = λ e. absurd (cc e);
   later = omega arith;
 }
 
 -- ---- the policy was read
 
-within-asked : (asks : Asks) (name : List ℕ) (world : World) (files_old mid new : Slot → SlotState) (v : Vec ℕ Global) (status : Status) → name_in asks Policy ≡ Some name → Reads name world files_old mid (Ok v) → AsksMap world (name_in asks Map) status mid new
-    → AsksOnly world (Ok asks) status files_old new
+within-asked : (asks : Question) (world : World) (old mid new : Slot → SlotState) (v : Vec ℕ Global) (status : Status) → Reads (policy_of asks).text world old mid (Ok v) → AsksMap world (map_in asks) status mid new
+    → AsksOnly world (Ok (About asks)) status old new
 unfolding Reads
-within-asked asks name world files_old mid new v status named reads files Policy =
-    rw (named, files.policy) (asked-policy world name status (files_old Policy) (mid Policy) reads.asked reads.named)
-within-asked asks name world files_old mid new v status named reads files Map = rw (reads.others Map other-map) at files.asked
+within-asked asks world old mid new v status reads files Policy = rw files.policy (asked-policy world (policy_of asks).text status (old Policy) (mid Policy) reads.asked reads.named)
+within-asked asks world old mid new v status reads files Map = rw (reads.others Map other-map) at files.asked
 
-within-turns : (asks : Asks) (name : List ℕ) (world : World) (files_old mid new : Slot → SlotState) (v : Vec ℕ Global) (status : Status) → Reads name world files_old mid (Ok v) → AsksMap world (name_in asks Map) status mid new
-    → (slot : Slot) → (new slot).turns ≤ (files_old slot).turns + file_limit slot + 2
+within-turns : (asks : Question) (world : World) (old mid new : Slot → SlotState) (v : Vec ℕ Global) (status : Status) → Reads (policy_of asks).text world old mid (Ok v) → AsksMap world (map_in asks) status mid new
+    → (slot : Slot) → (new slot).turns ≤ (old slot).turns + file_limit slot + 2
 unfolding Reads
-within-turns asks name world files_old mid new v status reads files Policy = rw files.policy reads.turns
-within-turns asks name world files_old mid new v status reads files Map = rw (reads.others Map other-map) at files.turns
+within-turns asks world old mid new v status reads files Policy = rw files.policy reads.turns
+within-turns asks world old mid new v status reads files Map = rw (reads.others Map other-map) at files.turns
 
-within-read : (asks : Asks) (name : List ℕ) (world : World) (files_old mid new : Slot → SlotState) (v : Vec ℕ Global) (status : Status) → Reads name world files_old mid (Ok v) → AsksMap world (name_in asks Map) status mid new → IsSettled asks status
-    → (slot : Slot) → status ≡ ReadFault slot → Rose (files_old slot).faults (new slot).faults
+within-read : (asks : Question) (world : World) (old mid new : Slot → SlotState) (v : Vec ℕ Global) (status : Status) → Reads (policy_of asks).text world old mid (Ok v) → AsksMap world (map_in asks) status mid new → IsSettled asks status
+    → (slot : Slot) → status ≡ ReadFault slot → Rose (old slot).faults (new slot).faults
 unfolding Reads
-within-read asks name world files_old mid new v status reads files about Policy e = absurd (not-policy asks status about e)
-within-read asks name world files_old mid new v status reads files about Map e = let rose = files.read e in rw (reads.others Map other-map) at rose
+within-read asks world old mid new v status reads files about Policy e = absurd (not-policy asks status about e)
+within-read asks world old mid new v status reads files about Map e = let rose = files.read e in rw (reads.others Map other-map) at rose
 
 -- what is told of the bytes that were read, which are accepted
 holds-policy : (held : Option (Option (List ℕ))) (items : List ℕ) → (held ≡ Some None → ⊥) → ((bytes : List ℕ) → held ≡ Some (Some bytes) → items ≡ bytes) → length items ≤ file_limit Policy → IsOk (accept items)
@@ -294,23 +264,19 @@ holds-policy (Some None) items there same few ok = there refl
 holds-policy (Some (Some bytes)) items there same few ok = rw (← same bytes refl) (few, ok)
 
 -- The answer about what was read.
-pub answers-within : (asks : Asks) (name : List ℕ) (world : World) (files_old mid files_new : Slot → SlotState) (asked_old asked_new : Option (List (List ℕ))) (past refusals : ℕ) (old new : Option (List ℕ)) (before now : ℕ) (v : Vec ℕ Global) (status : Status)
-    → name_in asks Policy ≡ Some name → ReadsWhole world files_old mid Policy name (file_limit Policy) (Ok v)
-    → Settles asks (accept v.items) world mid files_new asked_old asked_new past refusals old new before now status
-    → Answers (Ok asks) world files_old files_new asked_old asked_new past refusals old new before now status
+pub answers-within : (asks : Question) (world : World) (old new : Outside) (files : Slot → SlotState) (v : Vec ℕ Global) (status : Status)
+    → ReadsWhole world old.files files Policy (policy_of asks).text (file_limit Policy) (Ok v) → Settles asks (accept v.items) world (record old { files = files }) new status
+    → Answers (Ok (About asks)) world old new status
 unfolding Reads
-answers-within asks name world files_old mid files_new asked_old asked_new past refusals old new before now v status named reads settles = record {
+answers-within asks world old new files v status reads settles = record {
   meets = λ contents tells.
-      rw (
-        by_policy asks name contents named,
-        by_file-read world files_old mid Policy name v (contents Policy) (λ bytes. policy_answer asks (accept bytes) contents) reads (told-policy asks name world contents named tells),
-      ) (settles.meets contents tells);
+      rw (by_file-read world old.files files Policy (policy_of asks).text v (contents Policy) (λ bytes. policy_answer asks (accept bytes) contents) reads (tells Policy)) (settles.meets contents tells);
   about = settled-about asks status settles.about;
   silent = settles.silent;
-  asked = within-asked asks name world files_old mid files_new v status named reads settles.files;
-  turns = within-turns asks name world files_old mid files_new v status reads settles.files;
-  read = within-read asks name world files_old mid files_new v status reads settles.files settles.about;
-  mapped = λ e. rw named (holds-policy (told world Policy name) v.items (λ none. absurd (let e = reads.absent none in cc)) reads.content reads.within (settles.mapped e));
+  asked = within-asked asks world old.files files new.files v status reads settles.files;
+  turns = within-turns asks world old.files files new.files v status reads settles.files;
+  read = within-read asks world old.files files new.files v status reads settles.files settles.about;
+  mapped = λ e. holds-policy (told world Policy (policy_of asks).text) v.items (λ none. absurd (let e = reads.absent none in cc)) reads.content reads.within (settles.mapped e);
   patterns = settles.patterns;
   wrote = settles.wrote;
   later = settles.later;

@@ -2,3 +2,4 @@ pub mod Turns
 pub mod Answered
 pub mod Settled
 pub mod Messages
+pub mod Complete

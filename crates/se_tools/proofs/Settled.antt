@@ -3,7 +3,8 @@ use Rattle.std.proofs.Common.{◌≡◌, ℕ, List, [], true, false, Option, Non
 use Rattle.std.specs.Global.{Global}
 use Rattle.pol_fields.specs.declared.Fault.{Fault}
 use Rattle.pol_file.specs.declared.Parts.{Parts}
-use Rattle.se_outside.specs.Outside.{IsAsked, NoneAsked, SlotState, World, told}
+use Rattle.se_outside.specs.Outside.{IsAsked, NoneAsked, SinkState, SlotState, World, told}
+use Rattle.se_outside.specs.Patterns.{PatternsState}
 use Rattle.se_outside.specs.declared.Slot.{Slot}
 use Rattle.se_outside.specs.declared.Slot.TheVariants.{Policy, Map}
 use Rattle.se_words.specs.InfoRequest.{InfoAsks}
@@ -11,7 +12,7 @@ use Rattle.se_words.specs.SearchRequest.{SearchAsks}
 use Rattle.se_words.specs.DomRequest.{DomAsks}
 use Rattle.se_words.specs.FlowRequest.{FlowAsks}
 use Rattle.se_words.specs.MakeRequest.{MakeAsks}
-use Rattle.se_words.specs.Request.{Asks, Info, Search, Dom, Flow, Make}
+use Rattle.se_words.specs.Request.{Dom, Flow, Info, Make, Question, Search}
 use Rattle.se_items.proofs.Gains.{gains-none}
 use Rattle.se_search.specs.SearchAnswer.{search_answer}
 use Rattle.se_search.specs.SearchPatterns.{IsOfSearch, TriedUntil, TriesPatterns, pattern_words}
@@ -20,10 +21,10 @@ use Rattle.se_flow.specs.FlowAnswer.{IsOfMap, flow_answer}
 use Rattle.se_make.specs.MakeAnswer.{make_answer}
 use Rattle.se_status.specs.declared.Status.{Status}
 use Rattle.se_status.specs.declared.Status.TheVariants.{Done, Usage, ReadFault, TooLarge, BadPolicy, BadMap, UnknownName, BadNumber, BadPattern, WriteFault, Memory}
-use Rattle.se_status.specs.Meeting.{Concludes, IsPlain, IsWritten}
-use Rattle.se_tools.specs.Answer.{file_limit, name_in, patterns_in}
-use Rattle.se_tools.specs.Answers.{Answers, AsksMap, AsksOnly, IsAbout, IsAskedUnder, IsMapped, IsSettled, MapSettles, Settles}
-use Rattle.se_tools.specs.InfoAnswer.{info_answer}
+use Rattle.se_status.specs.Conclusion.{Concludes, IsPlain, IsWritten}
+use Rattle.se_tools.specs.Answer.{file_limit, map_in, patterns_in}
+use Rattle.se_tools.specs.Answers.{Answers, AsksMap, AsksOnly, IsAbout, IsAskedUnder, IsMapped, IsSettled, MapSettles, Outside, Settles, outside}
+use Rattle.se_info.specs.InfoAnswer.{info_answer}
 use Rattle.se_tools.specs.Reading.{ReadsWhole}
 use Rattle.se_tools.specs.declared.reading.ReadEnd.TheVariants as ends
 use Rattle.se_tools.proofs.Answered.{by_file-large, by_file-read, other-policy, part-none, unasked-memory, untouched-map, untried}
@@ -47,7 +48,7 @@ plain-until (BadPattern word kind) past h = absurd h
 plain-until WriteFault past h = (refl, λ k d lt. absurd (omega (arith, lt)))
 plain-until Memory past h = tt
 
-plain-settled : (asks : Asks) (status : Status) → IsPlain status → IsSettled asks status
+plain-settled : (asks : Question) (status : Status) → IsPlain status → IsSettled asks status
 plain-settled asks Done h = tt
 plain-settled asks (Usage word) h = h
 plain-settled asks (ReadFault slot) h = absurd h
@@ -63,28 +64,28 @@ plain-settled asks Memory h = tt
 plain-no-fault : (status : Status) (slot : Slot) → IsPlain status → status ≡ ReadFault slot → ⊥
 plain-no-fault status slot h e = rw e at h
 
-pub info-settles : (asks : InfoAsks) (policy : Parts) (world : World) (files : Slot → SlotState) (asked : Option (List (List ℕ))) (past : ℕ) (old new : Option (List ℕ)) (before now : ℕ) (status : Status)
-    → Concludes (info_answer asks policy) old new before now status → IsPlain status → Settles (Info asks) (Ok policy) world files files asked asked past past old new before now status
-info-settles asks policy world files asked past old new before now status concludes plain = record {
+pub info-settles : (asks : InfoAsks) (policy : Parts) (world : World) (files : Slot → SlotState) (patterns : PatternsState) (old new : SinkState) (status : Status)
+    → Concludes (info_answer asks policy) old new status → IsPlain status → Settles (Info asks) (Ok policy) world (outside files patterns old) (outside files patterns new) status
+info-settles asks policy world files patterns old new status concludes plain = record {
   meets = λ contents tells. concludes.meets;
   about = plain-settled (Info asks) status plain;
   silent = concludes.silent;
   files = no-map world status files (plain-no-fault status Map plain);
   mapped = λ e. refl;
-  patterns = untried [] asked past status (plain-until status past plain);
+  patterns = untried [] patterns status (plain-until status patterns.refusals plain);
   wrote = concludes.wrote;
   later = concludes.later;
 }
 
-pub dom-settles : (asks : DomAsks) (policy : Parts) (world : World) (files : Slot → SlotState) (asked : Option (List (List ℕ))) (past : ℕ) (old new : Option (List ℕ)) (before now : ℕ) (status : Status)
-    → Concludes (dom_answer asks policy) old new before now status → IsPlain status → Settles (Dom asks) (Ok policy) world files files asked asked past past old new before now status
-dom-settles asks policy world files asked past old new before now status concludes plain = record {
+pub dom-settles : (asks : DomAsks) (policy : Parts) (world : World) (files : Slot → SlotState) (patterns : PatternsState) (old new : SinkState) (status : Status)
+    → Concludes (dom_answer asks policy) old new status → IsPlain status → Settles (Dom asks) (Ok policy) world (outside files patterns old) (outside files patterns new) status
+dom-settles asks policy world files patterns old new status concludes plain = record {
   meets = λ contents tells. concludes.meets;
   about = plain-settled (Dom asks) status plain;
   silent = concludes.silent;
   files = no-map world status files (plain-no-fault status Map plain);
   mapped = λ e. refl;
-  patterns = untried [] asked past status (plain-until status past plain);
+  patterns = untried [] patterns status (plain-until status patterns.refusals plain);
   wrote = concludes.wrote;
   later = concludes.later;
 }
@@ -121,9 +122,9 @@ none-asked : (asks : MakeAsks) (world : World) (status : Status) (files : Slot �
 none-asked asks world status files Policy = refl
 none-asked asks world status files Map = refl
 
-pub answers-made : (asks : MakeAsks) (world : World) (files : Slot → SlotState) (asked : Option (List (List ℕ))) (past : ℕ) (old new : Option (List ℕ)) (before now : ℕ) (status : Status) → NoneAsked files
-    → Concludes (make_answer asks) old new before now status → IsWritten status → Answers (Ok (Make asks)) world files files asked asked past past old new before now status
-answers-made asks world files asked past old new before now status unasked concludes written = record {
+pub answers-made : (asks : MakeAsks) (world : World) (files : Slot → SlotState) (patterns : PatternsState) (old new : SinkState) (status : Status) → NoneAsked files
+    → Concludes (make_answer asks) old new status → IsWritten status → Answers (Ok (Make asks)) world (outside files patterns old) (outside files patterns new) status
+answers-made asks world files patterns old new status unasked concludes written = record {
   meets = λ contents tells. concludes.meets;
   about = written-about asks status written;
   silent = concludes.silent;
@@ -131,29 +132,14 @@ answers-made asks world files asked past old new before now status unasked concl
   turns = λ slot. omega arith;
   read = λ slot e. absurd (plain-no-fault status slot (written-plain status written) e);
   mapped = λ e. absurd (cc (unasked Map, e));
-  patterns = untried [] asked past status (plain-until status past (written-plain status written));
+  patterns = untried [] patterns status (plain-until status patterns.refusals (written-plain status written));
   wrote = concludes.wrote;
   later = concludes.later;
 }
 
-pub make-settles : (asks : MakeAsks) (policy : Parts) (world : World) (files : Slot → SlotState) (asked : Option (List (List ℕ))) (past : ℕ) (old new : Option (List ℕ)) (before now : ℕ) (status : Status)
-    → Concludes (make_answer asks) old new before now status → IsWritten status → Settles (Make asks) (Ok policy) world files files asked asked past past old new before now status
-make-settles asks policy world files asked past old new before now status concludes written =
-    let plain = written-plain status written in
-    record {
-      meets = λ contents tells. concludes.meets;
-      about = plain-settled (Make asks) status plain;
-      silent = concludes.silent;
-      files = no-map world status files (plain-no-fault status Map plain);
-      mapped = λ e. refl;
-      patterns = untried [] asked past status (plain-until status past plain);
-      wrote = concludes.wrote;
-      later = concludes.later;
-    }
-
 -- ---- sesearch
 
-search-settled : (asks : Asks) (status : Status) → IsOfSearch status → IsSettled asks status
+search-settled : (asks : Question) (status : Status) → IsOfSearch status → IsSettled asks status
 search-settled asks Done h = tt
 search-settled asks (Usage word) h = h
 search-settled asks (ReadFault slot) h = absurd h
@@ -169,16 +155,16 @@ search-settled asks Memory h = tt
 search-no-fault : (status : Status) (slot : Slot) → IsOfSearch status → status ≡ ReadFault slot → ⊥
 search-no-fault status slot h e = rw e at h
 
-pub search-settles : (asks : SearchAsks) (policy : Parts) (world : World) (files : Slot → SlotState) (asked_old asked_new : Option (List (List ℕ))) (past refusals : ℕ) (old new : Option (List ℕ)) (before now : ℕ) (status : Status)
-    → Concludes (search_answer asks policy) old new before now status → IsOfSearch status → TriesPatterns (pattern_words asks.criteria) asked_old asked_new past refusals status
-    → Settles (Search asks) (Ok policy) world files files asked_old asked_new past refusals old new before now status
-search-settles asks policy world files asked_old asked_new past refusals old new before now status concludes about patterns = record {
+pub search-settles : (asks : SearchAsks) (policy : Parts) (world : World) (files : Slot → SlotState) (tried patterns : PatternsState) (old new : SinkState) (status : Status)
+    → Concludes (search_answer asks policy) old new status → IsOfSearch status → TriesPatterns (pattern_words asks.criteria) tried patterns status
+    → Settles (Search asks) (Ok policy) world (outside files tried old) (outside files patterns new) status
+search-settles asks policy world files tried patterns old new status concludes about tries = record {
   meets = λ contents tells. concludes.meets;
   about = search-settled (Search asks) status about;
   silent = concludes.silent;
   files = no-map world status files (search-no-fault status Map about);
   mapped = λ e. refl;
-  patterns = patterns;
+  patterns = tries;
   wrote = concludes.wrote;
   later = concludes.later;
 }
@@ -211,74 +197,72 @@ mapped-until (BadPattern word kind) past h = absurd h
 mapped-until WriteFault past h = (refl, λ k d lt. absurd (omega (arith, lt)))
 mapped-until Memory past h = tt
 
-pub flow-settles : (asks : FlowAsks) (policy : Parts) (world : World) (files_old files_new : Slot → SlotState) (asked : Option (List (List ℕ))) (past : ℕ) (old new : Option (List ℕ)) (before now : ℕ) (status : Status)
-    → MapSettles asks policy world files_old files_new old new before now status → Settles (Flow asks) (Ok policy) world files_old files_new asked asked past past old new before now status
-flow-settles asks policy world files_old files_new asked past old new before now status settles = record {
+pub flow-settles : (asks : FlowAsks) (policy : Parts) (world : World) (files_old files_new : Slot → SlotState) (patterns : PatternsState) (old new : SinkState) (status : Status)
+    → MapSettles asks policy world files_old files_new old new status → Settles (Flow asks) (Ok policy) world (outside files_old patterns old) (outside files_new patterns new) status
+flow-settles asks policy world files_old files_new patterns old new status settles = record {
   meets = λ contents tells. settles.meets (contents Map) (tells Map);
   about = mapped-settled asks status settles.about;
   silent = settles.silent;
   files = settles.files;
   mapped = λ e. refl;
-  patterns = untried [] asked past status (mapped-until status past settles.about);
+  patterns = untried [] patterns status (mapped-until status patterns.refusals settles.about);
   wrote = settles.wrote;
   later = settles.later;
 }
 
 -- ---- a policy that was not accepted
 
-pub bad-settles : (asks : Asks) (fault : Fault) (world : World) (files : Slot → SlotState) (asked : Option (List (List ℕ))) (past : ℕ) (sink : Option (List ℕ)) (faults : ℕ) → (files Map).asked ≡ false
-    → Settles asks (Err fault) world files files asked asked past past sink sink faults faults (BadPolicy fault)
-bad-settles asks fault world files asked past sink faults unasked = record {
-  meets = λ contents tells. (refl, gains-none sink);
+pub bad-settles : (asks : Question) (fault : Fault) (world : World) (old : Outside) → (old.files Map).asked ≡ false → Settles asks (Err fault) world old old (BadPolicy fault)
+bad-settles asks fault world old unasked = record {
+  meets = λ contents tells. (refl, gains-none old.sink.written);
   about = tt;
-  silent = gains-none sink;
-  files = record { policy = refl; asked = untouched-map (name_in asks Map) (files Map ≡ files Map) refl; turns = omega arith; read = λ e. absurd (cc e) };
+  silent = gains-none old.sink.written;
+  files = record { policy = refl; asked = untouched-map (map_in asks) (old.files Map ≡ old.files Map) refl; turns = omega arith; read = λ e. absurd (cc e) };
   mapped = λ e. absurd (cc (unasked, e));
-  patterns = untried (patterns_in asks) asked past (BadPolicy fault) refl;
+  patterns = untried (patterns_in asks) old.patterns (BadPolicy fault) refl;
   wrote = λ e. absurd (cc e);
   later = omega arith;
 }
 
-pub memory-settles : (asks : Asks) (outcome : Result Parts Fault) (world : World) (files : Slot → SlotState) (asked : Option (List (List ℕ))) (past : ℕ) (sink : Option (List ℕ)) (faults : ℕ) → (files Map).asked ≡ false
-    → Settles asks outcome world files files asked asked past past sink sink faults faults Memory
-memory-settles asks outcome world files asked past sink faults unasked = record {
-  meets = λ contents tells. part-none sink _;
+pub memory-settles : (asks : Question) (outcome : Result Parts Fault) (world : World) (old : Outside) → (old.files Map).asked ≡ false → Settles asks outcome world old old Memory
+memory-settles asks outcome world old unasked = record {
+  meets = λ contents tells. part-none old.sink _;
   about = tt;
   silent = tt;
-  files = record { policy = refl; asked = unasked-memory world (name_in asks Map) Map (files Map) unasked; turns = omega arith; read = λ e. absurd (cc e) };
+  files = record { policy = refl; asked = unasked-memory world (map_in asks) Map (old.files Map) unasked; turns = omega arith; read = λ e. absurd (cc e) };
   mapped = λ e. absurd (cc (unasked, e));
-  patterns = untried (patterns_in asks) asked past Memory tt;
+  patterns = untried (patterns_in asks) old.patterns Memory tt;
   wrote = λ e. absurd (cc e);
   later = omega arith;
 }
 
 -- ---- a permission map that was read, or not
 
-pub map-fault : (asks : FlowAsks) (policy : Parts) (world : World) (old new : Slot → SlotState) (sink : Option (List ℕ)) (faults : ℕ) → ReadsWhole world old new Map asks.map_file.text (file_limit Map) (Err ends.Fault)
-    → MapSettles asks policy world old new sink sink faults faults (ReadFault Map)
-map-fault asks policy world old new sink faults reads = record {
-  meets = λ held tells. gains-none sink;
+pub map-fault : (asks : FlowAsks) (policy : Parts) (world : World) (old new : Slot → SlotState) (sink : SinkState) → ReadsWhole world old new Map asks.map_file.text (file_limit Map) (Err ends.Fault)
+    → MapSettles asks policy world old new sink sink (ReadFault Map)
+map-fault asks policy world old new sink reads = record {
+  meets = λ held tells. gains-none sink.written;
   about = refl;
-  silent = gains-none sink;
+  silent = gains-none sink.written;
   files = record { policy = reads.others Policy other-policy; asked = (reads.asked, reads.named); turns = reads.turns; read = λ e. reads.fault refl };
   wrote = λ e. absurd (cc e);
   later = omega arith;
 }
 
-pub map-large : (asks : FlowAsks) (policy : Parts) (world : World) (old new : Slot → SlotState) (sink : Option (List ℕ)) (faults : ℕ) → ReadsWhole world old new Map asks.map_file.text (file_limit Map) (Err ends.TooLarge)
-    → MapSettles asks policy world old new sink sink faults faults (TooLarge Map)
-map-large asks policy world old new sink faults reads = record {
-  meets = λ held tells. rw (by_file-large world old new Map asks.map_file.text held (flow_answer asks policy) reads tells) (refl, gains-none sink);
+pub map-large : (asks : FlowAsks) (policy : Parts) (world : World) (old new : Slot → SlotState) (sink : SinkState) → ReadsWhole world old new Map asks.map_file.text (file_limit Map) (Err ends.TooLarge)
+    → MapSettles asks policy world old new sink sink (TooLarge Map)
+map-large asks policy world old new sink reads = record {
+  meets = λ held tells. rw (by_file-large world old new Map asks.map_file.text held (flow_answer asks policy) reads tells) (refl, gains-none sink.written);
   about = refl;
-  silent = gains-none sink;
+  silent = gains-none sink.written;
   files = record { policy = reads.others Policy other-policy; asked = (reads.asked, reads.named); turns = reads.turns; read = λ e. absurd (cc e) };
   wrote = λ e. absurd (cc e);
   later = omega arith;
 }
 
-pub map-memory : (asks : FlowAsks) (policy : Parts) (world : World) (old new : Slot → SlotState) (sink : Option (List ℕ)) (faults : ℕ) → ReadsWhole world old new Map asks.map_file.text (file_limit Map) (Err ends.Memory)
-    → MapSettles asks policy world old new sink sink faults faults Memory
-map-memory asks policy world old new sink faults reads = record {
+pub map-memory : (asks : FlowAsks) (policy : Parts) (world : World) (old new : Slot → SlotState) (sink : SinkState) → ReadsWhole world old new Map asks.map_file.text (file_limit Map) (Err ends.Memory)
+    → MapSettles asks policy world old new sink sink Memory
+map-memory asks policy world old new sink reads = record {
   meets = λ held tells. part-none sink _;
   about = tt;
   silent = tt;
@@ -317,10 +301,10 @@ map-asked world name Memory old new h asked named = λ _. named
 map-no-fault : (status : Status) (slot : Slot) → IsOfMap status → status ≡ ReadFault slot → ⊥
 map-no-fault status slot h e = rw e at h
 
-pub map-read : (asks : FlowAsks) (policy : Parts) (world : World) (files_old files_new : Slot → SlotState) (old new : Option (List ℕ)) (before now : ℕ) (v : Vec ℕ Global) (status : Status)
-    → ReadsWhole world files_old files_new Map asks.map_file.text (file_limit Map) (Ok v) → Concludes (flow_answer asks policy v.items) old new before now status → IsOfMap status
-    → MapSettles asks policy world files_old files_new old new before now status
-map-read asks policy world files_old files_new old new before now v status reads concludes about = record {
+pub map-read : (asks : FlowAsks) (policy : Parts) (world : World) (files_old files_new : Slot → SlotState) (old new : SinkState) (v : Vec ℕ Global) (status : Status)
+    → ReadsWhole world files_old files_new Map asks.map_file.text (file_limit Map) (Ok v) → Concludes (flow_answer asks policy v.items) old new status → IsOfMap status
+    → MapSettles asks policy world files_old files_new old new status
+map-read asks policy world files_old files_new old new v status reads concludes about = record {
   meets = λ held tells. rw (by_file-read world files_old files_new Map asks.map_file.text v held (flow_answer asks policy) reads tells) concludes.meets;
   about = of-map status about;
   silent = concludes.silent;

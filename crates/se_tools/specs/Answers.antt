@@ -3,17 +3,18 @@ use Rattle.std.specs.Prelude.{◌≡◌, ◌≤◌, ◌+◌, ℕ, List, length, 
 use Rattle.pol_fields.specs.declared.Fault.{Fault}
 use Rattle.pol_file.specs.Acceptance.{accept}
 use Rattle.pol_file.specs.declared.Parts.{Parts}
-use Rattle.se_outside.specs.Outside.{Rose, SlotState, World, told, IsAsked}
+use Rattle.se_outside.specs.Outside.{Rose, SinkState, SlotState, World, told, IsAsked}
+use Rattle.se_outside.specs.Patterns.{PatternsState}
 use Rattle.se_outside.specs.declared.Slot.{Slot}
 use Rattle.se_outside.specs.declared.Slot.TheVariants.{Policy, Map}
 use Rattle.se_words.specs.FlowRequest.{FlowAsks}
-use Rattle.se_words.specs.Request.{Asks}
+use Rattle.se_words.specs.Request.{About, Asks, Question}
 use Rattle.se_flow.specs.FlowAnswer.{flow_answer}
 use Rattle.se_search.specs.SearchPatterns.{TriesPatterns}
 use Rattle.se_status.specs.declared.Status.{Status}
 use Rattle.se_status.specs.declared.Status.TheVariants.{Done, Usage, ReadFault, TooLarge, BadPolicy, BadMap, UnknownName, WriteFault, Memory}
-use Rattle.se_status.specs.Meeting.{Meets, WritesNothing}
-use Rattle.se_tools.specs.Answer.{Contents, answer_of, asked_name, asked_patterns, by_file, file_limit, name_in, patterns_in, policy_answer}
+use Rattle.se_status.specs.Conclusion.{Meets, WritesNothing}
+use Rattle.se_tools.specs.Answer.{Contents, answer_of, asked_name, asked_patterns, by_file, file_limit, map_in, patterns_in, policy_answer}
 
 -- Of each file that is asked for it is told what it holds, or that it is not there.
 abbrev pub Tells : World → Result Asks ℕ → Contents → Type 0
@@ -57,26 +58,35 @@ HoldsPolicy (Some (Some bytes)) = (length bytes ≤ file_limit Policy) × IsOk (
 abbrev pub IsAccepted : World → Result Asks ℕ → Type 0
 IsAccepted world request = MatchOption (asked_name request Policy) ⊥ (λ name. HoldsPolicy (told world Policy name))
 
--- How a run ends but for its message: what it does to the files, to the patterns and to the sink, and with which status.
-pub record Answers (request : Result Asks ℕ) (world : World) (files_old files_new : Slot → SlotState) (asked_old asked_new : Option (List (List ℕ))) (past refusals : ℕ) (old new : Option (List ℕ)) (before now : ℕ) (status : Status) : Type 0 where
-  pub meets : (contents : Contents) → Tells world request contents → Meets (answer_of request contents) old new status
-  pub about : IsAbout request status
-  pub silent : WritesNothing old new status
-  pub asked : AsksOnly world request status files_old files_new
-  pub turns : (slot : Slot) → (files_new slot).turns ≤ (files_old slot).turns + file_limit slot + 2
-  pub read : (slot : Slot) → status ≡ ReadFault slot → Rose (files_old slot).faults (files_new slot).faults
-  pub mapped : (files_new Map).asked ≡ true → IsAccepted world request
-  pub patterns : TriesPatterns (asked_patterns request) asked_old asked_new past refusals status
-  pub wrote : status ≡ WriteFault → Rose before now
-  pub later : before ≤ now
+-- What a run acts on, as it stands before or after it: the files, what builds patterns, and the sink.
+pub record Outside : Type 0 where
+  pub files : Slot → SlotState
+  pub patterns : PatternsState
+  pub sink : SinkState
 
--- What a policy that was read can end with, and what its request asks for.
-abbrev pub IsSettled : Asks → Status → Type 0
-IsSettled asks (Usage word) = ⊥
-IsSettled asks (ReadFault slot) = (slot ≡ Map) × IsSome (name_in asks Map)
-IsSettled asks (TooLarge slot) = (slot ≡ Map) × IsSome (name_in asks Map)
-IsSettled asks (BadMap fault) = IsSome (name_in asks Map)
-IsSettled asks status = ⊤
+abbrev pub outside : (Slot → SlotState) → PatternsState → SinkState → Outside
+outside files patterns sink = record { files = files; patterns = patterns; sink = sink }
+
+-- How a run ends but for its message: what it does to the files, to the patterns and to the sink, and with which status.
+pub record Answers (request : Result Asks ℕ) (world : World) (old new : Outside) (status : Status) : Type 0 where
+  pub meets : (contents : Contents) → Tells world request contents → Meets (answer_of request contents) old.sink new.sink status
+  pub about : IsAbout request status
+  pub silent : WritesNothing old.sink new.sink status
+  pub asked : AsksOnly world request status old.files new.files
+  pub turns : (slot : Slot) → (new.files slot).turns ≤ (old.files slot).turns + file_limit slot + 2
+  pub read : (slot : Slot) → status ≡ ReadFault slot → Rose (old.files slot).faults (new.files slot).faults
+  pub mapped : (new.files Map).asked ≡ true → IsAccepted world request
+  pub patterns : TriesPatterns (asked_patterns request) old.patterns new.patterns status
+  pub wrote : status ≡ WriteFault → Rose old.sink.faults new.sink.faults
+  pub later : old.sink.faults ≤ new.sink.faults
+
+-- What a policy that was read can end with, and what its question asks for.
+abbrev pub IsSettled : Question → Status → Type 0
+IsSettled question (Usage word) = ⊥
+IsSettled question (ReadFault slot) = (slot ≡ Map) × IsSome (map_in question)
+IsSettled question (TooLarge slot) = (slot ≡ Map) × IsSome (map_in question)
+IsSettled question (BadMap fault) = IsSome (map_in question)
+IsSettled question status = ⊤
 
 -- What a run does to the files once the policy was read: it asks for the map, if the request names one.
 pub record AsksMap (world : World) (name : Option (List ℕ)) (status : Status) (old new : Slot → SlotState) : Type 0 where
@@ -86,15 +96,15 @@ pub record AsksMap (world : World) (name : Option (List ℕ)) (status : Status) 
   pub read : status ≡ ReadFault Map → Rose (old Map).faults (new Map).faults
 
 -- How a run ends whose policy was read, and accepted or not: the answer about it is that about the files that are told.
-pub record Settles (asks : Asks) (outcome : Result Parts Fault) (world : World) (files_old files_new : Slot → SlotState) (asked_old asked_new : Option (List (List ℕ))) (past refusals : ℕ) (old new : Option (List ℕ)) (before now : ℕ) (status : Status) : Type 0 where
-  pub meets : (contents : Contents) → Tells world (Ok asks) contents → Meets (policy_answer asks outcome contents) old new status
-  pub about : IsSettled asks status
-  pub silent : WritesNothing old new status
-  pub files : AsksMap world (name_in asks Map) status files_old files_new
-  pub mapped : (files_new Map).asked ≡ true → IsOk outcome
-  pub patterns : TriesPatterns (patterns_in asks) asked_old asked_new past refusals status
-  pub wrote : status ≡ WriteFault → Rose before now
-  pub later : before ≤ now
+pub record Settles (question : Question) (outcome : Result Parts Fault) (world : World) (old new : Outside) (status : Status) : Type 0 where
+  pub meets : (contents : Contents) → Tells world (Ok (About question)) contents → Meets (policy_answer question outcome contents) old.sink new.sink status
+  pub about : IsSettled question status
+  pub silent : WritesNothing old.sink new.sink status
+  pub files : AsksMap world (map_in question) status old.files new.files
+  pub mapped : (new.files Map).asked ≡ true → IsOk outcome
+  pub patterns : TriesPatterns (patterns_in question) old.patterns new.patterns status
+  pub wrote : status ≡ WriteFault → Rose old.sink.faults new.sink.faults
+  pub later : old.sink.faults ≤ new.sink.faults
 
 -- What a request about flows ends with once the policy was accepted.
 abbrev pub IsMapped : Status → Type 0
@@ -108,10 +118,10 @@ IsMapped Memory = ⊤
 IsMapped status = ⊥
 
 -- How it ends: the answer is that about the map that is told, or told not to be there.
-pub record MapSettles (asks : FlowAsks) (policy : Parts) (world : World) (files_old files_new : Slot → SlotState) (old new : Option (List ℕ)) (before now : ℕ) (status : Status) : Type 0 where
+pub record MapSettles (asks : FlowAsks) (policy : Parts) (world : World) (files_old files_new : Slot → SlotState) (old new : SinkState) (status : Status) : Type 0 where
   pub meets : (held : Option (List ℕ)) → told world Map asks.map_file.text ≡ Some held → Meets (by_file Map held (flow_answer asks policy)) old new status
   pub about : IsMapped status
   pub silent : WritesNothing old new status
   pub files : AsksMap world (Some asks.map_file.text) status files_old files_new
-  pub wrote : status ≡ WriteFault → Rose before now
-  pub later : before ≤ now
+  pub wrote : status ≡ WriteFault → Rose old.faults new.faults
+  pub later : old.faults ≤ new.faults

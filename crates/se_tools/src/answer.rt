@@ -1,5 +1,5 @@
 // The call that all tools go through.
-ghost use Rattle.std.specs.Prelude.{◌≡◌, ◌≤◌, false, length, Ok, Some};
+ghost use Rattle.std.specs.Prelude.{◌≡◌, ◌≤◌, false, length, Ok};
 ghost use Rattle.se_outside.specs.Outside.{NoneAsked};
 ghost use Rattle.se_outside.specs.declared.Slot.TheVariants.{Policy as policy_slot, Map as map_slot};
 ghost use Rattle.pol_file.specs.Acceptance.{accept};
@@ -7,12 +7,11 @@ ghost use Rattle.se_help.specs.Topics.{topic_in};
 ghost use Rattle.se_items.specs.Writing.{Said};
 ghost use Rattle.se_status.specs.Message.{message_of};
 ghost use Rattle.se_words.specs.FlowRequest.{flow_view};
-ghost use Rattle.se_words.specs.Request.{request_of, request_view};
-ghost use Rattle.se_tools.specs.Answer.{file_limit, name_in};
-ghost use Rattle.se_tools.specs.Answers.{Answers, MapSettles, Settles};
+ghost use Rattle.se_words.specs.Request.{About as about, question_view, request_of, request_view};
+ghost use Rattle.se_tools.specs.Answer.{file_limit};
+ghost use Rattle.se_tools.specs.Answers.{Answers, MapSettles, Settles, outside};
 ghost use Rattle.se_tools.specs.Runs.{Runs};
 
-use crate::info::answer_info;
 use crate::reading::{ReadEnd, read_whole};
 use pol_cursor::ReadError;
 use pol_fields::limits::MAX_POLICY_BYTES;
@@ -20,11 +19,12 @@ use pol_read::{Policy, read};
 use se_dom::answer_dom;
 use se_flow::answer_flow;
 use se_help::{topic_of, write_topic};
+use se_info::answer_info;
 use se_make::answer_make;
 use se_outside::{Files, Patterns, Sink, Slot};
 use se_search::answer_search;
 use se_status::{Status, report};
-use se_words::{FlowRequest, Request, Words, WordsError, request_of};
+use se_words::{FlowRequest, Question, Request, Words, WordsError, request_of};
 use std::alloc::Global;
 
 // The most bytes of a permission map: 4 MiB.
@@ -44,11 +44,9 @@ pub fn run<F: Files, P: Patterns, S: Sink, E: Sink>(
 ) -> Status
     requires { NoneAsked (F.state files.old) }
     ensures answers { Runs (topic_in words.now) (request_of words.now)
-        (F.world files.old) (F.state files.old) (F.state files.new)
-        (P.asked patterns.old) (P.asked patterns.new) (P.refusals patterns.old) (P.refusals patterns.new)
-        (S.written out.old) (S.written out.new) (S.faults out.old) (S.faults out.new) result }
-    ensures said { Said (E.written err.old) (E.written err.new) (E.faults err.old) (E.faults err.new)
-        (message_of result) }
+        (F.world files.old) (outside (F.state files.old) (P.state patterns.old) (S.state out.old))
+        (outside (F.state files.new) (P.state patterns.new) (S.state out.new)) result }
+    ensures said { Said (E.state err.old) (E.state err.new) (message_of result) }
 {
     let status = match topic_of(words) {
         Some(topic) => write_topic(topic, out),
@@ -67,9 +65,8 @@ fn answer<F: Files, P: Patterns, S: Sink>(
     out: &mut S,
 ) -> Status
     requires { NoneAsked (F.state files.old) }
-    ensures { Answers (request_of words.now) (F.world files.old) (F.state files.old) (F.state files.new)
-        (P.asked patterns.old) (P.asked patterns.new) (P.refusals patterns.old) (P.refusals patterns.new)
-        (S.written out.old) (S.written out.new) (S.faults out.old) (S.faults out.new) result }
+    ensures { Answers (request_of words.now) (F.world files.old) (outside (F.state files.old) (P.state patterns.old) (S.state out.old))
+        (outside (F.state files.new) (P.state patterns.new) (S.state out.new)) result }
 {
     match request_of(alloc, words) {
         Ok(request) => answer_request(alloc, &request, files, patterns, out),
@@ -87,64 +84,59 @@ fn answer_request<F: Files, P: Patterns, S: Sink>(
     out: &mut S,
 ) -> Status
     requires { NoneAsked (F.state files.old) }
-    ensures { Answers (Ok (request_view request.now))
-        (F.world files.old) (F.state files.old) (F.state files.new)
-        (P.asked patterns.old) (P.asked patterns.new) (P.refusals patterns.old) (P.refusals patterns.new)
-        (S.written out.old) (S.written out.new) (S.faults out.old) (S.faults out.new) result }
+    ensures { Answers (Ok (request_view request.now)) (F.world files.old)
+        (outside (F.state files.old) (P.state patterns.old) (S.state out.old))
+        (outside (F.state files.new) (P.state patterns.new) (S.state out.new)) result }
 {
-    if let Request::Make(asks) = request {
-        return answer_make(alloc, asks, out);
-    }
-    match request.policy() {
-        Some(name) => answer_named(alloc, name, request, files, patterns, out),
-        None => unreachable!(),
+    match request {
+        Request::Info(asks) => answer_about(alloc, Question::Info(asks), files, patterns, out),
+        Request::Search(asks) => answer_about(alloc, Question::Search(asks), files, patterns, out),
+        Request::Dom(asks) => answer_about(alloc, Question::Dom(asks), files, patterns, out),
+        Request::Flow(asks) => answer_about(alloc, Question::Flow(asks), files, patterns, out),
+        Request::Make(asks) => answer_make(alloc, asks, out),
     }
 }
 
-// Answers a request about the policy of that name.
-fn answer_named<F: Files, P: Patterns, S: Sink>(
+// Answers a question about the policy of its name.
+fn answer_about<F: Files, P: Patterns, S: Sink>(
     alloc: Global,
-    name: &str,
-    request: &Request<'_>,
+    question: Question<'_, '_>,
     files: &mut F,
     patterns: &mut P,
     out: &mut S,
 ) -> Status
-    requires files { NoneAsked (F.state files.old) }
-    requires name { name_in (request_view request.now) policy_slot ≡ Some name.now }
-    ensures { Answers (Ok (request_view request.now))
-        (F.world files.old) (F.state files.old) (F.state files.new)
-        (P.asked patterns.old) (P.asked patterns.new) (P.refusals patterns.old) (P.refusals patterns.new)
-        (S.written out.old) (S.written out.new) (S.faults out.old) (S.faults out.new) result }
+    requires { NoneAsked (F.state files.old) }
+    ensures { Answers (Ok (about (question_view question.entry))) (F.world files.old)
+        (outside (F.state files.old) (P.state patterns.old) (S.state out.old))
+        (outside (F.state files.new) (P.state patterns.new) (S.state out.new)) result }
 {
-    let bytes = match read_whole(alloc, files, Slot::Policy, name, MAX_POLICY_BYTES) {
+    let bytes = match read_whole(alloc, files, Slot::Policy, question.policy(), MAX_POLICY_BYTES) {
         Ok(bytes) => bytes,
         Err(ReadEnd::Fault) => return Status::ReadFault(Slot::Policy),
         Err(ReadEnd::TooLarge) => return Status::TooLarge(Slot::Policy),
         Err(ReadEnd::Memory) => return Status::Memory,
     };
-    conclude(alloc, &bytes, request, files, patterns, out)
+    conclude(alloc, &bytes, question, files, patterns, out)
 }
 
-// Answers a request about the policy with these bytes.
+// Answers a question about the policy with these bytes.
 fn conclude<F: Files, P: Patterns, S: Sink>(
     alloc: Global,
     bytes: &[u8],
-    request: &Request<'_>,
+    question: Question<'_, '_>,
     files: &mut F,
     patterns: &mut P,
     out: &mut S,
 ) -> Status
     requires few { length bytes.now ≤ file_limit policy_slot }
     requires map { (F.state files.old map_slot).asked ≡ false }
-    ensures { Settles (request_view request.now) (accept bytes.now)
-        (F.world files.old) (F.state files.old) (F.state files.new)
-        (P.asked patterns.old) (P.asked patterns.new) (P.refusals patterns.old) (P.refusals patterns.new)
-        (S.written out.old) (S.written out.new) (S.faults out.old) (S.faults out.new) result }
+    ensures { Settles (question_view question.entry) (accept bytes.now) (F.world files.old)
+        (outside (F.state files.old) (P.state patterns.old) (S.state out.old))
+        (outside (F.state files.new) (P.state patterns.new) (S.state out.new)) result }
 {
     match read(alloc, bytes) {
         Ok(policy) => {
-            let status = answer_policy(alloc, &policy, request, files, patterns, out);
+            let status = answer_policy(alloc, &policy, question, files, patterns, out);
             drop(policy);
             status
         }
@@ -153,27 +145,25 @@ fn conclude<F: Files, P: Patterns, S: Sink>(
     }
 }
 
-// Answers a request about a policy that was accepted.
+// Answers a question about a policy that was accepted.
 fn answer_policy<F: Files, P: Patterns, S: Sink>(
     alloc: Global,
     policy: &Policy<'_>,
-    request: &Request<'_>,
+    question: Question<'_, '_>,
     files: &mut F,
     patterns: &mut P,
     out: &mut S,
 ) -> Status
     requires { (F.state files.old map_slot).asked ≡ false }
-    ensures { Settles (request_view request.now) (Ok policy.now)
-        (F.world files.old) (F.state files.old) (F.state files.new)
-        (P.asked patterns.old) (P.asked patterns.new) (P.refusals patterns.old) (P.refusals patterns.new)
-        (S.written out.old) (S.written out.new) (S.faults out.old) (S.faults out.new) result }
+    ensures { Settles (question_view question.entry) (Ok policy.now) (F.world files.old)
+        (outside (F.state files.old) (P.state patterns.old) (S.state out.old))
+        (outside (F.state files.new) (P.state patterns.new) (S.state out.new)) result }
 {
-    match request {
-        Request::Info(asks) => answer_info(alloc, policy, asks, out),
-        Request::Search(asks) => answer_search(alloc, policy, asks, patterns, out),
-        Request::Dom(asks) => answer_dom(alloc, policy, asks, out),
-        Request::Flow(asks) => answer_mapped(alloc, policy, asks, files, out),
-        Request::Make(asks) => answer_make(alloc, asks, out),
+    match question {
+        Question::Info(asks) => answer_info(alloc, policy, asks, out),
+        Question::Search(asks) => answer_search(alloc, policy, asks, patterns, out),
+        Question::Dom(asks) => answer_dom(alloc, policy, asks, out),
+        Question::Flow(asks) => answer_mapped(alloc, policy, asks, files, out),
     }
 }
 
@@ -187,8 +177,7 @@ fn answer_mapped<F: Files, S: Sink>(
 ) -> Status
     requires { (F.state files.old map_slot).asked ≡ false }
     ensures { MapSettles (flow_view asks.now) policy.now
-        (F.world files.old) (F.state files.old) (F.state files.new)
-        (S.written out.old) (S.written out.new) (S.faults out.old) (S.faults out.new) result }
+        (F.world files.old) (F.state files.old) (F.state files.new) (S.state out.old) (S.state out.new) result }
 {
     let bytes = match read_whole(alloc, files, Slot::Map, asks.map.text, MAP_LIMIT) {
         Ok(bytes) => bytes,

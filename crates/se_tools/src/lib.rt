@@ -3,9 +3,9 @@
 #![tactic(auto)]
 
 mod answer;
-mod info;
+mod laws;
 mod reading;
-mod unknown;
 
 pub use answer::run;
+pub use laws::answers_are_complete;
 pub use se_status::Status;

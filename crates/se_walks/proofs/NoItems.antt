@@ -5,13 +5,14 @@ use Rattle.pol_bitmap.specs.declared.Node.{Node}
 use Rattle.pol_bitmap.specs.Nodes.{bits_of, has_bit}
 use Rattle.pol_bitmap.proofs.BitLists.{bits-from_has_bit, has_bit-from_bits}
 use Rattle.std.specs.List.{concat}
+use Rattle.se_outside.specs.Outside.{SinkState}
 use Rattle.se_items.specs.Paging.{page}
 use Rattle.se_items.specs.Writing.{Sends}
 use Rattle.se_items.proofs.Resuming.{page-none}
 use Rattle.se_items.proofs.Wrotes.{none_sent}
 
-pub no_items_sent : {T : Type 0} (sink : Option (List ℕ)) (faults from : ℕ) (limit : Option ℕ) (u : T) → Sends sink sink faults faults (concat (page from limit [])) (Ok u)
-no_items_sent sink faults from limit u = rw (page-none from limit) (none_sent sink faults u)
+pub no_items_sent : {T : Type 0} (sink : SinkState) (from : ℕ) (limit : Option ℕ) (u : T) → Sends sink sink (concat (page from limit [])) (Ok u)
+no_items_sent sink from limit u = rw (page-none from limit) (none_sent sink u)
 
 by-test : (nodes : List Node) (bit : ℕ) → (Contains (bits_of nodes) bit → ⊥) → (b : Bool) → has_bit nodes bit ≡ b → false ≡ has_bit nodes bit
 by-test nodes bit none true e = absurd (none (bits-from_has_bit nodes bit e))

@@ -1,10 +1,9 @@
 -- From a walk that is next to the one after it.
-use Rattle.std.proofs.Common.{◌≡◌, ◌≤◌, ◌<◌, ◌+◌, ℕ, zero, suc, Bool, true, false, List, [], ◌∷◌, Some, length, take, drop, slice_get, refl, sym, ap, add-one, arith, subst, slice_index_or}
+use Rattle.std.proofs.Common.{◌≡◌, ◌≤◌, ◌<◌, ◌+◌, ℕ, zero, suc, Bool, true, false, List, [], ◌∷◌, Some, length, take, drop, slice_get, refl, sym, ◌∙◌, length-drop, ap, add-one, arith, subst, slice_index_or}
 use Rattle.std.specs.Prelude.{if◌then◌else◌}
 use Rattle.std.specs.List.{All}
-use Rattle.std.proofs.lemmas.List.{drop_all}
+use Rattle.std.proofs.lemmas.List.{drop-drop, drop_all}
 use Rattle.std.proofs.lemmas.Option.{slice_get_within}
-use Rattle.se_items.specs.Paging.{most_items}
 use Rattle.walk_enum.specs.Moving.{Moves}
 use Rattle.se_walks.specs.Numbered.{numbered}
 
@@ -44,11 +43,11 @@ pub left-after : (f : ℕ → List ℕ → List ℕ) (listed : List (List ℕ)) 
 left-after f listed walk number old more is next none =
     rw (is, rest-of f more (number + 1) listed none) (ap (numbered f (number + 1)) next)
 
-pub none-past : (all : List (List ℕ)) (after : ℕ) → most_items ≤ after → length (take most_items all) ≤ after
-none-past all after le = let s = short all most_items in omega (arith, le, s)
+pub none-past : (all : List (List ℕ)) (end after : ℕ) → end ≤ after → length (take end all) ≤ after
+none-past all end after le = let s = short all end in omega (arith, le, s)
 
-pub none-left : (all : List (List ℕ)) (walk new : List ℕ) (number after : ℕ) (more : Bool) → slice_get all number ≡ Some walk → after ≡ number + 1 → Moves all walk new more → more ≡ false → length (take most_items all) ≤ after
-none-left all walk new number after more there follows moves none = let s = shorter all most_items in let e = moves.last none number there in omega (arith, s, e, follows)
+pub none-left : (all : List (List ℕ)) (end : ℕ) (walk new : List ℕ) (number after : ℕ) (more : Bool) → slice_get all number ≡ Some walk → after ≡ number + 1 → Moves all walk new more → more ≡ false → length (take end all) ≤ after
+none-left all end walk new number after more there follows moves none = let s = shorter all end in let e = moves.last none number there in omega (arith, s, e, follows)
 
 slice_get_or : (all : List (List ℕ)) (number : ℕ) (walk : List ℕ) → slice_get all number ≡ Some walk → slice_index_or all number walk ≡ walk
 slice_get_or [] number walk there = absurd (cc there)
@@ -64,3 +63,19 @@ has-nodes all walk number count there each =
     let P : List ℕ → Type 0 = λ w. length w ≡ count + 1 in
     let e : length walk ≡ count + 1 = subst P at same in
     omega (arith, e)
+
+-- so many walks were passed over, and one more
+pub passed-next : (all left rest : List (List ℕ)) (text : List ℕ) (number : ℕ) → left ≡ drop number all → left ≡ text ∷ rest → rest ≡ drop (number + 1) all
+passed-next all left rest text number is next =
+    let e : drop 1 (drop number all) ≡ rest = ap (drop 1) (sym is ∙ next) in
+    sym (sym (drop-drop 1 number all) ∙ e)
+
+-- none was left to pass over
+pub passed-end : (all left : List (List ℕ)) (number count : ℕ) → number ≤ count → left ≡ drop number all → left ≡ [] → left ≡ drop count all
+passed-end all left number count le is none =
+    let e : length (drop number all) ≡ 0 = ap length (sym is ∙ none) in
+    none ∙ sym (drop_all count all (omega (arith, le, e, length-drop number all)))
+
+-- where there is no further walk none is left
+pub no-walks : (f : ℕ → List ℕ → List ℕ) (more : Bool) (number : ℕ) (listed : List (List ℕ)) → more ≡ false → (if more then numbered f (number + 1) (drop number listed) else []) ≡ []
+no-walks f more number listed none = rw none refl

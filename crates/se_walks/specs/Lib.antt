@@ -2,4 +2,5 @@ pub mod TypeNames
 pub mod Numbered
 pub mod WalkTexts
 pub mod GraphItems
+pub mod GraphAnswer
 pub mod Inner

@@ -1,6 +1,5 @@
 -- Types that words name.
 use Rattle.std.specs.Prelude.{ℕ, Bool, List, ◌∷◌, ◌++◌, map, option_map, Option, Some, None, if◌then◌else◌}
-use Rattle.std.specs.List.{fold}
 use Rattle.std.specs.Option.{option_to_list}
 use Rattle.pol_fields.specs.declared.TableKind.TheVariants.{Types}
 use Rattle.pol_file.specs.declared.Parts.{Parts}
@@ -9,7 +8,7 @@ use Rattle.pol_symbols.specs.declared.Symbols.{Symbols}
 use Rattle.pol_expand.specs.PlainTypes.{is_type_value}
 use Rattle.named_values.specs.Named.{is_named}
 use Rattle.se_options.specs.Options.{Named}
-use Rattle.se_status.specs.Meeting.{least}
+use Rattle.se_status.specs.LeastWord.{least_number}
 use Rattle.se_walks.specs.declared.graph_items.Ends.{Ends}
 
 -- a value that is a type's, and no attribute's
@@ -38,18 +37,17 @@ ends_if reverse source target = None
 abbrev pub ends_named : Parts → Named → Option Named → Bool → Option Ends
 ends_named policy source target reverse = ends_if reverse (type_named policy source.text) (target_named policy target)
 
--- the number of a word that names no type
+-- the number of a word, unless it names a type
 abbrev pub word_unless : Option ℕ → ℕ → Option ℕ
 word_unless None word = Some word
 word_unless (Some value) word = None
 
--- the least of a number and that of a word, if it names no type
-abbrev pub with_unknown : Parts → Option ℕ → Named → Option ℕ
-with_unknown policy found named = least found (word_unless (type_named policy named.text) named.word)
+abbrev pub unknown_word : Parts → Named → Option ℕ
+unknown_word policy named = word_unless (type_named policy named.text) named.word
 
 -- the least number of a word that names no type
 abbrev pub first_unknown : Parts → List Named → Option ℕ
-first_unknown policy names = fold (with_unknown policy) None names
+first_unknown policy names = least_number (unknown_word policy) names
 
 -- the words that name types: a source, a target, and types that are excluded
 abbrev pub type_words : Named → Option Named → List Named → List Named

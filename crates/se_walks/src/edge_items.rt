@@ -1,11 +1,11 @@
-// The edges of a node, as items that are written one after the other.
+// The edges of a node, as a text that is made edge by edge.
 ghost use Rattle.std.specs.Prelude.{◌≡◌, ◌+◌, ◌<◌, ◌^◌, ◌++◌, OnOk, length};
 ghost use Rattle.se_walks.specs.WalkTexts.{edge_item, end_item};
 
 use crate::EdgeTexts;
 use crate::ends_texts::push_edge;
 use pol_texts::push_decimal;
-use se_items::Items;
+use se_items::Pieces;
 use std::alloc::AllocError;
 
 /// The edges between a node and others, from a number on.
@@ -20,21 +20,15 @@ pub struct EdgeItems<'q, T> {
     pub ghost fits: { number + length ends.now < 2 ^ 64 },
 }
 
-impl<T: EdgeTexts> Items for EdgeItems<'_, T> {
+impl<T: EdgeTexts> Pieces for EdgeItems<'_, T> {
+    ghost use Rattle.std.specs.Prelude.{⊤};
     ghost use Rattle.se_walks.specs.Inner.EdgeItems.{edges_left};
 
     ghost left = { edges_left T.words };
 
-    fn pass(&mut self) -> bool {
-        let Some((_end, others)) = self.ends.split_first() else {
-            return false;
-        };
-        self.ends = others;
-        self.number += 1;
-        true
-    }
+    ghost stands = { λ _. ⊤ };
 
-    fn push_next(&mut self, buffer: &mut Vec<u8>) -> Result<bool, AllocError> {
+    fn push_piece(&mut self, buffer: &mut Vec<u8>) -> Result<bool, AllocError> {
         let Some((end, others)) = self.ends.split_first() else {
             return Ok(false);
         };

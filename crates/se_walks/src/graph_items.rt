@@ -8,9 +8,9 @@ ghost use Rattle.se_items.specs.Writing.{Sends};
 ghost use Rattle.se_walks.specs.GraphItems.{AreWithin, items_between, walk_items};
 
 use crate::EdgeTexts;
-use crate::writing::{Window, write_edges, write_walks};
+use crate::writing::{write_edges, write_walks};
 use pol_bitmap::Set;
-use se_items::WriteEnd;
+use se_items::{Window, WriteEnd};
 use se_outside::Sink;
 use std::alloc::Global;
 use walk_enum::Graph;
@@ -37,7 +37,7 @@ pub fn write_items<G: Graph, T: EdgeTexts, S: Sink>(
 ) -> Result<(), WriteEnd>
     requires { AreWithin (G.nodes graph.now) ends }
     ensures { (policy : Parts) → G.nodes graph.now ≡ policy.symbols.types.nprim
-        → Sends (S.written out.old) (S.written out.new) (S.faults out.old) (S.faults out.new)
+        → Sends (S.state out.old) (S.state out.new)
         (concat (page window.from window.limit (items_between (T.words texts.now) (G.edge graph.now) policy (has_bit excluded.now) ends))) result }
 {
     match ends.target {
@@ -71,7 +71,7 @@ fn write_paths<G: Graph, T: EdgeTexts, S: Sink>(
     requires target_low { 1 ≤ target }
     requires target_high { target ≤ G.nodes graph.now }
     ensures { (policy : Parts) → G.nodes graph.now ≡ policy.symbols.types.nprim
-        → Sends (S.written out.old) (S.written out.new) (S.faults out.old) (S.faults out.new)
+        → Sends (S.state out.old) (S.state out.new)
         (concat (page window.from window.limit (walk_items (T.words texts.now) (G.edge graph.now) policy (has_bit excluded.now) source target))) result }
 {
     if has_either(excluded, source, target) {

@@ -1,4 +1,8 @@
-//! What sedta and seinfoflow have in common: types that words name, and the edges and shortest walks of a graph, each with its text.
+//! The answer of a tool over a graph of types, as sedta and seinfoflow are: types that words name, and the edges and shortest walks of the
+//! graph, each with its text. A tool gives its graph, the words of its texts, and what is asked.
+//!
+//! What users call a path is a walk here: nodes and edges may come again in one, and only a shortest walk is a path in the sense of graphs.
+//! `Path` stands in texts and options alone.
 #![tactic(auto)]
 
 mod edge_items;
@@ -13,4 +17,3 @@ mod writing;
 pub use edge_texts::EdgeTexts;
 pub use graph_items::{Ends, write_items};
 pub use type_names::{ends_named, excluded_set, first_unknown};
-pub use writing::Window;

@@ -1,21 +1,20 @@
 // Types that words name.
 ghost use Rattle.std.specs.Prelude.{◌≡◌, ◌≤◌, ℕ, IfOk, IfSome, Some, map, option_map};
-ghost use Rattle.std.specs.List.{fold};
 ghost use Rattle.std.specs.Option.{option_to_list};
 ghost use Rattle.pol_bitmap.specs.Nodes.{has_bit};
 ghost use Rattle.se_options.specs.Options.{named_view};
-ghost use Rattle.se_status.specs.Meeting.{least};
 ghost use Rattle.se_walks.specs.GraphItems.{AreWithin};
-ghost use Rattle.se_walks.specs.TypeNames.{ends_named, first_unknown, is_excluded, plain_value, target_named, type_named, type_words, with_unknown};
+ghost use Rattle.se_walks.specs.TypeNames.{ends_named, first_unknown, is_excluded, plain_value, target_named, type_named, type_words, unknown_word};
 
 use crate::Ends;
 use named_values::values_named;
 use pol_bitmap::Set;
-use pol_expand::is_type;
 use pol_fields::TableKind;
 use pol_read::Policy;
 use pol_symbols::Symbols;
+use pol_expand::is_type;
 use se_options::Named;
+use se_status::least;
 use std::alloc::{AllocError, Global};
 
 /// The ends that are asked for: a source, a target or none, and whether edges are asked for in the reverse. `None` where a word
@@ -94,48 +93,41 @@ pub fn first_unknown(
 ) -> Option<u64>
     ensures { result ≡ first_unknown policy.now (type_words (named_view source.now) (option_map named_view target.now) (map named_view excluded.now)) }
 {
-    let found = with_unknown(policy, None, source);
-    let found = with_target(policy, found, target);
-    with_all(policy, found, excluded)
+    let found = least(
+        unknown_word(policy, source),
+        unknown_target(policy, target),
+    );
+    least(found, unknown_among(policy, excluded))
 }
 
-// The least of a number and that of the word of a target, if there is one that names no type.
-fn with_target(policy: &Policy<'_>, found: Option<u64>, target: &Option<Named<'_>>) -> Option<u64>
-    ensures { result ≡ fold (with_unknown policy.now) found (option_to_list (option_map named_view target.now)) }
+// The number of the word of a target, if there is one that names no type.
+fn unknown_target(policy: &Policy<'_>, target: &Option<Named<'_>>) -> Option<u64>
+    ensures { result ≡ first_unknown policy.now (option_to_list (option_map named_view target.now)) }
 {
     match target {
-        Some(target) => with_unknown(policy, found, target),
-        None => found,
+        Some(target) => unknown_word(policy, target),
+        None => None,
     }
 }
 
-// The least of a number and those of words that name no type.
-fn with_all(policy: &Policy<'_>, found: Option<u64>, names: &[Named<'_>]) -> Option<u64>
-    ensures { result ≡ fold (with_unknown policy.now) found (map named_view names.now) }
+// The least number of a word that names no type.
+fn unknown_among(policy: &Policy<'_>, names: &[Named<'_>]) -> Option<u64>
+    ensures { result ≡ first_unknown policy.now (map named_view names.now) }
 {
-    let mut least = found;
+    let mut found = None;
     for named in names {
-        least = with_unknown(policy, least, named);
+        found = least(found, unknown_word(policy, named));
     }
-    least
+    found
 }
 
-// The least of a number and that of a word, if it names no type.
-fn with_unknown(policy: &Policy<'_>, found: Option<u64>, named: &Named<'_>) -> Option<u64>
-    ensures { result ≡ with_unknown policy.now found (named_view named.now) }
+// The number of a word, if it names no type.
+fn unknown_word(policy: &Policy<'_>, named: &Named<'_>) -> Option<u64>
+    ensures { result ≡ unknown_word policy.now (named_view named.now) }
 {
     match type_named(policy, named.text.as_bytes()) {
-        None => least(found, named.word),
-        Some(_) => found,
-    }
-}
-
-fn least(found: Option<u64>, word: u64) -> Option<u64>
-    ensures { result ≡ least found (Some word) }
-{
-    match found {
-        None => Some(word),
-        Some(other) => Some(other.min(word)),
+        None => Some(named.word),
+        Some(_) => None,
     }
 }
 

@@ -1,18 +1,15 @@
-// Walks, as items that are written one after the other.
-ghost use Rattle.std.specs.Prelude.{◌≡◌, ◌+◌, ◌∷◌, true};
+// Walks, as a text that is made walk by walk.
+ghost use Rattle.std.specs.Prelude.{◌≡◌, ◌+◌, ◌<◌, ◌∷◌, drop, true};
 ghost use Rattle.se_walks.specs.Inner.Placed.{IsNextIf};
 ghost use Rattle.se_walks.specs.WalkTexts.{walk_item};
 
 use crate::EdgeTexts;
 use crate::walk_texts::push_walk;
-use se_items::Items;
+use se_items::Pieces;
 use std::alloc::AllocError;
 use walk_enum::{Layers, Walk};
 
-// The most walks of a listing.
-const MOST_ITEMS: u64 = 999_999_999_999_999_999;
-
-/// The walks of some layers, from the one on that is next.
+/// The walks of some layers, from the one on that is next up to another.
 #[derive(Drop)]
 pub struct WalkItems<'q, T> {
     pub texts: &'q T,
@@ -20,13 +17,26 @@ pub struct WalkItems<'q, T> {
     // the walk that is next, if there is one
     pub walk: Walk,
     pub more: bool,
-    // how many walks came before it
+    // how many walks come before it, and before the end
     pub number: u64,
-    pub ghost next: { IsNextIf more layers.now walk number },
+    pub end: u64,
+    pub ghost next: { IsNextIf more layers.now walk number end },
 }
 
 impl<T: EdgeTexts> WalkItems<'_, T> {
     ghost use Rattle.se_walks.specs.Inner.WalkItems.{walks_left};
+
+    /// Passes over so many walks, or all.
+    pub fn skip(&mut self, count: u64)
+        ensures { walks_left T.words self.new ≡ drop count (walks_left T.words self.old) }
+    {
+        'skipped: for _number in 0..count {
+            if !self.more {
+                return;
+            }
+            self.advance();
+        }
+    }
 
     // Goes on to the next walk, if there is one.
     fn advance(&mut self)
@@ -34,7 +44,7 @@ impl<T: EdgeTexts> WalkItems<'_, T> {
         ensures { walks_left T.words self.old ≡ walk_item (T.words self.old.texts.now) (self.old.number + 1) self.old.walk ∷ walks_left T.words self.new }
     {
         self.number += 1;
-        if self.number < MOST_ITEMS {
+        if self.number < self.end {
             self.more = self.layers.next_walk(&mut self.walk);
         } else {
             self.more = false;
@@ -42,20 +52,15 @@ impl<T: EdgeTexts> WalkItems<'_, T> {
     }
 }
 
-impl<T: EdgeTexts> Items for WalkItems<'_, T> {
-    ghost use Rattle.se_walks.specs.Inner.WalkItems.{walks_left};
+impl<T: EdgeTexts> Pieces for WalkItems<'_, T> {
+    ghost use Rattle.std.specs.Prelude.{⊤};
+    ghost use Rattle.se_walks.specs.Inner.WalkItems.{text_left};
 
-    ghost left = { walks_left T.words };
+    ghost left = { text_left T.words };
 
-    fn pass(&mut self) -> bool {
-        if !self.more {
-            return false;
-        }
-        self.advance();
-        true
-    }
+    ghost stands = { λ _. ⊤ };
 
-    fn push_next(&mut self, buffer: &mut Vec<u8>) -> Result<bool, AllocError> {
+    fn push_piece(&mut self, buffer: &mut Vec<u8>) -> Result<bool, AllocError> {
         if !self.more {
             return Ok(false);
         }

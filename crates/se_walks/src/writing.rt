@@ -12,19 +12,12 @@ use crate::EdgeTexts;
 use crate::edge_items::EdgeItems;
 use crate::walk_items::WalkItems;
 use pol_bitmap::Set;
-use se_items::{WriteEnd, listed, write_page};
+use se_items::{Window, WriteEnd, write_pieces};
 use se_outside::Sink;
 use std::alloc::{AllocError, Global};
 use std::marker::Brand;
 use std::sync::ledger::{Blank, Ledger};
 use walk_enum::{Graph, Layers, Steps, search};
-
-/// Which items of a listing are wanted: those after the first so many, and at most so many of them.
-#[derive(Clone, Copy, Debug)]
-pub struct Window {
-    pub from: u64,
-    pub limit: Option<u64>,
-}
 
 /// Writes the edges of a node, each of which goes from it or, in the reverse, to it.
 pub fn write_edges<G: Graph, T: EdgeTexts, S: Sink>(
@@ -38,7 +31,7 @@ pub fn write_edges<G: Graph, T: EdgeTexts, S: Sink>(
 ) -> Result<(), WriteEnd>
     requires low { 1 ≤ node }
     requires high { node ≤ G.nodes graph.now }
-    ensures { Sends (S.written out.old) (S.written out.new) (S.faults out.old) (S.faults out.new)
+    ensures { Sends (S.state out.old) (S.state out.new)
         (concat (page window.from window.limit (numbered (end_item (T.words texts.now) node reverse) 1 (successors_of (G.edge graph.now) (G.nodes graph.now) node)))) result }
 {
     let ends = successors_of(alloc, graph, node)?;
@@ -46,10 +39,10 @@ pub fn write_edges<G: Graph, T: EdgeTexts, S: Sink>(
         texts,
         node,
         reverse,
-        ends: listed(&ends),
-        number: 1,
+        ends: window.of(&ends),
+        number: window.from.min(ends.len() as u64) + 1,
     };
-    write_page(alloc, &mut items, window.from, window.limit, out)
+    write_pieces(alloc, &mut items, out)
 }
 
 // The nodes that a node has an edge to, rising.
@@ -61,7 +54,7 @@ fn successors_of<G: Graph>(alloc: Global, graph: &G, node: u32) -> Result<Vec<u3
     counted_ends::<G, Brand>(alloc, graph, node, Blank::new(1))
 }
 
-// The same, with a counter of steps whose ledger the caller names.
+// As [`successors_of`], with a counter of steps whose ledger the caller names.
 fn counted_ends<G: Graph, L: Ledger>(
     alloc: Global,
     graph: &G,
@@ -101,7 +94,7 @@ pub fn write_walks<G: Graph, T: EdgeTexts, S: Sink>(
     requires from_high { from ≤ G.nodes graph.now }
     requires to_low { 1 ≤ to }
     requires to_high { to ≤ G.nodes graph.now }
-    ensures { Sends (S.written out.old) (S.written out.new) (S.faults out.old) (S.faults out.new)
+    ensures { Sends (S.state out.old) (S.state out.new)
         (concat (page window.from window.limit (numbered (walk_item (T.words texts.now)) 1 (least_walks (G.edge graph.now) (G.nodes graph.now) from to)))) result }
 {
     match layers_of::<G>(alloc, graph, from, to)? {
@@ -118,18 +111,21 @@ fn write_layers<T: EdgeTexts, S: Sink>(
     window: Window,
     out: &mut S,
 ) -> Result<(), WriteEnd>
-    ensures { Sends (S.written out.old) (S.written out.new) (S.faults out.old) (S.faults out.new)
+    ensures { Sends (S.state out.old) (S.state out.new)
         (concat (page window.from window.limit (numbered (walk_item (T.words texts.now)) 1 layers.now))) result }
 {
+    let end = window.end();
     let walk = layers.first_walk(alloc)?;
     let mut items = WalkItems {
         texts,
         layers,
         walk,
-        more: true,
+        more: 0 < end,
         number: 0,
+        end,
     };
-    write_page(alloc, &mut items, window.from, window.limit, out)
+    items.skip(window.from);
+    write_pieces(alloc, &mut items, out)
 }
 
 // The shortest walks from a node to a node, or `None` where there is no walk.

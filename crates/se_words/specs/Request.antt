@@ -1,5 +1,5 @@
 -- What the words of a command line ask for.
-use Rattle.std.specs.Prelude.{ℕ, List, [], ◌∷◌, codes, length, Option, Some, None, Result, Ok, Err, if◌then◌else◌}
+use Rattle.std.specs.Prelude.{ℕ, List, [], ◌∷◌, codes, length, Option, Result, Ok, Err, if◌then◌else◌}
 use Rattle.se_options.specs.Word.{is_word}
 use Rattle.se_options.specs.Options.{Named}
 use Rattle.se_words.specs.Asked.{Says, asked_by}
@@ -10,23 +10,28 @@ use Rattle.se_words.specs.FlowRequest.{FlowAsks, flow_options, flow_in, flow_vie
 use Rattle.se_words.specs.MakeRequest.{MakeAsks, make_asked, make_view}
 use Rattle.se_words.specs.declared.request.Request.{Request}
 use Rattle.se_words.specs.declared.request.Request.TheVariants.{Info as InfoCode, Search as SearchCode, Dom as DomCode, Flow as FlowCode, Make as MakeCode}
+use Rattle.se_words.specs.declared.question.Question.{Question as QuestionCode}
+use Rattle.se_words.specs.declared.question.Question.TheVariants as asked
 use Rattle.se_words.specs.declared.words_error.WordsError.{WordsError}
 
--- what is asked, and of which tool: seinfo, sesearch, sedta, seinfoflow or make
-pub data Asks : Type 0 where
-  Info : InfoAsks → Asks
-  Search : SearchAsks → Asks
-  Dom : DomAsks → Asks
-  Flow : FlowAsks → Asks
-  Make : MakeAsks → Asks
+-- what is asked about a policy, and of which tool: seinfo, sesearch, sedta or seinfoflow
+pub data Question : Type 0 where
+  Info : InfoAsks → Question
+  Search : SearchAsks → Question
+  Dom : DomAsks → Question
+  Flow : FlowAsks → Question
 
--- the name of the policy that is asked about, but of make, which is asked about none
-abbrev pub policy_of : Asks → Option Named
-policy_of (Info asks) = Some asks.policy
-policy_of (Search asks) = Some asks.policy
-policy_of (Dom asks) = Some asks.policy
-policy_of (Flow asks) = Some asks.policy
-policy_of (Make asks) = None
+-- the name of the policy
+abbrev pub policy_of : Question → Named
+policy_of (Info asks) = asks.policy
+policy_of (Search asks) = asks.policy
+policy_of (Dom asks) = asks.policy
+policy_of (Flow asks) = asks.policy
+
+-- what is asked: something about a policy, or a policy of make
+pub data Asks : Type 0 where
+  About : Question → Asks
+  Make : MakeAsks → Asks
 
 -- what is asked of one of them
 abbrev pub of_tool : {A : Type 0} → (A → Asks) → Result A ℕ → Result Asks ℕ
@@ -39,20 +44,27 @@ of_tool tool (Err n) = Err n
 abbrev pub request_of : List (Option (List ℕ)) → Result Asks ℕ
 request_of [] = Err 1
 request_of (tool ∷ words) =
-    if is_word (codes "seinfo") tool then of_tool (λ asks. Info asks) (asked_by info_options 1 info_in words)
-    else (if is_word (codes "sesearch") tool then of_tool (λ asks. Search asks) (asked_by search_options 1 search_in words)
-    else (if is_word (codes "sedta") tool then of_tool (λ asks. Dom asks) (asked_by dom_options (length words) dom_in words)
-    else (if is_word (codes "seinfoflow") tool then of_tool (λ asks. Flow asks) (asked_by flow_options (length words) flow_in words)
+    if is_word (codes "seinfo") tool then of_tool (λ asks. About (Info asks)) (asked_by info_options 1 info_in words)
+    else (if is_word (codes "sesearch") tool then of_tool (λ asks. About (Search asks)) (asked_by search_options 1 search_in words)
+    else (if is_word (codes "sedta") tool then of_tool (λ asks. About (Dom asks)) (asked_by dom_options (length words) dom_in words)
+    else (if is_word (codes "seinfoflow") tool then of_tool (λ asks. About (Flow asks)) (asked_by flow_options (length words) flow_in words)
     else (if is_word (codes "make") tool then of_tool (λ asks. Make asks) (make_asked words)
     else Err 1))))
 
 -- what a request of the code says
 abbrev pub request_view : Request → Asks
-request_view (InfoCode asks) = Info (info_view asks)
-request_view (SearchCode asks) = Search (search_view asks)
-request_view (DomCode asks) = Dom (dom_view asks)
-request_view (FlowCode asks) = Flow (flow_view asks)
+request_view (InfoCode asks) = About (Info (info_view asks))
+request_view (SearchCode asks) = About (Search (search_view asks))
+request_view (DomCode asks) = About (Dom (dom_view asks))
+request_view (FlowCode asks) = About (Flow (flow_view asks))
 request_view (MakeCode asks) = Make (make_view asks)
+
+-- what a question of the code asks
+abbrev pub question_view : QuestionCode → Question
+question_view (asked.Info asks) = Info (info_view asks.now)
+question_view (asked.Search asks) = Search (search_view asks.now)
+question_view (asked.Dom asks) = Dom (dom_view asks.now)
+question_view (asked.Flow asks) = Flow (flow_view asks.now)
 
 -- A result of the code says what the words ask, unless it is out of memory.
 abbrev pub Understands : Result Request WordsError → Result Asks ℕ → Type 0

@@ -3,10 +3,7 @@ use Rattle.std.specs.Prelude.{ℕ, List, codes, unwrap_or, Option}
 use Rattle.se_options.specs.Options.{ValueKind, Number, Row, valued, Group}
 use Rattle.se_options.specs.Given.{given_number}
 use Rattle.std.specs.Prelude.{None}
-
--- the greatest number of 18 digits
-abbrev pub most_items : ℕ
-most_items = 999999999999999999
+use Rattle.se_items.specs.Paging.{most_items}
 
 -- the value of an option that limits how many items are listed
 abbrev pub limit_kind : ValueKind

@@ -1,4 +1,5 @@
 // What sedta is asked.
+use se_items::Window;
 use se_options::Named;
 
 /// What `sedta` is asked of a policy: the transitions of a source, or all shortest walks of transitions from it to a target.
@@ -19,4 +20,18 @@ pub struct DomRequest<'w> {
     pub from: u64,
     /// At most so many items, 1 or more.
     pub limit: Option<u64>,
+}
+
+impl DomRequest<'_> {
+    ghost use Rattle.std.specs.Prelude.{◌≡◌};
+
+    /// Which items are asked for.
+    pub fn window(&self) -> Window
+        ensures { result ≡ record { from = self.now.from; limit = self.now.limit } }
+    {
+        Window {
+            from: self.from,
+            limit: self.limit,
+        }
+    }
 }

@@ -1,6 +1,7 @@
 // What seinfoflow is asked.
 ghost use Rattle.std.specs.Prelude.{◌≤◌};
 
+use se_items::Window;
 use se_options::Named;
 
 /// What `seinfoflow` is asked of a policy and a permission map: the flows of a source, or all shortest walks of flows from it to a
@@ -28,4 +29,18 @@ pub struct FlowRequest<'w> {
     pub limit: Option<u64>,
     pub ghost at_least_one: { 1 ≤ least },
     pub ghost at_most_ten: { least ≤ 10 },
+}
+
+impl FlowRequest<'_> {
+    ghost use Rattle.std.specs.Prelude.{◌≡◌};
+
+    /// Which items are asked for.
+    pub fn window(&self) -> Window
+        ensures { result ≡ record { from = self.now.from; limit = self.now.limit } }
+    {
+        Window {
+            from: self.from,
+            limit: self.limit,
+        }
+    }
 }

@@ -1,4 +1,12 @@
-//! What the words of a command line ask for: one request a tool, by the tool's table of options.
+//! What the words of a command line ask for: one request a tool, by the tool's table of options, which stands in `specs/..Request.antt` and
+//! in `src/.._words.rt`.
+//!
+//! ```
+//! let mut words = Words::new(alloc);
+//! words.push("seinfo")?;
+//! words.push("policy.33")?;
+//! if let Request::Info(asks) = request_of(alloc, &words)? { .. }
+//! ```
 #![tactic(auto)]
 
 mod asked;
@@ -11,6 +19,7 @@ mod info_words;
 mod make_request;
 mod make_words;
 mod process_words;
+mod question;
 mod request;
 mod search_criteria;
 mod search_request;
@@ -24,6 +33,7 @@ pub use flow_request::FlowRequest;
 pub use info_request::{InfoRequest, Wanted};
 pub use make_request::MakeRequest;
 pub use process_words::words_of_bytes;
+pub use question::Question;
 pub use request::{Request, request_of};
 pub use se_options::{Named, Word, Words};
 pub use search_request::SearchRequest;

@@ -25,24 +25,6 @@ pub enum Request<'w> {
     Make(MakeRequest),
 }
 
-impl<'w> Request<'w> {
-    ghost use Rattle.std.specs.Prelude.{◌≡◌, option_map};
-    ghost use Rattle.se_words.specs.Request.{policy_of, request_view};
-
-    /// The name of the policy that is asked about. `make` is asked about none.
-    pub fn policy(&self) -> Option<&'w str>
-        ensures { option_map (λ name. name.now) result ≡ option_map (λ name. name.text) (policy_of (request_view self.now)) }
-    {
-        match self {
-            Request::Info(asks) => Some(asks.policy.text),
-            Request::Search(asks) => Some(asks.policy.text),
-            Request::Dom(asks) => Some(asks.policy.text),
-            Request::Flow(asks) => Some(asks.policy.text),
-            Request::Make(_) => None,
-        }
-    }
-}
-
 /// What the words ask for.
 pub fn request_of(alloc: Global, words: &Words) -> Result<Request<'_>, WordsError>
     ensures { Understands result (request_of words.now) }

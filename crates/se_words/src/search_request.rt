@@ -1,5 +1,6 @@
 // What sesearch is asked.
 use rule_criteria::Criteria;
+use se_items::Window;
 use se_options::Named;
 
 /// What `sesearch` is asked of a policy: the rules that meet some criteria.
@@ -15,4 +16,18 @@ pub struct SearchRequest<'w> {
     pub from: u64,
     /// At most so many lines, 1 or more.
     pub limit: Option<u64>,
+}
+
+impl SearchRequest<'_> {
+    ghost use Rattle.std.specs.Prelude.{◌≡◌};
+
+    /// Which lines are asked for.
+    pub fn window(&self) -> Window
+        ensures { result ≡ record { from = self.now.from; limit = self.now.limit } }
+    {
+        Window {
+            from: self.from,
+            limit: self.limit,
+        }
+    }
 }

@@ -3,10 +3,8 @@ ghost use Rattle.std.specs.Prelude.{◌≡◌, codes, map};
 ghost use Rattle.se_options.specs.Options.{group_view, kind_view, row_view};
 ghost use Rattle.se_words.specs.Window.{from_in, from_option, limit_in, limit_kind};
 
+use se_items::MOST_ITEMS;
 use se_options::{Group, OptionRow, ValueKind, given_number, valued};
-
-// The greatest number of 18 digits.
-const MOST_ITEMS: u64 = 999_999_999_999_999_999;
 
 // The value of an option that limits how many items are listed.
 pub fn limit_kind() -> ValueKind

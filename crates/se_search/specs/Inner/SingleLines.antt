@@ -2,6 +2,7 @@
 use Rattle.std.specs.Prelude.{◌≡◌, ◌<◌, ◌≤◌, ◌+◌, ◌*◌, ◌-◌, ◌++◌, ℕ, Bool, true, false, List, [], ◌∷◌, Option, Some, None, length, map, min, slice_get, take, drop}
 use Rattle.std.specs.List.{All, concat}
 use Rattle.pol_file.specs.declared.Parts.{Parts}
+use Rattle.se_items.specs.Pieces.{Left}
 use Rattle.set_products.specs.declared.Place.{Place}
 use Rattle.set_products.specs.Members.{Product, members}
 use Rattle.set_products.specs.Standing.{StandsAt, member_in}
@@ -59,17 +60,8 @@ turns_to_line (Some lines) = turns_to_targets lines.row.targets
 abbrev pub turns_left : SingleLines → ℕ
 turns_left lines = 2 * (lines.end - lines.passed) + turns_to_line lines.row
 
--- A turn adds a front of the text of the lines that are left to a buffer, or none is left.
-pub record Turns (old new : SingleLines) (had has : List ℕ) : Type 0 where
-  pub stands : StandsIn new
-  pub text : List ℕ
-  pub left : concat (lines_left old) ≡ text ++ concat (lines_left new)
-  pub added : has ≡ had ++ text
-  pub nearer : turns_left new < turns_left old
-
-abbrev pub Steps : SingleLines → SingleLines → List ℕ → List ℕ → Bool → Type 0
-Steps old new had has true = Turns old new had has
-Steps old new had has false = (concat (lines_left old) ≡ []) × (has ≡ had)
+abbrev pub text_left : SingleLines → Left
+text_left lines = record { text = concat (lines_left lines); pieces = turns_left lines }
 
 -- a row can begin: a line is left, and a place has the members before it that are passed
 pub record CanBegin (lines : SingleLines) : Type 0 where

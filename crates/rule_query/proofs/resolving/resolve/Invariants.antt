@@ -11,5 +11,5 @@ pub record SoFar (words types : Type 0) : Type 0 where
 
 abbrev pub invariant-loop-given : goal.invariant-loop-given
 invariant-loop-given g l =
-    SoFar (LookedUp l.policy l.criteria (g.P.Patterns.asked l.fn.patterns) (g.P.Patterns.asked l.patterns) (g.P.Patterns.refusals l.fn.patterns) (g.P.Patterns.refusals l.patterns) (map shown (take l.given-index l.given-items)) l.tests.items)
+    SoFar (LookedUp l.policy l.criteria (g.P.Patterns.state l.fn.patterns).asked (g.P.Patterns.state l.patterns).asked (g.P.Patterns.state l.fn.patterns).refusals (g.P.Patterns.state l.patterns).refusals (map shown (take l.given-index l.given-items)) l.tests.items)
     (IsMapIfMade l.policy l.types)

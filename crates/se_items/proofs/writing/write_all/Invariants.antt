@@ -8,7 +8,7 @@ pub record Written (at len : ℕ) (before now : ℕ) (so_far : Type 0) : Type 0 
   pub gained : so_far
 
 abbrev pub invariant-loop-at : goal.invariant-loop-at
-invariant-loop-at g l = Written l.at (length l.text) (g.S.Sink.faults l.initial.sink) (g.S.Sink.faults l.sink) (Appends (g.S.Sink.written l.initial.sink) (g.S.Sink.written l.sink) (take l.at l.text))
+invariant-loop-at g l = Written l.at (length l.text) (g.S.Sink.state l.initial.sink).faults (g.S.Sink.state l.sink).faults (Appends (g.S.Sink.state l.initial.sink).written (g.S.Sink.state l.sink).written (take l.at l.text))
 
 abbrev pub decreases-loop-at : goal.decreases-loop-at
 decreases-loop-at g l = length l.text - l.at

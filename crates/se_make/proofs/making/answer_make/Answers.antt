@@ -1,4 +1,4 @@
 use Rattle.se_make.proofs.making.answer_make.Goals as goal
 
 pub returns-clause-answers : goal.returns-clause-answers
-returns-clause-answers g c = c.status_written.ensures.concludes _ _ _ _ _ c.write_answer.ensures
+returns-clause-answers g c = c.status_written.ensures.concludes _ _ _ c.write_answer.ensures

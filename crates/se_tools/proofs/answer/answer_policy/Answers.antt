@@ -1,23 +1,19 @@
 use Rattle.se_words.specs.DomRequest.{dom_view}
 use Rattle.se_words.specs.FlowRequest.{flow_view}
 use Rattle.se_words.specs.InfoRequest.{info_view}
-use Rattle.se_words.specs.MakeRequest.{make_view}
 use Rattle.se_words.specs.SearchRequest.{search_view}
-use Rattle.se_tools.proofs.Settled.{dom-settles, flow-settles, info-settles, make-settles, search-settles}
+use Rattle.se_tools.proofs.Settled.{dom-settles, flow-settles, info-settles, search-settles}
 use Rattle.se_tools.proofs.answer.answer_policy.Goals as goal
 
 pub returns-in-Info : goal.returns-in-Info
-returns-in-Info g c = rw c.in-Info.is (info-settles (info_view c.in-Info.asks) c.args.policy.now _ _ _ _ _ _ _ _ _ c.answer_info.ensures.answers c.answer_info.ensures.plain)
+returns-in-Info g c = rw c.in-Info.is (info-settles (info_view c.in-Info.asks.now) c.args.policy.now _ _ _ _ _ _ c.answer_info.ensures.answers c.answer_info.ensures.plain)
 
 pub returns-in-Search : goal.returns-in-Search
 returns-in-Search g c =
-    rw c.in-Search.is (search-settles (search_view c.in-Search.asks) c.args.policy.now _ _ _ _ _ _ _ _ _ _ _ c.answer_search.ensures.answers c.answer_search.ensures.about c.answer_search.ensures.patterns)
+    rw c.in-Search.is (search-settles (search_view c.in-Search.asks.now) c.args.policy.now _ _ _ _ _ _ _ c.answer_search.ensures.answers c.answer_search.ensures.about c.answer_search.ensures.patterns)
 
 pub returns-in-Dom : goal.returns-in-Dom
-returns-in-Dom g c = rw c.in-Dom.is (dom-settles (dom_view c.in-Dom.asks) c.args.policy.now _ _ _ _ _ _ _ _ _ c.answer_dom.ensures.answers c.answer_dom.ensures.plain)
+returns-in-Dom g c = rw c.in-Dom.is (dom-settles (dom_view c.in-Dom.asks.now) c.args.policy.now _ _ _ _ _ _ c.answer_dom.ensures.answers c.answer_dom.ensures.plain)
 
 pub returns-in-Flow : goal.returns-in-Flow
-returns-in-Flow g c = rw c.in-Flow.is (flow-settles (flow_view c.in-Flow.asks) c.args.policy.now _ _ _ _ _ _ _ _ _ _ c.answer_mapped.ensures)
-
-pub returns-in-Make : goal.returns-in-Make
-returns-in-Make g c = rw c.in-Make.is (make-settles (make_view c.in-Make.asks) c.args.policy.now _ _ _ _ _ _ _ _ _ c.answer_make.ensures.answers c.answer_make.ensures.written)
+returns-in-Flow g c = rw c.in-Flow.is (flow-settles (flow_view c.in-Flow.asks.now) c.args.policy.now _ _ _ _ _ _ _ c.answer_mapped.ensures)

@@ -7,4 +7,4 @@ use Rattle.se_walks.proofs.writing.write_walks.Goals as goal
 pub returns-in-None : goal.returns-in-None
 returns-in-None g c =
     let e : least_walks (g.G.Graph.edge c.args.graph.now) (g.G.Graph.nodes c.args.graph.now) c.args.from c.args.to ≡ [] = c.in_ok-layers_of.ensures.none.0 c.in-None.is in
-    rw (e, page-none c.args.window.from c.args.window.limit) (none_sent _ _ _)
+    rw (e, page-none c.args.window.from c.args.window.limit) (none_sent _ _)
