@@ -1,0 +1,2 @@
+pub mod TrueBooleans
+pub mod ConditionValues
