@@ -1,0 +1,7 @@
+pub mod Walking
+pub mod Turning
+pub mod Covering
+pub mod Settling
+pub mod Searching
+pub mod Going
+pub mod Telling

@@ -1,0 +1,3 @@
+pub mod SimpleWalks
+pub mod Rooms
+pub mod Inner
