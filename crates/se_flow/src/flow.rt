@@ -97,13 +97,5 @@ fn write_between<'q, S: Sink>(
         graph: &graph,
         rules: &rules,
     };
-    write_items(
-        alloc,
-        &graph,
-        &texts,
-        &excluded,
-        ends,
-        asks.window(),
-        out,
-    )
+    write_items(alloc, &graph, &texts, &excluded, ends, asks.window(), out)
 }

@@ -54,7 +54,11 @@ fn write_answer<S: Sink>(
 
 /// Writes the summary of a policy, a line each.
 #[tactic(auto, using(se_items::proofs::Wrotes::nothing_sent))]
-pub fn write_summary<S: Sink>(alloc: Global, policy: &Policy<'_>, out: &mut S) -> Result<(), WriteEnd>
+pub fn write_summary<S: Sink>(
+    alloc: Global,
+    policy: &Policy<'_>,
+    out: &mut S,
+) -> Result<(), WriteEnd>
     ensures { Sends (S.state out.old) (S.state out.new) (flat_map (line_text []) (summary_lines policy.now)) result }
 {
     write_listing(alloc, b"", summary(alloc, policy)?, true, out)

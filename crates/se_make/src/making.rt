@@ -55,12 +55,7 @@ fn made_bytes(alloc: Global, types: u32) -> Result<Vec<u8>, AllocError>
 }
 
 // Writes the summary of the policy of so many types, which is read from its bytes.
-fn write_read<S: Sink>(
-    alloc: Global,
-    types: u32,
-    bytes: &[u8],
-    out: &mut S,
-) -> Result<(), WriteEnd>
+fn write_read<S: Sink>(alloc: Global, types: u32, bytes: &[u8], out: &mut S) -> Result<(), WriteEnd>
     requires types { Allowed types }
     requires bytes { bytes.now ≡ spell (made types) }
     ensures { Sends (S.state out.old) (S.state out.new) (read_text (accept bytes.now)) result }

@@ -6,8 +6,8 @@ ghost use Rattle.rule_text.specs.RuleFrames.{frame_target};
 ghost use Rattle.se_search.specs.Inner.RowLines.{IsFrameOf, IsHeadOf, IsLast, PushesTargets};
 
 use pol_bitmap::SetBits;
-use set_products::Row;
 use rule_text::{RuleFrame, RuleTexts};
+use set_products::Row;
 use std::alloc::{AllocError, Global};
 
 /// The line of a rule with its ends left open, and what of it stands before and between the targets of a source.

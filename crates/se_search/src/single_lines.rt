@@ -7,9 +7,9 @@ ghost use Rattle.se_search.specs.SearchAnswer.{single_line};
 ghost use Rattle.se_search.specs.Inner.SingleLines.{AreOfRules, BeginsRow, CanBegin, StandsIn, end_of, lines_left};
 
 use crate::row_lines::{RowLines, SourceFrame, frame_between, push_targets};
+use rule_text::RuleTexts;
 use se_items::{MOST_ITEMS, Pieces, Window};
 use set_products::{Place, Places, Row};
-use rule_text::RuleTexts;
 use std::alloc::{AllocError, Global};
 
 // The most lines that are added at a time.

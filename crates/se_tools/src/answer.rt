@@ -110,7 +110,13 @@ fn answer_about<F: Files, P: Patterns, S: Sink>(
         (outside (F.state files.old) (P.state patterns.old) (S.state out.old))
         (outside (F.state files.new) (P.state patterns.new) (S.state out.new)) result }
 {
-    let bytes = match read_whole(alloc, files, Slot::Policy, question.policy(), MAX_POLICY_BYTES) {
+    let bytes = match read_whole(
+        alloc,
+        files,
+        Slot::Policy,
+        question.policy(),
+        MAX_POLICY_BYTES,
+    ) {
         Ok(bytes) => bytes,
         Err(ReadEnd::Fault) => return Status::ReadFault(Slot::Policy),
         Err(ReadEnd::TooLarge) => return Status::TooLarge(Slot::Policy),

@@ -9,10 +9,10 @@ ghost use Rattle.se_walks.specs.TypeNames.{ends_named, first_unknown, is_exclude
 use crate::Ends;
 use named_values::values_named;
 use pol_bitmap::Set;
+use pol_expand::is_type;
 use pol_fields::TableKind;
 use pol_read::Policy;
 use pol_symbols::Symbols;
-use pol_expand::is_type;
 use se_options::Named;
 use se_status::least;
 use std::alloc::{AllocError, Global};
@@ -93,10 +93,7 @@ pub fn first_unknown(
 ) -> Option<u64>
     ensures { result ≡ first_unknown policy.now (type_words (named_view source.now) (option_map named_view target.now) (map named_view excluded.now)) }
 {
-    let found = least(
-        unknown_word(policy, source),
-        unknown_target(policy, target),
-    );
+    let found = least(unknown_word(policy, source), unknown_target(policy, target));
     least(found, unknown_among(policy, excluded))
 }
 
