@@ -49,7 +49,7 @@ impl BoolState {
         Ok(BoolState { on })
     }
 
-    /// The same state, which shares the set.
+    /// A state of the same booleans, which shares the set with this one.
     pub fn share(&self) -> Result<BoolState, AllocError>
         ensures { IfOk result (λ state. state ≡ self.now) }
     {
