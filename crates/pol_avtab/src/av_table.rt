@@ -57,11 +57,7 @@ fn read_even<'a>(
     let Some((table, rising)) = read_even_rules(alloc, c, n) else {
         return Ok(None);
     };
-    let distinct = if rising {
-        true
-    } else {
-        have_distinct_words(alloc, &table)?
-    };
+    let distinct = rising || have_distinct_words(alloc, &table)?;
     Ok(distinct.then_some(table))
 }
 
@@ -109,10 +105,7 @@ fn read_rules<'a>(
 fn are_distinct(alloc: Global, table: &AvTable<'_>) -> Result<bool, AllocError>
     ensures { IfOk result (λ distinct. distinct ≡ true → IsDistinct ◌==◌ (words_of table.now)) }
 {
-    if have_rising_keys(table) {
-        return Ok(true);
-    }
-    have_distinct_words(alloc, table)
+    Ok(have_rising_keys(table) || have_distinct_words(alloc, table)?)
 }
 
 // The same by their words. Equal words share a bucket, so only those of the shared ones are sorted, which are few unless the policy is
@@ -133,12 +126,10 @@ fn have_rising_keys(table: &AvTable<'_>) -> bool
     let hashes = ClassHashes::new();
     let mut last = LastKey::first();
     for i in 0..table.len() {
-        let follows = match word_at(table, i) {
-            Some(word) => last.follow(&hashes, word),
-            None => true,
-        };
-        if !follows {
-            return false;
+        if let Some(word) = word_at(table, i) {
+            if !last.follow(&hashes, word) {
+                return false;
+            }
         }
     }
     true

@@ -12,10 +12,9 @@ use crate::av_keys::AvKeys;
 use crate::av_rec::{AvPart, AvRec};
 use crate::causes::{is_default, is_extended, is_kind, kind_cause, kind_of, xkind_cause};
 use crate::codes::AVTAB_ALLOWED;
-use crate::parts::u8_in;
 use crate::xperms::XPerms;
 use pol_cursor::{
-    Cursor, Mention, Names, array_in, dangling, first_dangling, refuse, u16_in, u32_in, u64_in,
+    Cursor, Mention, Names, dangling, first_dangling, refuse, u16_in, u32_in, u64_in,
 };
 use pol_fields::fields::{
     AV_BITS, AV_CLASS, AV_DATA, AV_DRIVER, AV_SOURCE, AV_SPECIFIED, AV_TARGET, AV_XKIND,
@@ -226,15 +225,13 @@ impl<'a> AvView<'a> {
     fn part(&self) -> AvPart
         ensures { result ≡ self.now.value.part }
     {
-        let place = self.place as usize + 8;
-        if is_extended(self.specified()) {
-            AvPart::Extended {
-                xkind: u8_in(self.bytes, place),
-                driver: u8_in(self.bytes, place + 1),
-                bits: array_in(self.bytes, place + 2),
-            }
-        } else {
-            AvPart::Data(u32_in(self.bytes, place))
+        match self.xperms() {
+            Some(numbers) => AvPart::Extended {
+                xkind: numbers.xkind(),
+                driver: numbers.driver(),
+                bits: numbers.bits(),
+            },
+            None => AvPart::Data(u32_in(self.bytes, self.place as usize + 8)),
         }
     }
 }

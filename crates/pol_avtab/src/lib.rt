@@ -18,7 +18,6 @@ mod causes;
 pub mod codes;
 mod even_rules;
 mod key_order;
-mod parts;
 mod record_laws;
 mod word_marks;
 mod xnumbers;

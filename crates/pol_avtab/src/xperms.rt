@@ -6,7 +6,6 @@ ghost use Rattle.pol_avtab.specs.XPerms.{xperms_in, has_xbit, holds, numbers_of,
 
 use crate::causes::kind_of;
 use crate::codes::{AVTAB_AUDITDENY, AVTAB_XPERMS_IOCTLFUNCTION};
-use crate::parts::u8_in;
 use crate::xnumbers::XNumbers;
 use pol_cursor::{array_in, u32_in};
 use std::marker::Model;
@@ -42,17 +41,19 @@ impl<'a> XPerms<'a> {
     }
 
     /// `AVTAB_XPERMS_IOCTLFUNCTION` or `AVTAB_XPERMS_IOCTLDRIVER` of [`codes`](crate::codes).
+    #[tactic(auto, using(crate::proofs::Places::byte_is))]
     pub fn xkind(&self) -> u8
         ensures { result ≡ self.now.xkind }
     {
-        u8_in(self.bytes, self.place as usize)
+        self.bytes[self.place as usize]
     }
 
     /// The driver, which is the high byte of the numbers. It has no meaning in whole drivers.
+    #[tactic(auto, using(crate::proofs::Places::byte_is))]
     pub fn driver(&self) -> u8
         ensures { result ≡ self.now.driver }
     {
-        u8_in(self.bytes, self.place as usize + 1)
+        self.bytes[self.place as usize + 1]
     }
 
     /// The 32 bytes of the bits.
