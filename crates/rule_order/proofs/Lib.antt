@@ -1,3 +1,7 @@
+pub mod DigitOrder
+pub mod Placing
+pub mod Passing
+pub mod Rising
 pub mod OrderedRules
 pub mod Ordered
 pub mod NameNumbers

@@ -1,3 +1,5 @@
 pub mod ListedOrder
 pub mod RuleKeys
+pub mod LeastKeys
+pub mod FoundRules
 pub mod Inner

@@ -3,7 +3,7 @@ ghost use Rattle.std.specs.Prelude.{◌≡◌, ◌-◌, ◌∷◌, [], ◌++◌,
 ghost use Rattle.pol_file.specs.declared.Parts.{Parts};
 ghost use Rattle.pol_read.specs.StoredRules.{ends_of, stored_rules};
 ghost use Rattle.rule_order.specs.ListedOrder.{in_rule_order};
-ghost use Rattle.rule_order.specs.Inner.LeastKeys.{AreLeast, is_behind};
+ghost use Rattle.rule_order.specs.LeastKeys.{AreLeast, is_behind};
 
 use crate::key_list::{numbers_of, sorted_keys};
 use crate::keys::Key;

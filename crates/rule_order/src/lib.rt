@@ -7,13 +7,17 @@
 //! ```
 #![tactic(auto)]
 
+mod found_rules;
 mod key_list;
 mod keys;
 mod laws;
 mod least_keys;
 mod rule_keys;
 mod sorting;
+mod word_digits;
+mod word_sort;
 
+pub use found_rules::FoundRules;
 pub use laws::{rules_are_listed_once, rules_have_one_order};
 pub use least_keys::LeastKeys;
 pub use rule_keys::RuleKeys;

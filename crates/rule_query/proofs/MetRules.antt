@@ -10,11 +10,11 @@ use Rattle.pol_file.specs.declared.Parts.{Parts}
 use Rattle.pol_read.specs.DeclaredRules.{IsDeclaredRule}
 use Rattle.pol_read.specs.StoredRules.{StoredRule, av_rule, rules_of_branch, rules_of_node, stored_rules}
 use Rattle.pol_read.proofs.RuleSums.{get_left, get_right}
-use Rattle.rule_query.specs.declared.found_rules.FoundRules.{FoundRules}
+use Rattle.rule_order.specs.declared.found_rules.FoundRules.{FoundRules}
 use Rattle.rule_query.specs.declared.query.Query.{Query}
 use Rattle.rule_order.specs.ListedOrder.{in_rule_order}
 use Rattle.rule_criteria.specs.declared.Criteria.{Criteria}
-use Rattle.rule_query.specs.Inner.FoundRules.{AreFound, first_ones, limit_of}
+use Rattle.rule_order.specs.FoundRules.{AreFound, first_ones, limit_of}
 use Rattle.rule_query.specs.Inner.Gathering.{HasMet, StandFrom}
 use Rattle.rule_query.specs.Meeting.{meeting, meets}
 use Rattle.rule_query.specs.Queries.{IsQueryOf}

@@ -21,7 +21,7 @@ use Rattle.pol_symbols.specs.declared.Symbols.{Symbols}
 use Rattle.rule_tests.specs.AskedKinds.{is_kind_asked}
 use Rattle.rule_tests.specs.Inner.AskedVectors.{VectorMarks, is_asked_at, is_kind_marked, is_standing, is_value_asked, low_marks, may_be_asked, standing_at}
 use Rattle.rule_tests.proofs.KindMarks.{kind_marked}
-use Rattle.rule_query.specs.declared.found_rules.FoundRules.{FoundRules}
+use Rattle.rule_order.specs.declared.found_rules.FoundRules.{FoundRules}
 use Rattle.rule_query.specs.declared.query.Query.{Query}
 use Rattle.rule_query.specs.declared.tests.Test.{Test}
 use Rattle.rule_query.specs.declared.tests.Test.TheVariants as tests

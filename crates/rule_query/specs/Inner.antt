@@ -1,4 +1,3 @@
-pub mod FoundRules
 pub mod Gathering
 pub mod MarkedSets
 pub mod NumberedRules

@@ -1,16 +1,16 @@
 // The rules that meet a query, gathered section by section, where they stand.
 ghost use Rattle.std.specs.Prelude.{◌≡◌, ◌+◌, ◌<◌, ◌≤◌, [], Some, IfOk, OnOk, length, option_map, slice_get};
 ghost use Rattle.pol_read.specs.StoredRules.{av_rule, ends_of, rules_of_branch, rules_of_node, stored_rules};
-ghost use Rattle.rule_query.specs.Inner.FoundRules.{AreFound, limit_of};
+ghost use Rattle.rule_order.specs.FoundRules.{AreFound, limit_of};
 ghost use Rattle.rule_query.specs.Inner.Gathering.{HasMet, PassesOver, StandFrom};
 ghost use Rattle.rule_query.specs.Inner.MarkedSets.{AreMarksOfSome};
 ghost use Rattle.rule_query.specs.QueryTests.{first_of, types_of};
 
-use crate::found_rules::FoundRules;
 use crate::given::Aspect;
 use crate::query::Query;
 use pol_avtab::AvView;
 use pol_read::{Condition, Policy, RuleEnds, vector_ends};
+use rule_order::FoundRules;
 use rule_tests::AskedVectors;
 use std::alloc::AllocError;
 use value_groups::DenseSet;

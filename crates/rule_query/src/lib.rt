@@ -17,7 +17,6 @@
 #![tactic(auto)]
 
 mod ends;
-mod found_rules;
 mod gathering;
 mod given;
 mod laws;

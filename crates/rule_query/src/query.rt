@@ -9,13 +9,12 @@ ghost use Rattle.rule_query.specs.Inner.NumberedRules.{IsRuleAt, rule_at};
 ghost use Rattle.rule_query.specs.Queries.{IsQueryOf};
 ghost use Rattle.rule_query.specs.QueryTests.{first_of, passes, rule_test, source_types, target_types, types_of};
 
-use crate::found_rules::FoundRules;
 use crate::given::Aspect;
 use crate::marked_set::MarkedSet;
 use crate::tests::Test;
 use pol_bitmap::Set;
 use pol_read::{Policy, RuleEnds};
-use rule_order::{LeastKeys, RuleKeys};
+use rule_order::{FoundRules, LeastKeys, RuleKeys};
 use rule_tests::is_kind_asked;
 use std::alloc::{AllocError, Global};
 

@@ -9,12 +9,12 @@ use Rattle.pol_read.specs.declared.Condition.{Condition}
 use Rattle.pol_read.specs.StoredRules.{StoredRule, av_rule, stored_rules}
 use Rattle.rule_criteria.specs.declared.Criteria.{Criteria}
 use Rattle.rule_tests.specs.Inner.AskedVectors.{VectorMarks, may_be_asked}
-use Rattle.rule_query.specs.declared.found_rules.FoundRules.{FoundRules}
+use Rattle.rule_order.specs.declared.found_rules.FoundRules.{FoundRules}
 use Rattle.rule_query.specs.declared.query.Query.{Query}
 use Rattle.rule_query.specs.Meeting.{meets}
 use Rattle.rule_query.specs.Queries.{IsQueryOf}
 use Rattle.rule_query.specs.QueryTests.{passes}
-use Rattle.rule_query.specs.Inner.FoundRules.{AreFound, limit_of}
+use Rattle.rule_order.specs.FoundRules.{AreFound, limit_of}
 
 -- the rules below a number that meet the criteria of a query, and no others
 pub record HasMet (policy : Parts) (query : Query) (below : ℕ) (found : FoundRules) : Type 0 where

@@ -1,5 +1,5 @@
 use Rattle.std.proofs.Common.{◌++◌, ◌∷◌, [], ◌∙◌, refl, sym, ap}
-use Rattle.rule_order.specs.Inner.LeastKeys.{is_behind}
+use Rattle.rule_order.specs.LeastKeys.{is_behind}
 use Rattle.rule_order.proofs.GatheredKeys.{gathered_more, has_rule, key_is}
 use Rattle.rule_order.specs.declared.least_keys.LeastKeys.{LeastKeys}
 use Rattle.rule_order.proofs.LeastRules.{kept_more, passed_by}

@@ -2,7 +2,7 @@ use Rattle.std.proofs.Common.{◌≡◌, ◌∙◌, ℕ, List, ap, take}
 use Rattle.std.proofs.lemmas.Result.{IfOk-weaker}
 use Rattle.rule_order.specs.ListedOrder.{in_rule_order}
 use Rattle.rule_order.specs.Inner.Keys.{numbers_in}
-use Rattle.rule_order.specs.Inner.LeastKeys.{AreLeast}
+use Rattle.rule_order.specs.LeastKeys.{AreLeast}
 use Rattle.rule_order.proofs.LeastRules.{first_numbers}
 use Rattle.rule_order.proofs.SortedNumbers.{are_declared}
 use Rattle.rule_order.proofs.least_keys.LeastKeys.sorted.Goals as goal

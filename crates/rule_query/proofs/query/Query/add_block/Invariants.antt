@@ -1,5 +1,5 @@
 use Rattle.std.proofs.Common.{◌≡◌, drop}
-use Rattle.rule_query.specs.Inner.FoundRules.{limit_of}
+use Rattle.rule_order.specs.FoundRules.{limit_of}
 use Rattle.rule_query.proofs.PassedRules.{AreLeft}
 use Rattle.rule_query.proofs.query.Query.add_block.Given as goal
 

@@ -1,7 +1,7 @@
 use Rattle.std.proofs.Common.{◌≡◌, ℕ, List, None}
 use Rattle.std.proofs.lemmas.Result.{IfOk-weaker}
 use Rattle.rule_order.specs.ListedOrder.{in_rule_order}
-use Rattle.rule_query.specs.Inner.FoundRules.{AreFound, first_ones, limit_of}
+use Rattle.rule_order.specs.FoundRules.{AreFound, first_ones, limit_of}
 use Rattle.rule_query.specs.Meeting.{meeting}
 use Rattle.rule_query.proofs.MetRules.{listed_are}
 use Rattle.rule_query.proofs.query.Query.sorted.Goals as goal

@@ -2,10 +2,11 @@
 ghost use Rattle.std.specs.Prelude.{◌≡◌, ◌∷◌, [], ◌++◌, ℕ, List, IfOk, OnOk, Some, option_map, slice_get};
 ghost use Rattle.pol_read.specs.StoredRules.{ends_of, stored_rules};
 ghost use Rattle.rule_order.specs.ListedOrder.{in_rule_order};
-ghost use Rattle.rule_query.specs.Inner.FoundRules.{AreFound, first_ones, limit_of};
+ghost use Rattle.rule_order.specs.FoundRules.{AreFound, first_ones, limit_of};
 
+use crate::least_keys::LeastKeys;
+use crate::rule_keys::RuleKeys;
 use pol_read::{Policy, RuleEnds};
-use rule_order::{LeastKeys, RuleKeys};
 use std::alloc::{AllocError, Global};
 
 /// Rules that are found, of which all are to be listed, or the first ones.

@@ -1,10 +1,10 @@
--- The rules that a search finds, of which all are to be listed, or the first ones. It serves the code alone.
+-- The rules that a search finds, of which all are to be listed, or the first ones.
 use Rattle.std.specs.Prelude.{ℕ, Option, Some, None, List, take}
 use Rattle.pol_file.specs.declared.Parts.{Parts}
 use Rattle.rule_order.specs.RuleKeys.{AreGathered}
-use Rattle.rule_order.specs.Inner.LeastKeys.{AreLeast}
-use Rattle.rule_query.specs.declared.found_rules.FoundRules.{FoundRules}
-use Rattle.rule_query.specs.declared.found_rules.FoundRules.TheVariants.{All, First}
+use Rattle.rule_order.specs.LeastKeys.{AreLeast}
+use Rattle.rule_order.specs.declared.found_rules.FoundRules.{FoundRules}
+use Rattle.rule_order.specs.declared.found_rules.FoundRules.TheVariants.{All, First}
 
 -- their numbers are these
 abbrev pub AreFound : Parts → List ℕ → FoundRules → Type 0
