@@ -4,10 +4,10 @@ use Rattle.std.specs.List.{fold}
 use Rattle.std.proofs.lemmas.List.Sums.{fold-append}
 use Rattle.perm_map.specs.declared.map_fault.MapFault.{MapFault}
 use Rattle.perm_map.specs.declared.map_fault.MapCause.TheVariants.{Extra}
-use Rattle.perm_map.specs.MapLines.{Row, lines_of, rows_from}
+use Rattle.text_rows.specs.TextLines.{Rest, Row, lines_of, rows_from}
 use Rattle.perm_map.specs.MapFields.{ClassLine, PermissionLine, class_in, count_in, permission_in}
 use Rattle.perm_map.specs.PermissionMap.{Entry, Reading, Weights, and_then, class_at, classes_at, ended, entry_of, fault_at, map_of, next_line, permission_at, times, weights_of}
-use Rattle.perm_map.specs.Inner.MapReading.{ReadsAll, Rest, with_entries, with_entry}
+use Rattle.perm_map.specs.Inner.MapReading.{ReadsAll, with_entries, with_entry}
 use Rattle.perm_map.proofs.Gaining.{gained_all}
 
 -- entries that were read before others

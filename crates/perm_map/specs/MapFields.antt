@@ -2,14 +2,11 @@
 use Rattle.std.specs.Prelude.{ℕ, ◌+◌, ◌-◌, ◌*◌, Bool, ◌==◌, ◌&&◌, not, nat_le, List, [], ◌∷◌, length, codes, Option, Some, None, Result, Ok, Err, if◌then◌else◌}
 use Rattle.std.specs.List.{fold, list_all}
 use Rattle.std.specs.Str.{bytes_eq}
+use Rattle.text_rows.specs.TextLines.{is_word}
 use Rattle.perm_map.specs.declared.direction.Direction.{Direction}
 use Rattle.perm_map.specs.declared.direction.Direction.TheVariants.{Read, Write, Both, No, Unmapped}
 use Rattle.perm_map.specs.declared.map_fault.MapCause.{MapCause}
 use Rattle.perm_map.specs.declared.map_fault.MapCause.TheVariants.{BadFields, BadName, BadNumber, BadDirection, BadWeight}
-
--- a name has printable bytes and no space
-abbrev pub is_name : List ℕ → Bool
-is_name text = list_all (λ byte. nat_le 0x21 byte && nat_le byte 0x7E) text
 
 abbrev pub is_digit : ℕ → Bool
 is_digit byte = nat_le 48 byte && nat_le byte 57
@@ -68,7 +65,7 @@ class_of name (Err cause) = Err cause
 abbrev pub class_in : List (List ℕ) → Result ClassLine MapCause
 class_in (word ∷ name ∷ count ∷ []) =
     if not (bytes_eq word (codes "class")) then Err BadFields else
-    if not (is_name name) then Err BadName else class_of name (given_or BadNumber (number_in count))
+    if not (is_word name) then Err BadName else class_of name (given_or BadNumber (number_in count))
 class_in _ = Err BadFields
 
 -- a permission with its direction and its weight
@@ -88,5 +85,5 @@ permission_to name weight (Err cause) = Err cause
 -- the line of a permission is `NAME DIRECTION WEIGHT`
 abbrev pub permission_in : List (List ℕ) → Result PermissionLine MapCause
 permission_in (name ∷ direction ∷ weight ∷ []) =
-    if not (is_name name) then Err BadName else permission_to name weight (given_or BadDirection (direction_in direction))
+    if not (is_word name) then Err BadName else permission_to name weight (given_or BadDirection (direction_in direction))
 permission_in _ = Err BadFields

@@ -8,7 +8,7 @@ use Rattle.perm_map.specs.declared.map_fault.MapCause.TheVariants.{Missing, Extr
 use Rattle.perm_map.specs.declared.map_fault.MapFault.{MapFault}
 use Rattle.perm_map.specs.declared.map_fault.MapError.{MapError}
 use Rattle.perm_map.specs.declared.map_fault.MapError.TheVariants.{Fault, Memory}
-use Rattle.perm_map.specs.MapLines.{Row, lines_of, rows_from}
+use Rattle.text_rows.specs.TextLines.{Row, lines_of, rows_from}
 use Rattle.perm_map.specs.MapFields.{PermissionLine, class_in, count_in, permission_in}
 
 -- one entry of a map

@@ -5,7 +5,7 @@ ghost use Rattle.perm_map.specs.Inner.MapReading.{Reads};
 use crate::map::PermMap;
 use crate::map_fault::MapError;
 use crate::reading::{next_class, next_count, next_permission};
-use crate::rows::Rows;
+use text_rows::Rows;
 
 // Reads the line of a permission of a class.
 fn read_permission<'a>(

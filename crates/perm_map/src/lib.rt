@@ -18,7 +18,6 @@ mod map;
 mod map_fault;
 mod numbers;
 mod reading;
-mod rows;
 
 pub use direction::Direction;
 pub use map::PermMap;

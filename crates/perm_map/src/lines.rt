@@ -2,12 +2,13 @@
 ghost use Rattle.std.specs.Prelude.{◌≡◌};
 ghost use Rattle.std.specs.Result.{result_map_both};
 ghost use Rattle.perm_map.specs.MapFields.{class_in, count_in, permission_in};
-ghost use Rattle.perm_map.specs.MapLines.{fields_in};
+ghost use Rattle.text_rows.specs.TextLines.{fields_in};
 
 use crate::direction::Direction;
-use crate::fields::{first_field, three_fields};
+use crate::fields::three_fields;
 use crate::map_fault::MapCause;
-use crate::numbers::{direction_in, is_name, number_in, weight_in};
+use crate::numbers::{direction_in, number_in, weight_in};
+use text_rows::{first_field, is_word};
 
 /// The line of a class: its name, and how many lines of permissions follow.
 #[derive(Clone, Copy)]
@@ -50,7 +51,7 @@ pub fn class_line(text: &[u8]) -> Result<ClassLine<'_>, MapCause>
     if fields.first != b"class".as_slice() {
         return Err(MapCause::BadFields);
     }
-    if !is_name(fields.second) {
+    if !is_word(fields.second) {
         return Err(MapCause::BadName);
     }
     match number_in(fields.third) {
@@ -69,7 +70,7 @@ pub fn permission_line(text: &[u8]) -> Result<PermissionLine<'_>, MapCause>
     let Some(fields) = three_fields(text) else {
         return Err(MapCause::BadFields);
     };
-    if !is_name(fields.first) {
+    if !is_word(fields.first) {
         return Err(MapCause::BadName);
     }
     let Some(direction) = direction_in(fields.second) else {

@@ -8,10 +8,10 @@ use crate::classes::read_classes;
 use crate::direction::Direction;
 use crate::lines::PermissionLine;
 use crate::map_fault::{MapCause, MapError, MapFault};
-use crate::rows::Rows;
 use indexmap::IndexMap;
 use std::alloc::{AllocError, Global};
 use std::marker::Model;
+use text_rows::Rows;
 
 /// The names of a class and of a permission.
 #[derive(Clone, Copy, PartialEq, Eq, Hash)]

@@ -1,16 +1,9 @@
 // What single fields say.
 ghost use Rattle.std.specs.Prelude.{◌≡◌, ◌≤◌, true, length};
 ghost use Rattle.std.specs.List.{list_all};
-ghost use Rattle.perm_map.specs.MapFields.{decimal, direction_in, is_digit, is_name, number_in, weight_written};
+ghost use Rattle.perm_map.specs.MapFields.{decimal, direction_in, is_digit, number_in, weight_written};
 
 use crate::direction::Direction;
-
-/// Whether a field is a name: bytes 0x21 to 0x7E.
-pub fn is_name(text: &[u8]) -> bool
-    ensures { result ≡ is_name text.now }
-{
-    text.iter().all(|byte| 0x21 <= *byte && *byte <= 0x7e)
-}
 
 fn is_digit(byte: u8) -> bool
     ensures { result ≡ is_digit byte }

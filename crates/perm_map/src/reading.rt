@@ -6,7 +6,7 @@ ghost use Rattle.perm_map.specs.Inner.RowViews.{class_line_of, permission_line_o
 
 use crate::lines::{ClassLine, PermissionLine, class_line, count_line, permission_line};
 use crate::map_fault::{MapCause, MapFault};
-use crate::rows::{Row, Rows};
+use text_rows::{Row, Rows};
 
 // The next line, where one has to come.
 fn next_row<'a>(rows: &mut Rows<'a>) -> Result<Row<'a>, MapFault>

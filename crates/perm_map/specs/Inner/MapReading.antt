@@ -5,7 +5,7 @@ use Rattle.perm_map.specs.declared.map_fault.MapFault.{MapFault}
 use Rattle.perm_map.specs.declared.map_fault.MapError.{MapError}
 use Rattle.perm_map.specs.declared.map_fault.MapError.TheVariants.{Fault, Memory}
 use Rattle.perm_map.specs.declared.map_fault.MapCause.{MapCause}
-use Rattle.perm_map.specs.MapLines.{Row}
+use Rattle.text_rows.specs.TextLines.{Rest, Row}
 use Rattle.perm_map.specs.PermissionMap.{Entry, Reading, Weights, is_for, next_line, weights_of}
 
 -- three fields, where a line has no others
@@ -17,11 +17,6 @@ pub record Three : Type 0 where
 abbrev pub three_of : List (List ℕ) → Option Three
 three_of (first ∷ second ∷ third ∷ []) = Some (record { first = first; second = second; third = third })
 three_of _ = None
-
--- the lines with fields that are left, and the number of the line past the last
-pub record Rest : Type 0 where
-  pub rows : List Row
-  pub past : ℕ
 
 -- what a call that takes one line answers: what the line says, as it is shown, or the line's fault
 abbrev pub Takes : {A B : Type 0} → (List (List ℕ) → Result B MapCause) → (A → B) → Rest → Rest → Result A MapFault → Type 0

@@ -1,17 +1,14 @@
 -- Lines as the code holds them.
 use Rattle.std.specs.Prelude.{◌≡◌, [], ◌∷◌, Result, Ok, Err}
-use Rattle.perm_map.specs.declared.rows.Row.{Row as RowCode}
+use Rattle.text_rows.specs.declared.Row.{Row as RowCode}
 use Rattle.perm_map.specs.declared.lines.ClassLine.{ClassLine as ClassLineCode}
 use Rattle.perm_map.specs.declared.lines.PermissionLine.{PermissionLine as PermissionLineCode}
 use Rattle.perm_map.specs.declared.map_fault.MapCause.TheVariants.{Missing}
 use Rattle.perm_map.specs.declared.map_fault.MapFault.{MapFault}
-use Rattle.perm_map.specs.MapLines.{Row, fields_in}
+use Rattle.text_rows.specs.TextLines.{Rest}
+use Rattle.text_rows.specs.RowViews.{row_of}
 use Rattle.perm_map.specs.MapFields.{ClassLine, PermissionLine}
-use Rattle.perm_map.specs.Inner.MapReading.{Rest}
 use Rattle.perm_map.specs.PermissionMap.{fault_at}
-
-abbrev pub row_of : RowCode → Row
-row_of row = record { number = row.number; fields = fields_in row.text.now }
 
 abbrev pub class_line_of : ClassLineCode → ClassLine
 class_line_of line = record { name = line.name.now; count = line.count }

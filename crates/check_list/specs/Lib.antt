@@ -1,0 +1,4 @@
+pub mod CheckWords
+pub mod CheckLines
+pub mod Checklists
+pub mod Inner

@@ -1,0 +1,3 @@
+pub mod Places
+pub mod LineLemmas
+pub mod PieceLemmas
