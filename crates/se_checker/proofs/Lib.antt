@@ -1,0 +1,4 @@
+pub mod UnknownLines
+pub mod NamedTypes
+pub mod WantedTypes
+pub mod Against

@@ -1,0 +1,3 @@
+pub mod KnownNames
+pub mod Members
+pub mod Verdicts
