@@ -1,0 +1,2 @@
+pub mod EnabledRules
+pub mod OnlyEnabled

@@ -1,0 +1,3 @@
+pub mod CountedRules
+pub mod EnabledPolicy
+pub mod Inner
