@@ -1,1 +1,6 @@
 mod DeclaredSources
+mod EntryLengths
+mod GroupRows
+mod MadeOfRows
+mod OneGrouping
+mod Parts

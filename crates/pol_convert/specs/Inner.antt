@@ -1,1 +1,3 @@
 pub mod FoundSources
+pub mod GroupRows
+pub mod Parts

@@ -1,2 +1,3 @@
+pub mod Grouped
 pub mod Inner
 pub mod Ungrouped

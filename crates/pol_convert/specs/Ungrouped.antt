@@ -1,11 +1,12 @@
 -- The file-name transitions of a policy that has them in groups, one by one, as versions below 33 have them (libsepol's
 -- filename_trans_read and filename_trans_write).
-use Rattle.std.specs.Prelude.{ℕ, Bool, ◌+◌, ◌==◌, List, map}
+use Rattle.std.specs.Prelude.{ℕ, Bool, ◌+◌, ◌==◌, List, length, map}
 use Rattle.std.specs.List.{filter, flat_map, list_any}
 use Rattle.pol_bitmap.specs.declared.node.Node.{Node}
 use Rattle.pol_bitmap.specs.Nodes.{bits_of}
 use Rattle.pol_trans.specs.declared.name_trans_rec.NameTransRec.{NameTransRec}
 use Rattle.pol_trans.specs.declared.name_datum_rec.NameDatumRec.{NameDatumRec}
+use Rattle.pol_trans.specs.NameTransRecord.{spell_name_trans}
 use Rattle.pol_trans.specs.declared.name_group_rec.NameGroupRec.{NameGroupRec}
 
 -- a value is one of the sources of a datum: the bit below it stands for it
@@ -31,3 +32,7 @@ group_entries declared group = flat_map (datum_entries declared group) group.dat
 -- the entries of groups, group by group
 abbrev pub ungrouped : List Node → List NameGroupRec → List NameTransRec
 ungrouped declared groups = flat_map (group_entries declared) groups
+
+-- how many bytes entries take in a file
+abbrev pub entries_length : List NameTransRec → ℕ
+entries_length entries = length (flat_map spell_name_trans entries)

@@ -4,7 +4,7 @@ ghost use Rattle.std.specs.Prelude.{◌≡◌, ◌+◌, ◌++◌, ◌-◌, ◌^�
 ghost use Rattle.pol_bitmap.specs.Nodes.{bits_of};
 ghost use Rattle.pol_bitmap.specs.Sets.{IsSet};
 ghost use Rattle.pol_convert.specs.Inner.FoundSources.{found_sources};
-ghost use Rattle.pol_convert.specs.Ungrouped.{datum_entries, entry_of, group_entries, ungrouped};
+ghost use Rattle.pol_convert.specs.Ungrouped.{datum_entries, entries_length, entry_of, group_entries, ungrouped};
 
 use crate::sources::{declared_source, with_sources};
 use pol_bitmap::Set;
@@ -111,25 +111,35 @@ fn new_entry(
     })
 }
 
-/// How many entries [`ungroup`] gives, without making any. It stops at the greatest `u64`, where there are more.
-pub fn ungrouped_count(list: &[NameGroupRec], declared: &Set) -> u64
-    ensures { result ≡ min (length (ungrouped declared.now list.now)) (2 ^ 64 - 1) }
+/// How many bytes the entries that [`ungroup`] gives take in a policy's file, without making any. It stops at the greatest `u64`, where
+/// they take more.
+pub fn ungrouped_length(list: &[NameGroupRec], declared: &Set) -> u64
+    ensures { result ≡ min (entries_length (ungrouped declared.now list.now)) (2 ^ 64 - 1) }
 {
     // the clause of the nodes says that the bits rise
     let _ = declared.nodes();
-    let mut count = 0;
+    let mut bytes = 0;
     for group in list {
-        count = with_group(count, group, declared);
+        bytes = with_group(bytes, group, declared);
     }
-    count
+    bytes
 }
 
-// A count and the number of the entries of a group, up to the greatest count.
+// A number of bytes and those of the entries of a group, up to the greatest number.
 fn with_group(start: u64, group: &NameGroupRec, declared: &Set) -> u64
     requires { IsSet declared.now }
-    ensures { result ≡ min (start + length (group_entries declared.now group.now)) (2 ^ 64 - 1) }
+    ensures { result ≡ min (start + entries_length (group_entries declared.now group.now)) (2 ^ 64 - 1) }
 {
-    let mut count = start;
+    let each = 20 + group.name.as_slice().len() as u64;
+    start.saturating_add(each.saturating_mul(entry_count(group, declared)))
+}
+
+// How many entries a group gives, up to the greatest number.
+fn entry_count(group: &NameGroupRec, declared: &Set) -> u64
+    requires { IsSet declared.now }
+    ensures { result ≡ min (length (group_entries declared.now group.now)) (2 ^ 64 - 1) }
+{
+    let mut count = 0;
     for datum in group.datums.as_slice() {
         count = with_sources(count, &datum.sources, declared);
     }
