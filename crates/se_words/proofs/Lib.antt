@@ -1,2 +1,5 @@
 pub mod Ended
 pub mod Parts
+pub mod LaterWords
+pub mod LaterGroups
+pub mod LaterPages

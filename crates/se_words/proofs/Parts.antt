@@ -18,22 +18,23 @@ pub same-criteria : {kinds kinds' : List Bool} {source source' target target' cl
     → criteria kinds source target class perms xperms default bools ≡ criteria kinds' source' target' class' perms' xperms' default' bools'
 same-criteria a b c d e f g h = rw (a, b, c, d, e, f, g, h) refl
 
-abbrev pub dom : Named → Named → Option Named → Bool → Bool → List Named → ℕ → Option ℕ → DomAsks
-dom policy source target shortest reverse excluded from limit =
-    record { policy = policy; source = source; target = target; shortest = shortest; reverse = reverse; excluded = excluded; from = from; limit = limit }
+abbrev pub dom : Named → Named → Option Named → Bool → Option ℕ → Bool → List Named → ℕ → Option ℕ → DomAsks
+dom policy source target shortest all reverse excluded from limit =
+    record { policy = policy; source = source; target = target; shortest = shortest; all = all; reverse = reverse; excluded = excluded; from = from; limit = limit }
 
-pub same-dom : (policy source : Named) {target target' : Option Named} {shortest shortest' reverse reverse' : Bool} {excluded excluded' : List Named} {from from' : ℕ} {limit limit' : Option ℕ}
-    → target ≡ target' → shortest ≡ shortest' → reverse ≡ reverse' → excluded ≡ excluded' → from ≡ from' → limit ≡ limit'
-    → dom policy source target shortest reverse excluded from limit ≡ dom policy source target' shortest' reverse' excluded' from' limit'
-same-dom policy source a b c d e f = rw (a, b, c, d, e, f) refl
+pub same-dom : (policy source : Named) {target target' : Option Named} {shortest shortest' reverse reverse' : Bool} {excluded excluded' : List Named} {from from' : ℕ} {all all' limit limit' : Option ℕ}
+    → target ≡ target' → shortest ≡ shortest' → all ≡ all' → reverse ≡ reverse' → excluded ≡ excluded' → from ≡ from' → limit ≡ limit'
+    → dom policy source target shortest all reverse excluded from limit ≡ dom policy source target' shortest' all' reverse' excluded' from' limit'
+same-dom policy source a b c d e f g = rw (a, b, c, d, e, f, g) refl
 
-abbrev pub flow : Named → Named → Named → Option Named → Bool → ℕ → Bool → List Named → ℕ → Option ℕ → FlowAsks
-flow policy map_file source target shortest least reverse excluded from limit = record {
+abbrev pub flow : Named → Named → Named → Option Named → Bool → Option ℕ → ℕ → Bool → List Named → ℕ → Option ℕ → FlowAsks
+flow policy map_file source target shortest all least reverse excluded from limit = record {
   policy = policy;
   map_file = map_file;
   source = source;
   target = target;
   shortest = shortest;
+  all = all;
   least = least;
   reverse = reverse;
   excluded = excluded;
@@ -41,7 +42,7 @@ flow policy map_file source target shortest least reverse excluded from limit = 
   limit = limit;
 }
 
-pub same-flow : (policy map_file source : Named) {target target' : Option Named} {shortest shortest' reverse reverse' : Bool} {least least' : ℕ} {excluded excluded' : List Named} {from from' : ℕ} {limit limit' : Option ℕ}
-    → target ≡ target' → shortest ≡ shortest' → least ≡ least' → reverse ≡ reverse' → excluded ≡ excluded' → from ≡ from' → limit ≡ limit'
-    → flow policy map_file source target shortest least reverse excluded from limit ≡ flow policy map_file source target' shortest' least' reverse' excluded' from' limit'
-same-flow policy map_file source a b c d e f g = rw (a, b, c, d, e, f, g) refl
+pub same-flow : (policy map_file source : Named) {target target' : Option Named} {shortest shortest' reverse reverse' : Bool} {least least' : ℕ} {excluded excluded' : List Named} {from from' : ℕ} {all all' limit limit' : Option ℕ}
+    → target ≡ target' → shortest ≡ shortest' → all ≡ all' → least ≡ least' → reverse ≡ reverse' → excluded ≡ excluded' → from ≡ from' → limit ≡ limit'
+    → flow policy map_file source target shortest all least reverse excluded from limit ≡ flow policy map_file source target' shortest' all' least' reverse' excluded' from' limit'
+same-flow policy map_file source a b c d e f g h = rw (a, b, c, d, e, f, g, h) refl

@@ -3,7 +3,7 @@ use Rattle.std.specs.Prelude.{ℕ, List, [], ◌∷◌, codes, map, option_map, 
 use Rattle.se_options.specs.Options.{Row, Named, Group, valued, named_view}
 use Rattle.se_options.specs.Given.{given_value, is_given, positionals}
 use Rattle.se_words.specs.Window.{limit_kind, from_option, limit_in, from_in}
-use Rattle.se_words.specs.WalkWords.{policy_option, source_option, target_option, shortest_option, reverse_option, options_agree}
+use Rattle.se_words.specs.WalkWords.{policy_option, source_option, target_option, shortest_option, all_option, reverse_option, all_in, options_agree}
 use Rattle.se_words.specs.declared.dom_request.DomRequest.{DomRequest}
 
 -- the option that limits how many transitions or walks are listed
@@ -12,15 +12,16 @@ limit_trans_option = valued (Some (codes "-l")) (codes "--limit_trans") limit_ki
 
 -- the options of sedta
 unfoldable pub dom_options : List Row
-dom_options = policy_option ∷ source_option ∷ target_option ∷ shortest_option ∷ reverse_option ∷ limit_trans_option ∷ from_option ∷ []
+dom_options = policy_option ∷ source_option ∷ target_option ∷ shortest_option ∷ all_option ∷ reverse_option ∷ limit_trans_option ∷ from_option ∷ []
 
--- what sedta is asked: of the policy of that name, the transitions of a source, or all shortest walks of transitions to a target,
--- around excluded types
+-- what sedta is asked: of the policy of that name, the transitions of a source, or walks of transitions to a target, all shortest ones or
+-- all of at most so many steps that have no type twice, around excluded types
 pub record DomAsks : Type 0 where
   pub policy : Named
   pub source : Named
   pub target : Option Named
   pub shortest : Bool
+  pub all : Option ℕ
   pub reverse : Bool
   pub excluded : List Named
   pub from : ℕ
@@ -33,6 +34,7 @@ dom_asks policy source groups = record {
   source = source;
   target = given_value target_option.name groups;
   shortest = is_given shortest_option.name groups;
+  all = all_in groups;
   reverse = is_given reverse_option.name groups;
   excluded = positionals groups;
   from = from_in groups;
@@ -55,6 +57,7 @@ dom_view asks = record {
   source = named_view asks.source;
   target = option_map named_view asks.target;
   shortest = asks.shortest;
+  all = asks.all;
   reverse = asks.reverse;
   excluded = map named_view asks.excluded.items;
   from = asks.from;

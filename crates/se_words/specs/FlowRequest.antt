@@ -4,7 +4,7 @@ use Rattle.std.specs.Prelude.{ℕ, List, [], ◌∷◌, codes, map, option_map, 
 use Rattle.se_options.specs.Options.{Row, ValueKind, Named, Group, Text, Number, valued, named_view}
 use Rattle.se_options.specs.Given.{given_number, given_value, is_given, positionals}
 use Rattle.se_words.specs.Window.{limit_kind, from_option, limit_in, from_in}
-use Rattle.se_words.specs.WalkWords.{policy_option, source_option, target_option, shortest_option, reverse_option, options_agree}
+use Rattle.se_words.specs.WalkWords.{policy_option, source_option, target_option, shortest_option, all_option, reverse_option, all_in, options_agree}
 use Rattle.se_words.specs.declared.flow_request.FlowRequest.{FlowRequest}
 
 -- the option that names the permission map
@@ -26,20 +26,21 @@ limit_flows_option = valued (Some (codes "-l")) (codes "--limit_flows") limit_ki
 -- the options of seinfoflow
 unfoldable pub flow_options : List Row
 flow_options =
-    policy_option ∷ map_option ∷ source_option ∷ target_option ∷ shortest_option ∷ weight_option ∷ reverse_option ∷ limit_flows_option ∷ from_option ∷ []
+    policy_option ∷ map_option ∷ source_option ∷ target_option ∷ shortest_option ∷ all_option ∷ weight_option ∷ reverse_option ∷ limit_flows_option ∷ from_option ∷ []
 
 -- the least weight of a flow that is listed: 3, unless one is given
 abbrev pub least_in : List Group → ℕ
 least_in groups = unwrap_or (given_number 1 10 weight_option.name groups) 3
 
--- what seinfoflow is asked: of the policy of that name, under the map of that name, the flows of a source of at least a weight, or all
--- shortest walks of such flows to a target, around excluded types
+-- what seinfoflow is asked: of the policy of that name, under the map of that name, the flows of a source of at least a weight, or walks
+-- of such flows to a target, all shortest ones or all of at most so many steps that have no type twice, around excluded types
 pub record FlowAsks : Type 0 where
   pub policy : Named
   pub map_file : Named
   pub source : Named
   pub target : Option Named
   pub shortest : Bool
+  pub all : Option ℕ
   pub least : ℕ
   pub reverse : Bool
   pub excluded : List Named
@@ -54,6 +55,7 @@ flow_asks policy map_file source groups = record {
   source = source;
   target = given_value target_option.name groups;
   shortest = is_given shortest_option.name groups;
+  all = all_in groups;
   least = least_in groups;
   reverse = is_given reverse_option.name groups;
   excluded = positionals groups;
@@ -79,6 +81,7 @@ flow_view asks = record {
   source = named_view asks.source;
   target = option_map named_view asks.target;
   shortest = asks.shortest;
+  all = asks.all;
   least = asks.least;
   reverse = asks.reverse;
   excluded = map named_view asks.excluded.items;

@@ -1,5 +1,5 @@
 -- What the words of a command line ask for.
-use Rattle.std.specs.Prelude.{ℕ, List, [], ◌∷◌, codes, length, Option, Result, Ok, Err, if◌then◌else◌}
+use Rattle.std.specs.Prelude.{ℕ, List, [], ◌∷◌, codes, length, Bool, true, false, Option, None, Result, Ok, Err, if◌then◌else◌}
 use Rattle.se_options.specs.Word.{is_word}
 use Rattle.se_options.specs.Options.{Named}
 use Rattle.se_words.specs.Asked.{Says, asked_by}
@@ -27,6 +27,25 @@ policy_of (Info asks) = asks.policy
 policy_of (Search asks) = asks.policy
 policy_of (Dom asks) = asks.policy
 policy_of (Flow asks) = asks.policy
+
+-- it asks for items, of which some may be listed and then those after them; what seinfo lists comes whole
+abbrev pub comes_by_pages : Question → Bool
+comes_by_pages (Info asks) = false
+comes_by_pages question = true
+
+-- how many items it asks for, if it says so
+abbrev pub limit_of : Question → Option ℕ
+limit_of (Info asks) = None
+limit_of (Search asks) = asks.limit
+limit_of (Dom asks) = asks.limit
+limit_of (Flow asks) = asks.limit
+
+-- the question for the items after the first so many, and at most so many of them
+abbrev pub paged : ℕ → Option ℕ → Question → Question
+paged from limit (Info asks) = Info asks
+paged from limit (Search asks) = Search (record asks { from = from; limit = limit })
+paged from limit (Dom asks) = Dom (record asks { from = from; limit = limit })
+paged from limit (Flow asks) = Flow (record asks { from = from; limit = limit })
 
 -- what is asked: something about a policy, or a policy of make
 pub data Asks : Type 0 where

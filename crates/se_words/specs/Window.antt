@@ -1,5 +1,5 @@
 -- Which items of a listing are wanted: those after the first so many, and at most so many of them.
-use Rattle.std.specs.Prelude.{ℕ, List, codes, unwrap_or, Option}
+use Rattle.std.specs.Prelude.{ℕ, List, [], ◌∷◌, ◌++◌, codes, unwrap_or, Option, Some}
 use Rattle.se_options.specs.Options.{ValueKind, Number, Row, valued, Group}
 use Rattle.se_options.specs.Given.{given_number}
 use Rattle.std.specs.Prelude.{None}
@@ -20,3 +20,11 @@ limit_in option groups = given_number 1 most_items option groups
 -- after how many items the listing begins
 abbrev pub from_in : List Group → ℕ
 from_in groups = unwrap_or (given_number 0 most_items from_option.name groups) 0
+
+-- the words that ask for the items after the first so many
+abbrev pub from_words : List ℕ → List (Option (List ℕ))
+from_words from = Some (codes "--from") ∷ Some from ∷ []
+
+-- the words that ask for so many of them
+abbrev pub page_words : List ℕ → List ℕ → List (Option (List ℕ))
+page_words from limit = from_words from ++ Some (codes "-l") ∷ Some limit ∷ []

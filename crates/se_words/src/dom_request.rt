@@ -1,17 +1,23 @@
 // What sedta is asked.
+ghost use Rattle.std.specs.Prelude.{◌≤◌};
+ghost use Rattle.std.specs.Option.{ForSome};
+
 use se_items::Window;
 use se_options::Named;
 
-/// What `sedta` is asked of a policy: the transitions of a source, or all shortest walks of transitions from it to a target.
+/// What `sedta` is asked of a policy: the transitions of a source, or walks of transitions from it to a
+/// target.
 #[derive(Debug, Drop)]
 pub struct DomRequest<'w> {
     /// The policy's name.
     pub policy: Named<'w>,
     pub source: Named<'w>,
-    /// With [`DomRequest::shortest`], and without [`DomRequest::reverse`].
+    /// With one of [`DomRequest::shortest`] and [`DomRequest::all`], and without [`DomRequest::reverse`].
     pub target: Option<Named<'w>>,
     /// All shortest walks to the target.
     pub shortest: bool,
+    /// All walks to the target of at most so many steps that have no type twice, from 1 to 99.
+    pub all: Option<u32>,
     /// The transitions into the source, in place of those out of it.
     pub reverse: bool,
     /// The types at which no transition begins or ends, in the order of words.
@@ -20,6 +26,8 @@ pub struct DomRequest<'w> {
     pub from: u64,
     /// At most so many items, 1 or more.
     pub limit: Option<u64>,
+    pub ghost a_step: { ForSome all (λ steps. 1 ≤ steps) },
+    pub ghost few_steps: { ForSome all (λ steps. steps ≤ 99) },
 }
 
 impl DomRequest<'_> {

@@ -7,7 +7,8 @@ ghost use Rattle.se_words.specs.DomRequest.{dom_asks, dom_in, dom_options, dom_v
 
 use crate::asked::{fitting_groups, missing};
 use crate::walk_words::{
-    options_agree, policy_option, reverse_option, shortest_option, source_option, target_option,
+    all_in, all_option, options_agree, policy_option, reverse_option, shortest_option,
+    source_option, target_option,
 };
 use crate::window::{from_in, from_option, limit_in, limit_kind};
 use crate::{DomRequest, WordsError};
@@ -45,6 +46,7 @@ fn dom_asks<'w>(
         source,
         target: given_value(groups, "--target"),
         shortest: is_given(groups, "--shortest_path"),
+        all: all_in(groups),
         reverse: is_given(groups, "--reverse"),
         excluded: positionals(alloc, groups)?,
         from: from_in(groups),
@@ -54,7 +56,7 @@ fn dom_asks<'w>(
 
 // The options of sedta.
 #[tactic(auto, unfolding(crate::specs::DomRequest::dom_options))]
-fn dom_options() -> [OptionRow; 7]
+fn dom_options() -> [OptionRow; 8]
     ensures { map row_view result ≡ dom_options }
 {
     [
@@ -62,6 +64,7 @@ fn dom_options() -> [OptionRow; 7]
         source_option(),
         target_option(),
         shortest_option(),
+        all_option(),
         reverse_option(),
         valued(Some("-l"), "--limit_trans", limit_kind()),
         from_option(),

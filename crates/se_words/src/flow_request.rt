@@ -1,11 +1,11 @@
 // What seinfoflow is asked.
 ghost use Rattle.std.specs.Prelude.{◌≤◌};
+ghost use Rattle.std.specs.Option.{ForSome};
 
 use se_items::Window;
 use se_options::Named;
 
-/// What `seinfoflow` is asked of a policy and a permission map: the flows of a source, or all shortest walks of flows from it to a
-/// target.
+/// What `seinfoflow` is asked of a policy and a permission map: the flows of a source, or walks of flows from it to a target.
 #[derive(Debug, Drop)]
 pub struct FlowRequest<'w> {
     /// The policy's name.
@@ -13,10 +13,12 @@ pub struct FlowRequest<'w> {
     /// The map's name.
     pub map: Named<'w>,
     pub source: Named<'w>,
-    /// With [`FlowRequest::shortest`], and without [`FlowRequest::reverse`].
+    /// With one of [`FlowRequest::shortest`] and [`FlowRequest::all`], and without [`FlowRequest::reverse`].
     pub target: Option<Named<'w>>,
     /// All shortest walks to the target.
     pub shortest: bool,
+    /// All walks to the target of at most so many steps that have no type twice, from 1 to 99.
+    pub all: Option<u32>,
     /// The least weight of a flow, from 1 to 10.
     pub least: u8,
     /// The flows into the source, in place of those out of it.
@@ -29,6 +31,8 @@ pub struct FlowRequest<'w> {
     pub limit: Option<u64>,
     pub ghost at_least_one: { 1 ≤ least },
     pub ghost at_most_ten: { least ≤ 10 },
+    pub ghost a_step: { ForSome all (λ steps. 1 ≤ steps) },
+    pub ghost few_steps: { ForSome all (λ steps. steps ≤ 99) },
 }
 
 impl FlowRequest<'_> {

@@ -7,7 +7,8 @@ ghost use Rattle.se_words.specs.FlowRequest.{flow_asks, flow_in, flow_options, f
 
 use crate::asked::{fitting_groups, missing};
 use crate::walk_words::{
-    options_agree, policy_option, reverse_option, shortest_option, source_option, target_option,
+    all_in, all_option, options_agree, policy_option, reverse_option, shortest_option,
+    source_option, target_option,
 };
 use crate::window::{from_in, from_option, limit_in, limit_kind};
 use crate::{FlowRequest, WordsError};
@@ -54,6 +55,7 @@ fn flow_asks<'w>(
         source,
         target: given_value(groups, "--target"),
         shortest: is_given(groups, "--shortest_path"),
+        all: all_in(groups),
         least: least_in(groups),
         reverse: is_given(groups, "--reverse"),
         excluded: positionals(alloc, groups)?,
@@ -83,7 +85,7 @@ fn weight_kind() -> ValueKind
 
 // The options of seinfoflow.
 #[tactic(auto, unfolding(crate::specs::FlowRequest::flow_options))]
-fn flow_options() -> [OptionRow; 9]
+fn flow_options() -> [OptionRow; 10]
     ensures { map row_view result ≡ flow_options }
 {
     [
@@ -92,6 +94,7 @@ fn flow_options() -> [OptionRow; 9]
         source_option(),
         target_option(),
         shortest_option(),
+        all_option(),
         valued(Some("-w"), "--min_weight", weight_kind()),
         reverse_option(),
         valued(Some("-l"), "--limit_flows", limit_kind()),

@@ -1,9 +1,10 @@
 // What the words of sedta and of seinfoflow share.
-ghost use Rattle.std.specs.Prelude.{◌≡◌, map};
-ghost use Rattle.se_options.specs.Options.{group_view, row_view};
-ghost use Rattle.se_words.specs.WalkWords.{options_agree, policy_option, reverse_option, shortest_option, source_option, target_option};
+ghost use Rattle.std.specs.Prelude.{◌≡◌, ◌≤◌, map};
+ghost use Rattle.std.specs.Option.{ForSome};
+ghost use Rattle.se_options.specs.Options.{group_view, kind_view, row_view};
+ghost use Rattle.se_words.specs.WalkWords.{all_in, all_option, options_agree, policy_option, reverse_option, shortest_option, source_option, steps_kind, target_option};
 
-use se_options::{Group, OptionRow, ValueKind, is_given, switch, valued};
+use se_options::{Group, OptionRow, ValueKind, given_number, is_given, switch, valued};
 
 pub fn policy_option() -> OptionRow
     ensures { row_view result ≡ policy_option }
@@ -29,22 +30,48 @@ pub fn shortest_option() -> OptionRow
     switch(Some("-S"), "--shortest_path")
 }
 
+pub fn all_option() -> OptionRow
+    ensures { row_view result ≡ all_option }
+{
+    valued(None, "-A", steps_kind())
+}
+
+// The value of the option that gives the most steps of a walk.
+fn steps_kind() -> ValueKind
+    ensures { kind_view result ≡ steps_kind }
+{
+    ValueKind::Number { least: 1, most: 99 }
+}
+
 pub fn reverse_option() -> OptionRow
     ensures { row_view result ≡ reverse_option }
 {
     switch(Some("-r"), "--reverse")
 }
 
-// Whether a target and `-S` are both given or both not, and no `-r` beside a target.
+// The most steps of a walk, where all walks up to that are asked for.
+pub fn all_in(groups: &[Group<'_>]) -> Option<u32>
+    ensures most { result ≡ all_in (map group_view groups.now) }
+    ensures low { ForSome result (λ steps. 1 ≤ steps) }
+    ensures high { ForSome result (λ steps. steps ≤ 99) }
+{
+    match given_number(groups, "-A", 1, 99) {
+        Some(steps) => Some(steps as u32),
+        None => None,
+    }
+}
+
+// Whether a target has exactly one of `-S` and `-A` beside it, and no `-r`, and neither of the two is there without a target.
 pub fn options_agree(groups: &[Group<'_>]) -> bool
     ensures { result ≡ options_agree (map group_view groups.now) }
 {
     match (
         is_given(groups, "--target"),
         is_given(groups, "--shortest_path"),
+        is_given(groups, "-A"),
     ) {
-        (true, true) => !is_given(groups, "--reverse"),
-        (false, false) => true,
+        (true, true, false) | (true, false, true) => !is_given(groups, "--reverse"),
+        (false, false, false) => true,
         _ => false,
     }
 }
