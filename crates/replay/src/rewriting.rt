@@ -3,10 +3,11 @@ ghost use Rattle.std.specs.Prelude.{◌≡◌, OnOk};
 ghost use Rattle.pol_tree.specs.TreeSpelling.{spell};
 
 use pol_cursor::ReadError;
+use pol_fields::fields::IBPKEY_COUNT;
 use pol_fields::limits::MAX_POLICY_BYTES;
 use pol_read::{Policy, read};
 use pol_tree::{Tree, tree_of};
-use pol_write::{WriteError, write};
+use pol_write::{Unsound, WriteError, write};
 use std::alloc::{AllocError, Global};
 
 /// Why a policy is not written back as itself.
@@ -16,6 +17,8 @@ pub enum RewriteError {
     OtherBytes,
     #[error("the policy is not written back")]
     NotSound,
+    #[error("the policy is not refused as one of version 30, which has no InfiniBand records")]
+    AsOlder,
     #[error("no memory to write the policy back")]
     Memory,
 }
@@ -35,12 +38,17 @@ impl From<WriteError> for RewriteError {
     }
 }
 
-/// Writes a policy back, which has to give the bytes that it was read from. Bytes that are no policy are not written.
+/// Writes a policy back, which has to give the bytes that it was read from. One of version 31 with InfiniBand records is no policy of
+/// version 30 then. Bytes that are no policy are not written.
 pub fn rewrite(alloc: Global, bytes: &[u8]) -> Result<(), RewriteError> {
-    match tree_in(alloc, bytes)? {
-        Some(tree) => compare(alloc, &tree, bytes),
-        None => Ok(()),
+    let Some(tree) = tree_in(alloc, bytes)? else {
+        return Ok(());
+    };
+    compare(alloc, &tree, bytes)?;
+    if tree.version == 31 && !tree.ibpkey.is_empty() {
+        return refuse_as_older(alloc, tree);
     }
+    Ok(())
 }
 
 // The tree of the policy in bytes, if they are one.
@@ -72,5 +80,16 @@ fn compare(alloc: Global, tree: &Tree, bytes: &[u8]) -> Result<(), RewriteError>
         Ok(())
     } else {
         Err(RewriteError::OtherBytes)
+    }
+}
+
+// Writes a tree with InfiniBand records as one of version 30, which has to be refused at the field of their number.
+fn refuse_as_older(alloc: Global, mut tree: Tree) -> Result<(), RewriteError> {
+    tree.version = 30;
+    let mut written = Vec::new(alloc);
+    match write(alloc, &tree, &mut written) {
+        Err(WriteError::NotSound(Unsound::Shape(field))) if field == IBPKEY_COUNT => Ok(()),
+        Err(WriteError::Memory) => Err(RewriteError::Memory),
+        _ => Err(RewriteError::AsOlder),
     }
 }

@@ -1,5 +1,5 @@
 -- The edges of the graph are those that are listed.
-use Rattle.std.proofs.Common.{◌≡◌, ◌∙◌, ℕ, Bool, List, Option, ap, refl}
+use Rattle.std.proofs.Common.{◌≡◌, ◌∙◌, ℕ, Bool, List, ap, refl}
 use Rattle.std.proofs.Math.Path.{fun_ext}
 use Rattle.pol_bitmap.specs.declared.Node.{Node}
 use Rattle.pol_bitmap.specs.Nodes.{has_bit}
@@ -8,8 +8,6 @@ use Rattle.dom_trans.specs.DomainEdges.{Domains, domain_edge, is_step}
 use Rattle.dom_trans.specs.Transitions.{is_transition}
 use Rattle.se_words.specs.DomRequest.{DomAsks}
 use Rattle.se_walks.specs.GraphAnswer.{excluded_in, is_edge, is_listed}
-use Rattle.se_items.specs.Paging.{page}
-use Rattle.se_items.specs.declared.Window.{Window}
 use Rattle.se_walks.specs.GraphItems.{items_between}
 use Rattle.se_walks.specs.declared.Ends.{Ends}
 use Rattle.se_walks.proofs.AskedTypes.{AreExcluded, either-way}
@@ -36,8 +34,3 @@ items-are asks policy excluded graph ends same is =
     ap (λ (g : Domains). items_between (dom_words g.policy) (domain_edge g) policy (has_bit excluded) ends) is
     ∙ ap (λ (edge : ℕ → ℕ → Bool). items_between (dom_words policy) edge policy (has_bit excluded) ends) (edges-are asks policy excluded same)
     ∙ ap (λ (without : ℕ → Bool). items_between (dom_words policy) (is_edge (is_transition policy) (excluded_in (dom_graph asks) policy) asks.reverse) policy without ends) around
-
--- the part that a window gives, of the same items
-pub paged : {A : Type 0} (window : Window) (from : ℕ) (limit : Option ℕ) → window ≡ record { from = from; limit = limit } → {xs ys : List A} → xs ≡ ys
-    → page window.from window.limit xs ≡ page from limit ys
-paged window from limit is {xs} {ys} same = ap (λ (w : Window). page w.from w.limit xs) is ∙ ap (page from limit) same

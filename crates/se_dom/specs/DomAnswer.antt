@@ -11,12 +11,13 @@ abbrev pub dom_graph : DomAsks → GraphAsks
 dom_graph asks = record {
   source = asks.source;
   target = asks.target;
+  all = asks.all;
   reverse = asks.reverse;
   excluded = asks.excluded;
   from = asks.from;
   limit = asks.limit;
 }
 
--- the transitions of the source, or all shortest walks of transitions to the target, unless a word names no type
+-- the transitions of the source, or the walks of transitions to the target, unless a word names no type
 unfoldable pub dom_answer : DomAsks → Parts → Answer
 dom_answer asks policy = graph_answer (dom_words policy) (is_transition policy) (dom_graph asks) policy

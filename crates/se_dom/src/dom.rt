@@ -50,7 +50,7 @@ fn write_answer<S: Sink>(
     ensures { Sends (S.state out.old) (S.state out.new)
         (graph_text (dom_words policy.now) (is_transition policy.now) (dom_graph (dom_view asks.now)) policy.now) result }
 {
-    match ends_named(policy, &asks.source, &asks.target, asks.reverse) {
+    match ends_named(policy, &asks.source, &asks.target, asks.all, asks.reverse) {
         Some(ends) => write_between(alloc, policy, asks, ends, out),
         None => Ok(()),
     }

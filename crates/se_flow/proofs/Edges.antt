@@ -1,5 +1,5 @@
 -- The edges of the graph are those that are listed.
-use Rattle.std.proofs.Common.{◌≡◌, ◌∙◌, ◌≤◌, ℕ, Bool, true, false, List, Option, refl, sym, ap, subst, map}
+use Rattle.std.proofs.Common.{◌≡◌, ◌∙◌, ◌≤◌, ℕ, Bool, true, false, List, refl, sym, ap}
 use Rattle.std.proofs.lemmas.Bool.{lt-leb}
 use Rattle.std.proofs.Math.Path.{fun_ext}
 use Rattle.std.specs.Prelude.{◌&&◌, not, nat_le, if◌then◌else◌}
@@ -12,8 +12,6 @@ use Rattle.flow_search.specs.Flows.{flow_weight}
 use Rattle.flow_search.specs.FlowEdges.{FlowSearch, flow_edge, is_flow}
 use Rattle.se_words.specs.FlowRequest.{FlowAsks}
 use Rattle.se_walks.specs.GraphAnswer.{excluded_in, is_edge, is_listed}
-use Rattle.se_items.specs.Paging.{page}
-use Rattle.se_items.specs.declared.Window.{Window}
 use Rattle.se_walks.specs.GraphItems.{items_between}
 use Rattle.se_walks.specs.TypeNames.{is_excluded}
 use Rattle.se_walks.specs.declared.Ends.{Ends}
@@ -53,8 +51,3 @@ items-are asks policy entries excluded graph ends le same is =
     ap (λ (g : FlowSearch). items_between (flow_words (weights_of g.entries) g.policy g.least) (flow_edge g) policy (has_bit excluded) ends) is
     ∙ ap (λ (edge : ℕ → ℕ → Bool). items_between words edge policy (has_bit excluded) ends) (edges-are asks policy entries excluded le same)
     ∙ ap (λ (among : ℕ → Bool). items_between words (is_edge (is_flow_of asks policy (weights_of entries)) (excluded_in (flow_graph asks) policy) asks.reverse) policy among ends) around
-
--- the part that a window gives, of the same items
-pub paged : {A : Type 0} (window : Window) (from : ℕ) (limit : Option ℕ) → window ≡ record { from = from; limit = limit } → {xs ys : List A} → xs ≡ ys
-    → page window.from window.limit xs ≡ page from limit ys
-paged window from limit is {xs} {ys} same = ap (λ (w : Window). page w.from w.limit xs) is ∙ ap (page from limit) same

@@ -20,14 +20,14 @@ abbrev pub flow_graph : FlowAsks → GraphAsks
 flow_graph asks = record {
   source = asks.source;
   target = asks.target;
+  all = asks.all;
   reverse = asks.reverse;
   excluded = asks.excluded;
   from = asks.from;
   limit = asks.limit;
 }
 
--- the flows of the source, or all shortest walks of flows to the target, under a map, unless a word names no type; and a map that is
--- refused
+-- the flows of the source, or the walks of flows to the target, under a map, unless a word names no type; and a map that is refused
 abbrev pub mapped_answer : FlowAsks → Parts → Result (List Entry) MapFault → Answer
 mapped_answer asks policy (Ok entries) =
     graph_answer (flow_words (weights_of entries) policy asks.least) (is_flow_of asks policy (weights_of entries)) (flow_graph asks) policy

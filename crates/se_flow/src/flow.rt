@@ -59,7 +59,7 @@ fn write_answer<'q, S: Sink>(
     ensures { Sends (S.state out.old) (S.state out.new) (graph_text (flow_words (weights_of map.now) policy.now asks.now.least)
         (is_flow_of (flow_view asks.now) policy.now (weights_of map.now)) (flow_graph (flow_view asks.now)) policy.now) result }
 {
-    match ends_named(policy, &asks.source, &asks.target, asks.reverse) {
+    match ends_named(policy, &asks.source, &asks.target, asks.all, asks.reverse) {
         Some(ends) => write_between(alloc, policy, map, asks, ends, out),
         None => Ok(()),
     }

@@ -205,20 +205,23 @@ fn dom_usage() -> &'static [u8]
     b"\
 Usage: setools sedta -p POLICY -s TYPE [options] [EXCLUDED]...
        setools sedta -p POLICY -s TYPE -t TYPE -S [options] [EXCLUDED]...
+       setools sedta -p POLICY -s TYPE -t TYPE -A N [options] [EXCLUDED]...
 
 Finds the domain transitions of a compiled SELinux policy: those from a type,
-those into it, or all shortest paths to another type, with their rules.
+those into it, or the paths to another type, with their rules.
 
 Policy:
   -p, --policy POLICY    the file of the policy
 
 Types, of which none is an attribute:
   -s, --source TYPE      the source
-  -t, --target TYPE      the target; needs -S
+  -t, --target TYPE      the target; needs one of -S and -A
   EXCLUDED               at this type no step begins or ends
 
 Search:
   -S, --shortest_path    all shortest paths to the target; needs -t
+  -A N                   all paths of at most N steps, 1 to 99, that have no
+                           type twice; needs -t, not with -S
   -r, --reverse          the transitions into the source; not with -t
 
 Output:
@@ -247,10 +250,12 @@ fn flow_usage() -> &'static [u8]
 Usage: setools seinfoflow -p POLICY -m MAP -s TYPE [options] [EXCLUDED]...
        setools seinfoflow -p POLICY -m MAP -s TYPE -t TYPE -S [options]
                           [EXCLUDED]...
+       setools seinfoflow -p POLICY -m MAP -s TYPE -t TYPE -A N [options]
+                          [EXCLUDED]...
 
 Finds the information flows of a compiled SELinux policy by a permission map:
-those from a type, those into it, or all shortest paths to another type, with
-their rules.
+those from a type, those into it, or the paths to another type, with their
+rules.
 
 Files:
   -p, --policy POLICY    the policy
@@ -258,11 +263,13 @@ Files:
 
 Types, of which none is an attribute:
   -s, --source TYPE      the source
-  -t, --target TYPE      the target; needs -S
+  -t, --target TYPE      the target; needs one of -S and -A
   EXCLUDED               at this type no flow begins or ends
 
 Search:
   -S, --shortest_path    all shortest paths to the target; needs -t
+  -A N                   all paths of at most N steps, 1 to 99, that have no
+                           type twice; needs -t, not with -S
   -r, --reverse          the flows into the source; not with -t
   -w, --min_weight W     flows of at least this weight, 1 to 10; without it 3
 
@@ -280,6 +287,7 @@ Exit codes:
 Examples:
   setools seinfoflow -p policy.33 -m perm_map -s shadow_t -w 10
   setools seinfoflow -p policy.33 -m perm_map -s httpd_t -t shadow_t -S
+  setools seinfoflow -p policy.33 -m perm_map -s httpd_t -t shadow_t -A 3
 "
 }
 

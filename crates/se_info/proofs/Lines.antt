@@ -4,7 +4,7 @@ use Rattle.std.specs.List.{flat_map}
 use Rattle.info_lines.specs.Inner.Lines.{PushesLine}
 use Rattle.se_items.specs.Pieces.{AddsPiece}
 use Rattle.se_info.specs.Inner.ListedLines.{PushesNext}
-use Rattle.se_info.specs.Listing.{front_text, indent_of, line_text, listing_text}
+use Rattle.se_info.specs.ListingText.{front_text, indent_of, line_text, listing_text}
 
 -- The next line stands in the buffer as in a listing.
 pub pushes-next : (indent : List ℕ) (old new : List (List ℕ)) (had first second has : List ℕ) (u : Unit {0})

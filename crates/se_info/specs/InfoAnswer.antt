@@ -4,7 +4,7 @@ use Rattle.pol_file.specs.declared.Parts.{Parts}
 use Rattle.info_lines.specs.Titles.{title_of}
 use Rattle.info_query.specs.Listings.{lines_of}
 use Rattle.info_summary.specs.Summary.{summary_lines}
-use Rattle.se_info.specs.Listing.{line_text, listing_text}
+use Rattle.se_info.specs.ListingText.{line_text, listing_text}
 use Rattle.se_status.specs.Conclusion.{Answer, text_unless}
 use Rattle.se_status.specs.LeastWord.{least_number}
 use Rattle.se_options.specs.Options.{Named}

@@ -1,3 +1,3 @@
-pub mod Listing
+pub mod ListingText
 pub mod InfoAnswer
 pub mod Inner

@@ -3,11 +3,11 @@ ghost use Rattle.std.specs.Prelude.{◌≡◌, [], flat_map, map};
 ghost use Rattle.info_summary.specs.Summary.{summary_lines};
 ghost use Rattle.se_words.specs.InfoRequest.{info_view, wanted_view};
 ghost use Rattle.se_info.specs.InfoAnswer.{info_answer, info_text, wanted_text};
-ghost use Rattle.se_info.specs.Listing.{listing_text, line_text};
+ghost use Rattle.se_info.specs.ListingText.{listing_text, line_text};
 ghost use Rattle.se_status.specs.Conclusion.{Concludes, IsPlain};
 ghost use Rattle.se_items.specs.Writing.{Sends};
 
-use crate::listing::write_listing;
+use crate::listing_text::write_listing;
 use crate::unknown::first_unknown;
 use info_query::lines_of;
 use info_summary::summary;

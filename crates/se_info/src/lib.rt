@@ -2,7 +2,7 @@
 #![tactic(auto)]
 
 mod info;
-mod listing;
+mod listing_text;
 mod unknown;
 
 pub use info::{answer_info, write_summary};

@@ -7,7 +7,7 @@ use Rattle.pol_tree.specs.TreeSpelling.{spell}
 use Rattle.pol_make.specs.Made.{made}
 use Rattle.info_summary.specs.Summary.{summary_lines}
 use Rattle.info_summary.specs.SummaryLines.{count_line}
-use Rattle.se_info.specs.Listing.{line_text}
+use Rattle.se_info.specs.ListingText.{line_text}
 use Rattle.se_status.specs.Conclusion.{Answer, done}
 use Rattle.se_words.specs.MakeRequest.{MakeAsks}
 use Rattle.se_make.specs.Singles.{singles_of}

@@ -4,7 +4,7 @@ ghost use Rattle.pol_file.specs.Acceptance.{accept};
 ghost use Rattle.pol_tree.specs.TreeSpelling.{spell};
 ghost use Rattle.pol_make.specs.Made.{Allowed, made};
 ghost use Rattle.se_items.specs.Writing.{Sends};
-ghost use Rattle.se_info.specs.Listing.{line_text};
+ghost use Rattle.se_info.specs.ListingText.{line_text};
 ghost use Rattle.se_status.specs.Conclusion.{Concludes, IsWritten};
 ghost use Rattle.se_words.specs.MakeRequest.{make_view};
 ghost use Rattle.se_make.specs.MakeAnswer.{counts_text, make_answer, make_text, read_text, singles_line};

@@ -3,3 +3,4 @@ pub mod Answered
 pub mod Settled
 pub mod Messages
 pub mod Complete
+pub mod Resumed

@@ -7,5 +7,5 @@ mod laws;
 mod reading;
 
 pub use answer::run;
-pub use laws::answers_are_complete;
+pub use laws::{answers_are_complete, command_lines_resume};
 pub use se_status::Status;

@@ -1,5 +1,5 @@
 -- The types that words name: two ends, and those that are excluded.
-use Rattle.std.proofs.Common.{◌≡◌, ◌∙◌, ℕ, Bool, true, false, List, [], ◌∷◌, Option, Some, None, Result, Ok, ap, refl, subst, sym, map}
+use Rattle.std.proofs.Common.{◌≡◌, ◌∙◌, ℕ, Bool, true, false, List, [], ◌∷◌, Option, Some, None, Result, Ok, ap, subst, sym, map}
 use Rattle.std.specs.Prelude.{if◌then◌else◌}
 use Rattle.std.specs.List.{concat}
 use Rattle.pol_bitmap.specs.declared.Node.{Node}
@@ -24,13 +24,13 @@ use Rattle.se_walks.proofs.NoItems.{no_items_sent}
 
 -- a word names no type, and nothing is written
 pub no_ends_sent : {T : Type 0} (words : EdgeWords) (edge : ℕ → ℕ → Bool) (asks : GraphAsks) (policy : Parts) (sink : SinkState) (u : T)
-    → ends_named policy asks.source asks.target asks.reverse ≡ None → Sends sink sink (graph_text words edge asks policy) (Ok u)
+    → ends_named policy asks.source asks.target asks.all asks.reverse ≡ None → Sends sink sink (graph_text words edge asks policy) (Ok u)
 unfolding graph_text
 no_ends_sent words edge asks policy sink u none = rw none (no_items_sent sink asks.from asks.limit u)
 
 -- what lies between the ends is the text
 pub between_sent : {T : Type 0} (words : EdgeWords) (edge : ℕ → ℕ → Bool) (asks : GraphAsks) (policy : Parts) (ends : Ends) (old new : SinkState) (result : Result T WriteEnd)
-    → ends_named policy asks.source asks.target asks.reverse ≡ Some ends
+    → ends_named policy asks.source asks.target asks.all asks.reverse ≡ Some ends
     → Sends old new (concat (page asks.from asks.limit (items_between words (is_edge edge (excluded_in asks policy) asks.reverse) policy (excluded_in asks policy) ends))) result
     → Sends old new (graph_text words edge asks policy) result
 unfolding graph_text

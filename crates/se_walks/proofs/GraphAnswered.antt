@@ -1,5 +1,5 @@
 -- The answer about a graph: of words that name types, and in two parts.
-use Rattle.std.proofs.Common.{◌≡◌, ◌+◌, ◌++◌, ℕ, Bool, List, Option, Some, None, subst, sym}
+use Rattle.std.proofs.Common.{◌≡◌, ◌+◌, ◌++◌, ℕ, Bool, Option, Some, None, subst, sym}
 use Rattle.pol_file.specs.declared.Parts.{Parts}
 use Rattle.se_outside.specs.Outside.{SinkState}
 use Rattle.se_items.proofs.Resuming.{texts_then}

@@ -1,10 +1,13 @@
 -- From a walk that is next to the one after it.
-use Rattle.std.proofs.Common.{◌≡◌, ◌≤◌, ◌<◌, ◌+◌, ℕ, zero, suc, Bool, true, false, List, [], ◌∷◌, Some, length, take, drop, slice_get, refl, sym, ◌∙◌, length-drop, ap, add-one, arith, subst, slice_index_or}
+use Rattle.std.proofs.Common.{◌≡◌, ◌≤◌, ◌<◌, ◌+◌, ℕ, zero, suc, Bool, true, false, List, [], ◌∷◌, Some, length, take, drop, slice_get, refl, sym, ◌∙◌, length-drop, ap, add-one, arith, subst}
 use Rattle.std.specs.Prelude.{if◌then◌else◌}
-use Rattle.std.specs.List.{All}
+use Rattle.std.specs.List.{All, Contains}
 use Rattle.std.proofs.lemmas.List.{drop-drop, drop_all}
-use Rattle.std.proofs.lemmas.Option.{slice_get_within}
+use Rattle.std.proofs.lemmas.List.Elements.{All-contains}
 use Rattle.walk_enum.specs.Moving.{Moves}
+use Rattle.walk_enum.specs.Walks.{successors_of}
+use Rattle.walk_simple.specs.SimpleWalks.{simple_walks}
+use Rattle.walk_simple.proofs.Walking.{starts}
 use Rattle.se_walks.specs.Numbered.{numbered}
 
 -- an item of a list, and what stands after it, also of a front of the list
@@ -49,20 +52,15 @@ none-past all end after le = let s = short all end in omega (arith, le, s)
 pub none-left : (all : List (List ℕ)) (end : ℕ) (walk new : List ℕ) (number after : ℕ) (more : Bool) → slice_get all number ≡ Some walk → after ≡ number + 1 → Moves all walk new more → more ≡ false → length (take end all) ≤ after
 none-left all end walk new number after more there follows moves none = let s = shorter all end in let e = moves.last none number there in omega (arith, s, e, follows)
 
-slice_get_or : (all : List (List ℕ)) (number : ℕ) (walk : List ℕ) → slice_get all number ≡ Some walk → slice_index_or all number walk ≡ walk
-slice_get_or [] number walk there = absurd (cc there)
-slice_get_or (first ∷ others) zero walk there = cc
-slice_get_or (first ∷ others) (suc number) walk there = slice_get_or others number walk there
+-- a walk of so many steps has a node
+pub has-nodes : (all : List (List ℕ)) (walk : List ℕ) (count : ℕ) → Contains all walk → All (λ w. length w ≡ count + 1) all → 0 < length walk
+has-nodes all walk count has each = let e = All-contains (λ w. length w ≡ count + 1) all walk each has in omega (arith, e)
 
--- texts of a list of walks have nodes
-pub has-nodes : (all : List (List ℕ)) (walk : List ℕ) (number count : ℕ) → slice_get all number ≡ Some walk → All (λ w. length w ≡ count + 1) all → 0 < length walk
-has-nodes all walk number count there each =
-    let lt = slice_get_within all number walk there in
-    let same = each number walk lt in
-    let at : slice_index_or all number walk ≡ walk = slice_get_or all number walk there in
-    let P : List ℕ → Type 0 = λ w. length w ≡ count + 1 in
-    let e : length walk ≡ count + 1 = subst P at same in
-    omega (arith, e)
+-- and so has a simple walk
+pub simple-nodes : (edge : ℕ → ℕ → Bool) (size a b most : ℕ) (all : List (List ℕ)) (walk : List ℕ) → all ≡ simple_walks edge size a b most → Contains all walk → 0 < length walk
+simple-nodes edge size a b most all walk is has =
+    let first = starts (successors_of edge size) [] a b most walk (subst (λ (walks : List (List ℕ)). Contains walks walk) is has) in
+    omega (arith, ap length first.1)
 
 -- so many walks were passed over, and one more
 pub passed-next : (all left rest : List (List ℕ)) (text : List ℕ) (number : ℕ) → left ≡ drop number all → left ≡ text ∷ rest → rest ≡ drop (number + 1) all

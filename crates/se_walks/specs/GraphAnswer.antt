@@ -1,4 +1,4 @@
--- The answer of a tool over a graph of types: the edges of a source, or all shortest walks from it to a target, around excluded types.
+-- The answer of a tool over a graph of types: the edges of a source, or walks from it to a target, around excluded types.
 use Rattle.std.specs.Prelude.{ℕ, Bool, not, ◌&&◌, List, Option, if◌then◌else◌}
 use Rattle.std.specs.List.{concat}
 use Rattle.pol_file.specs.declared.Parts.{Parts}
@@ -9,10 +9,12 @@ use Rattle.se_walks.specs.GraphItems.{items_from}
 use Rattle.se_walks.specs.TypeNames.{ends_named, first_unknown, is_excluded, type_words}
 use Rattle.se_walks.specs.WalkTexts.{EdgeWords}
 
--- what is asked of a graph of types
+-- what is asked of a graph of types: with a target all shortest walks or, where a number is given, all of at most so many steps that
+-- have no type twice
 pub record GraphAsks : Type 0 where
   pub source : Named
   pub target : Option Named
+  pub all : Option ℕ
   pub reverse : Bool
   pub excluded : List Named
   pub from : ℕ
@@ -30,10 +32,10 @@ is_edge edge excluded reverse a b = if reverse then is_listed edge excluded b a 
 abbrev pub excluded_in : GraphAsks → Parts → ℕ → Bool
 excluded_in asks policy = is_excluded policy.symbols asks.excluded
 
--- the edges of the source, or all shortest walks to the target
+-- the edges of the source, or the walks to the target
 abbrev pub graph_items : EdgeWords → (ℕ → ℕ → Bool) → GraphAsks → Parts → List (List ℕ)
 graph_items words edge asks policy =
-    items_from words (is_edge edge (excluded_in asks policy) asks.reverse) policy (excluded_in asks policy) (ends_named policy asks.source asks.target asks.reverse)
+    items_from words (is_edge edge (excluded_in asks policy) asks.reverse) policy (excluded_in asks policy) (ends_named policy asks.source asks.target asks.all asks.reverse)
 
 -- those that are asked for
 unfoldable pub graph_text : EdgeWords → (ℕ → ℕ → Bool) → GraphAsks → Parts → List ℕ

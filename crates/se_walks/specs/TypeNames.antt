@@ -30,12 +30,12 @@ abbrev pub target_named : Parts → Option Named → Option (Option ℕ)
 target_named policy target = known (option_map (λ named. type_named policy named.text) target)
 
 -- the ends that are asked for, where each word names a type
-abbrev pub ends_if : Bool → Option ℕ → Option (Option ℕ) → Option Ends
-ends_if reverse (Some source) (Some target) = Some (record { source = source; target = target; reverse = reverse })
-ends_if reverse source target = None
+abbrev pub ends_if : Option ℕ → Bool → Option ℕ → Option (Option ℕ) → Option Ends
+ends_if all reverse (Some source) (Some target) = Some (record { source = source; target = target; all = all; reverse = reverse })
+ends_if all reverse source target = None
 
-abbrev pub ends_named : Parts → Named → Option Named → Bool → Option Ends
-ends_named policy source target reverse = ends_if reverse (type_named policy source.text) (target_named policy target)
+abbrev pub ends_named : Parts → Named → Option Named → Option ℕ → Bool → Option Ends
+ends_named policy source target all reverse = ends_if all reverse (type_named policy source.text) (target_named policy target)
 
 -- the number of a word, unless it names a type
 abbrev pub word_unless : Option ℕ → ℕ → Option ℕ

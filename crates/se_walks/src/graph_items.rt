@@ -20,11 +20,13 @@ use walk_enum::Graph;
 pub struct Ends {
     pub source: u32,
     pub target: Option<u32>,
+    /// With a target: all walks of at most so many steps that have no type twice, in place of all shortest ones.
+    pub all: Option<u32>,
     /// Without a target: the edges of the graph, which is turned round, into the source.
     pub reverse: bool,
 }
 
-/// Writes the edges of a source or, where a target is asked for, all shortest walks from the source to it, if neither is excluded.
+/// Writes the edges of a source or, where a target is asked for, the walks from the source to it, if neither is excluded.
 #[tactic(auto, unfolding(crate::specs::GraphItems::edge_items))]
 pub fn write_items<G: Graph, T: EdgeTexts, S: Sink>(
     alloc: Global,
@@ -42,42 +44,41 @@ pub fn write_items<G: Graph, T: EdgeTexts, S: Sink>(
 {
     match ends.target {
         None => write_edges(alloc, graph, texts, ends.source, ends.reverse, window, out),
-        Some(target) => write_paths(
-            alloc,
-            graph,
-            texts,
-            excluded,
-            ends.source,
-            target,
-            window,
-            out,
-        ),
+        Some(target) => write_paths(alloc, graph, texts, excluded, ends, target, window, out),
     }
 }
 
-// Writes all shortest walks from a type to a type, unless one of them is excluded.
+// Writes the walks from the source to a target, unless one of them is excluded.
 fn write_paths<G: Graph, T: EdgeTexts, S: Sink>(
     alloc: Global,
     graph: &G,
     texts: &T,
     excluded: &Set,
-    source: u32,
+    ends: Ends,
     target: u32,
     window: Window,
     out: &mut S,
 ) -> Result<(), WriteEnd>
-    requires source_low { 1 ≤ source }
-    requires source_high { source ≤ G.nodes graph.now }
+    requires ends { AreWithin (G.nodes graph.now) ends }
     requires target_low { 1 ≤ target }
     requires target_high { target ≤ G.nodes graph.now }
     ensures { (policy : Parts) → G.nodes graph.now ≡ policy.symbols.types.nprim
         → Sends (S.state out.old) (S.state out.new)
-        (concat (page window.from window.limit (walk_items (T.words texts.now) (G.edge graph.now) policy (has_bit excluded.now) source target))) result }
+        (concat (page window.from window.limit (walk_items (T.words texts.now) (G.edge graph.now) policy (has_bit excluded.now) ends.all ends.source target))) result }
 {
-    if has_either(excluded, source, target) {
+    if has_either(excluded, ends.source, target) {
         return Ok(());
     }
-    write_walks(alloc, graph, texts, source, target, window, out)
+    write_walks(
+        alloc,
+        graph,
+        texts,
+        ends.source,
+        target,
+        ends.all,
+        window,
+        out,
+    )
 }
 
 // Whether a set has one of two types.

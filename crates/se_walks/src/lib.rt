@@ -1,8 +1,8 @@
-//! The answer of a tool over a graph of types, as sedta and seinfoflow are: types that words name, and the edges and shortest walks of the
-//! graph, each with its text. A tool gives its graph, the words of its texts, and what is asked.
+//! The answer of a tool over a graph of types, as sedta and seinfoflow are: types that words name, and the edges and walks of the graph,
+//! each with its text. A tool gives its graph, the words of its texts, and what is asked.
 //!
-//! What users call a path is a walk here: nodes and edges may come again in one, and only a shortest walk is a path in the sense of graphs.
-//! `Path` stands in texts and options alone.
+//! What users call a path is a walk here: nodes and edges may come again in one, and only a walk that has no node twice, as each shortest one, is
+//! a path in the sense of graphs. `Path` stands in texts and options alone.
 #![tactic(auto)]
 
 mod edge_items;
@@ -11,7 +11,9 @@ mod ends_texts;
 mod graph_items;
 mod type_names;
 mod walk_items;
+mod walk_kinds;
 mod walk_texts;
+mod walks;
 mod writing;
 
 pub use edge_texts::EdgeTexts;

@@ -1,6 +1,6 @@
 // Types that words name.
 ghost use Rattle.std.specs.Prelude.{◌≡◌, ◌≤◌, ℕ, IfOk, IfSome, Some, map, option_map};
-ghost use Rattle.std.specs.Option.{option_to_list};
+ghost use Rattle.std.specs.Option.{ForSome, option_to_list};
 ghost use Rattle.pol_bitmap.specs.Nodes.{has_bit};
 ghost use Rattle.se_options.specs.Options.{named_view};
 ghost use Rattle.se_walks.specs.GraphItems.{AreWithin};
@@ -17,15 +17,18 @@ use se_options::Named;
 use se_status::least;
 use std::alloc::{AllocError, Global};
 
-/// The ends that are asked for: a source, a target or none, and whether edges are asked for in the reverse. `None` where a word
-/// names no type.
+/// The ends that are asked for: a source, a target or none, which walks to that, and whether edges are asked for in the reverse. `None`
+/// where a word names no type.
 pub fn ends_named(
     policy: &Policy<'_>,
     source: &Named<'_>,
     target: &Option<Named<'_>>,
+    all: Option<u32>,
     reverse: bool,
 ) -> Option<Ends>
-    ensures ends { result ≡ ends_named policy.now (named_view source.now) (option_map named_view target.now) reverse }
+    requires steps_low { ForSome all (λ steps. 1 ≤ steps) }
+    requires steps_high { ForSome all (λ steps. steps ≤ 99) }
+    ensures ends { result ≡ ends_named policy.now (named_view source.now) (option_map named_view target.now) all reverse }
     ensures types { IfSome result (AreWithin policy.now.symbols.types.nprim) }
     ensures reverse { IfSome result (λ ends. ends.reverse ≡ reverse) }
 {
@@ -38,6 +41,7 @@ pub fn ends_named(
     Some(Ends {
         source,
         target,
+        all,
         reverse,
     })
 }

@@ -1,26 +1,25 @@
 // Walks, as a text that is made walk by walk.
 ghost use Rattle.std.specs.Prelude.{◌≡◌, ◌+◌, ◌<◌, ◌∷◌, drop, true};
-ghost use Rattle.se_walks.specs.Inner.Placed.{IsNextIf};
+ghost use Rattle.se_walks.specs.Inner.Placed.{IsNextIf, next_walk};
 ghost use Rattle.se_walks.specs.WalkTexts.{walk_item};
 
 use crate::EdgeTexts;
 use crate::walk_texts::push_walk;
+use crate::walks::Walks;
 use se_items::Pieces;
 use std::alloc::AllocError;
-use walk_enum::{Layers, Walk};
 
-/// The walks of some layers, from the one on that is next up to another.
+/// Walks, from the one on that is next up to another.
 #[derive(Drop)]
 pub struct WalkItems<'q, T> {
     pub texts: &'q T,
-    pub layers: &'q Layers,
-    // the walk that is next, if there is one
-    pub walk: Walk,
+    pub walks: Walks,
+    // whether there is a walk that is next
     pub more: bool,
     // how many walks come before it, and before the end
     pub number: u64,
     pub end: u64,
-    pub ghost next: { IsNextIf more layers.now walk number end },
+    pub ghost next: { IsNextIf more walks number end },
 }
 
 impl<T: EdgeTexts> WalkItems<'_, T> {
@@ -41,11 +40,11 @@ impl<T: EdgeTexts> WalkItems<'_, T> {
     // Goes on to the next walk, if there is one.
     fn advance(&mut self)
         requires { self.old.more ≡ true }
-        ensures { walks_left T.words self.old ≡ walk_item (T.words self.old.texts.now) (self.old.number + 1) self.old.walk ∷ walks_left T.words self.new }
+        ensures { walks_left T.words self.old ≡ walk_item (T.words self.old.texts.now) (self.old.number + 1) (next_walk self.old.walks) ∷ walks_left T.words self.new }
     {
         self.number += 1;
         if self.number < self.end {
-            self.more = self.layers.next_walk(&mut self.walk);
+            self.more = self.walks.advance();
         } else {
             self.more = false;
         }
@@ -64,9 +63,7 @@ impl<T: EdgeTexts> Pieces for WalkItems<'_, T> {
         if !self.more {
             return Ok(false);
         }
-        // Each walk has a node.
-        let _ = self.layers.length();
-        push_walk(self.texts, self.number + 1, &self.walk, buffer)?;
+        push_walk(self.texts, self.number + 1, &self.walks, buffer)?;
         self.advance();
         Ok(true)
     }

@@ -1,58 +1,63 @@
 // The text of a walk.
-ghost use Rattle.std.specs.Prelude.{◌≡◌, ◌<◌, ◌+◌, ◌-◌, ◌++◌, OnOk, length};
+ghost use Rattle.std.specs.Prelude.{◌≡◌, ◌<◌, ◌+◌, ◌-◌, ◌++◌, Contains, OnOk, length};
 ghost use Rattle.std.specs.List.{flat_map, range_with_len};
+ghost use Rattle.se_walks.specs.Inner.Placed.{all_walks, next_walk};
 ghost use Rattle.se_walks.specs.WalkTexts.{heading_text, step_text, walk_item};
 
 use crate::EdgeTexts;
 use crate::ends_texts::{push_edge, push_ends};
+use crate::walks::Walks;
 use pol_texts::push_decimal;
 use std::alloc::AllocError;
-use walk_enum::Walk;
 
-/// Adds the item of the walk of a number to a buffer.
+/// Adds the item of the walk that is next, with its number, to a buffer.
 #[tactic(auto, unfolding(crate::specs::WalkTexts::walk_item))]
 pub fn push_walk<T: EdgeTexts>(
     texts: &T,
     number: u64,
-    walk: &Walk,
+    walks: &Walks,
     buffer: &mut Vec<u8>,
 ) -> Result<(), AllocError>
-    requires { 0 < length walk.now }
-    ensures { OnOk result (buffer.new.items ≡ buffer.old.items ++ walk_item (T.words texts.now) number walk.now) }
+    requires { Contains (all_walks walks.now) (next_walk walks.now) }
+    ensures { OnOk result (buffer.new.items ≡ buffer.old.items ++ walk_item (T.words texts.now) number (next_walk walks.now)) }
 {
-    push_heading(texts, number, walk, buffer)?;
-    push_steps(texts, walk, buffer)
+    push_heading(texts, number, walks, buffer)?;
+    push_steps(texts, walks, buffer)
 }
 
-// Adds the first line of a walk.
+// Adds the first line of the walk.
 #[tactic(auto, unfolding(crate::specs::WalkTexts::heading_text))]
 fn push_heading<T: EdgeTexts>(
     texts: &T,
     number: u64,
-    walk: &Walk,
+    walks: &Walks,
     buffer: &mut Vec<u8>,
 ) -> Result<(), AllocError>
-    requires { 0 < length walk.now }
-    ensures { OnOk result (buffer.new.items ≡ buffer.old.items ++ heading_text (T.words texts.now) number walk.now) }
+    requires { Contains (all_walks walks.now) (next_walk walks.now) }
+    ensures { OnOk result (buffer.new.items ≡ buffer.old.items ++ heading_text (T.words texts.now) number (next_walk walks.now)) }
 {
-    let last = walk.len() - 1;
+    let last = walks.len() - 1;
     buffer.extend_from_slice(b"Path ")?;
     push_decimal(buffer, number)?;
     buffer.extend_from_slice(b": ")?;
-    push_ends(texts.symbols(), walk.node(0), walk.node(last), buffer)?;
+    push_ends(texts.symbols(), walks.node(0), walks.node(last), buffer)?;
     buffer.extend_from_slice(b", steps ")?;
     push_decimal(buffer, u64::from(last))?;
     buffer.extend_from_slice(b"\n")
 }
 
-// Adds the steps of a walk.
-fn push_steps<T: EdgeTexts>(texts: &T, walk: &Walk, buffer: &mut Vec<u8>) -> Result<(), AllocError>
-    requires { 0 < length walk.now }
-    ensures { OnOk result (buffer.new.items ≡ buffer.old.items ++ flat_map (step_text (T.words texts.now) walk.now) (range_with_len 0 (length walk.now - 1))) }
+// Adds the steps of the walk.
+fn push_steps<T: EdgeTexts>(
+    texts: &T,
+    walks: &Walks,
+    buffer: &mut Vec<u8>,
+) -> Result<(), AllocError>
+    requires { Contains (all_walks walks.now) (next_walk walks.now) }
+    ensures { OnOk result (buffer.new.items ≡ buffer.old.items ++ flat_map (step_text (T.words texts.now) (next_walk walks.now)) (range_with_len 0 (length (next_walk walks.now) - 1))) }
 {
-    let last = walk.len() - 1;
+    let last = walks.len() - 1;
     for before in 0..last {
-        push_step(texts, walk, before, buffer)?;
+        push_step(texts, walks, before, buffer)?;
     }
     Ok(())
 }
@@ -61,23 +66,24 @@ fn push_steps<T: EdgeTexts>(texts: &T, walk: &Walk, buffer: &mut Vec<u8>) -> Res
 #[tactic(auto, unfolding(crate::specs::WalkTexts::step_text))]
 fn push_step<T: EdgeTexts>(
     texts: &T,
-    walk: &Walk,
+    walks: &Walks,
     before: u32,
     buffer: &mut Vec<u8>,
 ) -> Result<(), AllocError>
-    requires { before + 1 < length walk.now }
-    ensures { OnOk result (buffer.new.items ≡ buffer.old.items ++ step_text (T.words texts.now) walk.now before) }
+    requires there { Contains (all_walks walks.now) (next_walk walks.now) }
+    requires before { before + 1 < length (next_walk walks.now) }
+    ensures { OnOk result (buffer.new.items ≡ buffer.old.items ++ step_text (T.words texts.now) (next_walk walks.now) before) }
 {
     // It has fewer nodes than a u32 counts.
-    let _ = walk.len();
+    let _ = walks.len();
     buffer.extend_from_slice(b"   Step ")?;
     push_decimal(buffer, u64::from(before) + 1)?;
     buffer.extend_from_slice(b": ")?;
     push_edge(
         texts,
         b"      ",
-        walk.node(before),
-        walk.node(before + 1),
+        walks.node(before),
+        walks.node(before + 1),
         buffer,
     )
 }

@@ -1,23 +1,30 @@
-// The edges of a node, and the shortest walks between two nodes, as they are written.
-ghost use Rattle.std.specs.Prelude.{◌≡◌, ◌≤◌, ◌<◌, ◌↔◌, [], IfOk, None, IfSome};
+// The edges of a node, and the walks between two nodes, as they are written.
+ghost use Rattle.std.specs.Prelude.{◌≡◌, ◌≤◌, ◌<◌, IfOk, Some, slice_get};
+ghost use Rattle.std.specs.Option.{ForSome};
 ghost use Rattle.std.specs.List.{concat};
 ghost use Rattle.pol_bitmap.specs.Nodes.{bits_of};
 ghost use Rattle.se_items.specs.Paging.{page};
 ghost use Rattle.se_items.specs.Writing.{Sends};
 ghost use Rattle.walk_enum.specs.Walks.{successors_of, least_walks};
+ghost use Rattle.walk_simple.specs.SimpleWalks.{simple_walks};
+ghost use Rattle.se_walks.specs.GraphItems.{walks_asked};
+ghost use Rattle.se_walks.specs.Inner.Placed.{IsAtFirst, all_walks, next_walk};
 ghost use Rattle.se_walks.specs.Numbered.{numbered};
 ghost use Rattle.se_walks.specs.WalkTexts.{end_item, walk_item};
 
 use crate::EdgeTexts;
 use crate::edge_items::EdgeItems;
 use crate::walk_items::WalkItems;
+use crate::walk_kinds::{ShortestWalks, SimpleWalks};
+use crate::walks::Walks;
 use pol_bitmap::Set;
 use se_items::{Window, WriteEnd, write_pieces};
 use se_outside::Sink;
 use std::alloc::{AllocError, Global};
 use std::marker::Brand;
 use std::sync::ledger::{Blank, Ledger};
-use walk_enum::{Graph, Layers, Steps, search};
+use walk_enum::{Graph, Steps, search};
+use walk_simple::Simple;
 
 /// Writes the edges of a node, each of which goes from it or, in the reverse, to it.
 pub fn write_edges<G: Graph, T: EdgeTexts, S: Sink>(
@@ -80,13 +87,14 @@ fn bits(alloc: Global, set: &Set) -> Result<Vec<u32>, AllocError>
     set.bits().collect(alloc)
 }
 
-/// Writes all shortest walks from a node to a node.
+/// Writes all shortest walks from a node to a node or, where a number is given, all of at most so many steps that have no node twice.
 pub fn write_walks<G: Graph, T: EdgeTexts, S: Sink>(
     alloc: Global,
     graph: &G,
     texts: &T,
     from: u32,
     to: u32,
+    all: Option<u32>,
     window: Window,
     out: &mut S,
 ) -> Result<(), WriteEnd>
@@ -94,32 +102,33 @@ pub fn write_walks<G: Graph, T: EdgeTexts, S: Sink>(
     requires from_high { from ≤ G.nodes graph.now }
     requires to_low { 1 ≤ to }
     requires to_high { to ≤ G.nodes graph.now }
+    requires all_low { ForSome all (λ steps. 1 ≤ steps) }
+    requires all_high { ForSome all (λ steps. steps ≤ 99) }
     ensures { Sends (S.state out.old) (S.state out.new)
-        (concat (page window.from window.limit (numbered (walk_item (T.words texts.now)) 1 (least_walks (G.edge graph.now) (G.nodes graph.now) from to)))) result }
+        (concat (page window.from window.limit (numbered (walk_item (T.words texts.now)) 1 (walks_asked (G.edge graph.now) (G.nodes graph.now) all from to)))) result }
 {
-    match layers_of::<G>(alloc, graph, from, to)? {
+    match walks_asked(alloc, graph, from, to, all)? {
         None => Ok(()),
-        Some(layers) => write_layers(alloc, texts, &layers, window, out),
+        Some(walks) => write_each(alloc, texts, walks, window, out),
     }
 }
 
-// Writes the walks of layers.
-fn write_layers<T: EdgeTexts, S: Sink>(
+// Writes walks, of which the first is next.
+fn write_each<T: EdgeTexts, S: Sink>(
     alloc: Global,
     texts: &T,
-    layers: &Layers,
+    walks: Walks,
     window: Window,
     out: &mut S,
 ) -> Result<(), WriteEnd>
+    requires { slice_get (all_walks walks) 0 ≡ Some (next_walk walks) }
     ensures { Sends (S.state out.old) (S.state out.new)
-        (concat (page window.from window.limit (numbered (walk_item (T.words texts.now)) 1 layers.now))) result }
+        (concat (page window.from window.limit (numbered (walk_item (T.words texts.now)) 1 (all_walks walks)))) result }
 {
     let end = window.end();
-    let walk = layers.first_walk(alloc)?;
     let mut items = WalkItems {
         texts,
-        layers,
-        walk,
+        walks,
         more: 0 < end,
         number: 0,
         end,
@@ -128,31 +137,36 @@ fn write_layers<T: EdgeTexts, S: Sink>(
     write_pieces(alloc, &mut items, out)
 }
 
-// The shortest walks from a node to a node, or `None` where there is no walk.
-fn layers_of<G: Graph>(
+// The walks from a node to a node, of which the first is next, or `None` where there is no walk.
+fn walks_asked<G: Graph>(
     alloc: Global,
     graph: &G,
     from: u32,
     to: u32,
-) -> Result<Option<Layers>, AllocError>
+    all: Option<u32>,
+) -> Result<Option<Walks>, AllocError>
     requires from_low { 1 ≤ from }
     requires from_high { from ≤ G.nodes graph.now }
     requires to_low { 1 ≤ to }
     requires to_high { to ≤ G.nodes graph.now }
-    ensures none { IfOk result (λ found. (found ≡ None) ↔ (least_walks (G.edge graph.now) (G.nodes graph.now) from to ≡ [])) }
-    ensures some { IfOk result (λ found. IfSome found (λ layers. layers ≡ least_walks (G.edge graph.now) (G.nodes graph.now) from to)) }
+    requires all_low { ForSome all (λ steps. 1 ≤ steps) }
+    requires all_high { ForSome all (λ steps. steps ≤ 99) }
+    ensures { IfOk result (IsAtFirst (walks_asked (G.edge graph.now) (G.nodes graph.now) all from to)) }
 {
-    counted::<G, Brand>(alloc, graph, from, to, Blank::new(1))
+    match all {
+        None => shortest::<G, Brand>(alloc, graph, from, to, Blank::new(1)),
+        Some(most) => simple::<G, Brand>(alloc, graph, from, to, most, Blank::new(1)),
+    }
 }
 
-// Searches with a counter of steps whose ledger the caller names.
-fn counted<G: Graph, L: Ledger>(
+// The shortest walks, found with a counter of steps whose ledger the caller names.
+fn shortest<G: Graph, L: Ledger>(
     alloc: Global,
     graph: &G,
     from: u32,
     to: u32,
     blank: Blank,
-) -> Result<Option<Layers>, AllocError>
+) -> Result<Option<Walks>, AllocError>
     requires from_low { 1 ≤ from }
     requires from_high { from ≤ G.nodes graph.now }
     requires to_low { 1 ≤ to }
@@ -160,9 +174,40 @@ fn counted<G: Graph, L: Ledger>(
     requires name { blank.name ≡ L.name }
     requires parts { blank.parts ≡ L.parts }
     requires some { 0 < blank.parts }
-    ensures none { IfOk result (λ found. (found ≡ None) ↔ (least_walks (G.edge graph.now) (G.nodes graph.now) from to ≡ [])) }
-    ensures some { IfOk result (λ found. IfSome found (λ layers. layers ≡ least_walks (G.edge graph.now) (G.nodes graph.now) from to)) }
+    ensures { IfOk result (IsAtFirst (least_walks (G.edge graph.now) (G.nodes graph.now) from to)) }
 {
     let mut steps = Steps::<L>::new(blank);
-    search(alloc, graph, from, to, &mut steps)
+    let Some(layers) = search(alloc, graph, from, to, &mut steps)? else {
+        return Ok(None);
+    };
+    let walk = layers.first_walk(alloc)?;
+    Ok(Some(Walks::Shortest(ShortestWalks { layers, walk })))
+}
+
+// The walks of at most so many steps that have no node twice, found with such a counter.
+fn simple<G: Graph, L: Ledger>(
+    alloc: Global,
+    graph: &G,
+    from: u32,
+    to: u32,
+    most: u32,
+    blank: Blank,
+) -> Result<Option<Walks>, AllocError>
+    requires from_low { 1 ≤ from }
+    requires from_high { from ≤ G.nodes graph.now }
+    requires to_low { 1 ≤ to }
+    requires to_high { to ≤ G.nodes graph.now }
+    requires most_low { 1 ≤ most }
+    requires most_high { most ≤ 99 }
+    requires name { blank.name ≡ L.name }
+    requires parts { blank.parts ≡ L.parts }
+    requires some { 0 < blank.parts }
+    ensures { IfOk result (IsAtFirst (simple_walks (G.edge graph.now) (G.nodes graph.now) from to most)) }
+{
+    let mut steps = Steps::<L>::new(blank);
+    let simple = Simple::new(alloc, graph, from, to, most, &mut steps)?;
+    let Some(walk) = simple.first_walk(alloc)? else {
+        return Ok(None);
+    };
+    Ok(Some(Walks::Simple(SimpleWalks { simple, walk })))
 }

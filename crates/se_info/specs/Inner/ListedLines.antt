@@ -1,8 +1,8 @@
 -- The lines of a listing that are left.
 use Rattle.std.specs.Prelude.{◌≡◌, ℕ, List, ◌∷◌, ◌++◌, flat_map, length}
 use Rattle.se_items.specs.Pieces.{Left}
-use Rattle.se_info.specs.Listing.{line_text}
-use Rattle.se_info.specs.declared.listing.ListedLines.{ListedLines}
+use Rattle.se_info.specs.ListingText.{line_text}
+use Rattle.se_info.specs.declared.listing_text.ListedLines.{ListedLines}
 
 -- their text, each after its indent
 abbrev pub text_left : {L : Type 0} → (L → List (List ℕ)) → ListedLines L → Left

@@ -1,5 +1,5 @@
 -- The text that is left of the edges of a node.
-use Rattle.std.specs.Prelude.{ℕ, List, length}
+use Rattle.std.specs.Prelude.{length}
 use Rattle.std.specs.List.{concat}
 use Rattle.se_items.specs.Pieces.{Left}
 use Rattle.se_walks.specs.Numbered.{numbered}

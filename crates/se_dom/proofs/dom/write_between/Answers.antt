@@ -4,7 +4,8 @@ use Rattle.dom_trans.specs.DomainEdges.{Domains}
 use Rattle.se_items.specs.Writing.{Sends}
 use Rattle.se_words.specs.DomRequest.{dom_view}
 use Rattle.se_walks.proofs.AskedTypes.{excluded-are}
-use Rattle.se_dom.proofs.Edges.{items-are, paged}
+use Rattle.se_walks.proofs.Paged.{paged}
+use Rattle.se_dom.proofs.Edges.{items-are}
 use Rattle.se_dom.proofs.dom.write_between.Goals as goal
 
 pub returns : goal.returns

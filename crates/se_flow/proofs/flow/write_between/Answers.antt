@@ -4,7 +4,8 @@ use Rattle.flow_search.specs.FlowEdges.{FlowSearch, flow_count}
 use Rattle.se_items.specs.Writing.{Sends}
 use Rattle.se_words.specs.FlowRequest.{flow_view}
 use Rattle.se_walks.proofs.AskedTypes.{excluded-are}
-use Rattle.se_flow.proofs.Edges.{items-are, paged}
+use Rattle.se_walks.proofs.Paged.{paged}
+use Rattle.se_flow.proofs.Edges.{items-are}
 use Rattle.se_flow.proofs.flow.write_between.Goals as goal
 
 pub returns : goal.returns

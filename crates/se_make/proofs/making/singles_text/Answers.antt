@@ -1,7 +1,7 @@
 use Rattle.std.proofs.Common.{◌∙◌, ◌++◌, ℕ, List, ap}
 use Rattle.std.specs.Prelude.{codes, decimal}
 use Rattle.info_summary.specs.SummaryLines.{summary_line}
-use Rattle.se_info.specs.Listing.{line_text}
+use Rattle.se_info.specs.ListingText.{line_text}
 use Rattle.se_make.proofs.making.singles_text.Goals as goal
 
 pub returns : goal.returns

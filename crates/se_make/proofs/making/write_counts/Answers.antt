@@ -1,6 +1,6 @@
 use Rattle.std.proofs.Common.{◌≡◌, ◌∙◌, []}
 use Rattle.std.proofs.lemmas.Result.{err_from_is_err_and}
-use Rattle.se_info.specs.Listing.{line_text}
+use Rattle.se_info.specs.ListingText.{line_text}
 use Rattle.se_make.specs.MakeAnswer.{counts_text, singles_line}
 use Rattle.se_make.proofs.Written.{sent_cut}
 use Rattle.se_make.proofs.making.write_counts.Goals as goal

@@ -1,4 +1,4 @@
-use Rattle.std.proofs.Common.{◌≡◌, ◌+◌, ℕ, suc, List, length, ap, arith}
+use Rattle.std.proofs.Common.{◌≡◌, ℕ, suc, List, length, ap, arith}
 use Rattle.std.specs.List.{concat}
 use Rattle.se_walks.specs.Numbered.{numbered}
 use Rattle.se_walks.specs.WalkTexts.{end_item}

@@ -1,5 +1,5 @@
 use Rattle.se_info.proofs.Lines.{listing-is}
-use Rattle.se_info.proofs.listing.write_listing.Goals as goal
+use Rattle.se_info.proofs.listing_text.write_listing.Goals as goal
 
 pub returns : goal.returns
 returns g c =

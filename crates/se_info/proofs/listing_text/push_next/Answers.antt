@@ -1,5 +1,5 @@
 use Rattle.se_info.proofs.Lines.{pushes-next}
-use Rattle.se_info.proofs.listing.push_next.Goals as goal
+use Rattle.se_info.proofs.listing_text.push_next.Goals as goal
 
 pub returns : goal.returns
 returns g c =

@@ -1,7 +1,7 @@
 // A listing of seinfo, which is written as it is made.
 ghost use Rattle.std.specs.Prelude.{◌≡◌, ◌<◌, ◌++◌, OnOk, length};
 ghost use Rattle.se_info.specs.Inner.ListedLines.{PushesNext};
-ghost use Rattle.se_info.specs.Listing.{front_text, heading_text, indent_of, line_text, listing_text};
+ghost use Rattle.se_info.specs.ListingText.{front_text, heading_text, indent_of, line_text, listing_text};
 ghost use Rattle.se_items.specs.Writing.{Sends};
 
 use info_lines::Lines;
@@ -49,7 +49,7 @@ fn push_front(flat: bool, title: &[u8], count: u64, buffer: &mut Vec<u8>) -> Res
 }
 
 // Adds the heading of a listing to a buffer.
-#[tactic(auto, unfolding(crate::specs::Listing::heading_text))]
+#[tactic(auto, unfolding(crate::specs::ListingText::heading_text))]
 fn push_heading(title: &[u8], count: u64, buffer: &mut Vec<u8>) -> Result<(), AllocError>
     ensures { OnOk result (buffer.new.items ≡ buffer.old.items ++ heading_text title.now count) }
 {
@@ -86,7 +86,7 @@ impl<L: Lines + Drop> Pieces for ListedLines<L> {
 }
 
 // Adds the next line as it stands in a listing.
-#[tactic(auto, unfolding(crate::specs::Listing::line_text))]
+#[tactic(auto, unfolding(crate::specs::ListingText::line_text))]
 fn push_next<L: Lines>(lines: &mut L, indent: &[u8], buffer: &mut Vec<u8>) -> Result<(), AllocError>
     requires { 0 < length (L.left lines.old) }
     ensures { OnOk result (PushesNext indent.now (L.left lines.old) (L.left lines.new)
