@@ -12,12 +12,12 @@
 //! ```
 #![tactic(auto)]
 
+mod bitmap_laws;
 mod bits;
 mod causes;
 mod node;
 mod pool;
 mod reading;
-mod record_laws;
 mod set;
 mod set_bits;
 mod set_build;
@@ -29,10 +29,10 @@ mod set_search;
 mod set_write;
 mod view;
 
+pub use bitmap_laws::bitmaps_have_laws;
 pub use bits::Bits;
 pub use node::{Node, split_lowest};
 pub use pool::Pool;
-pub use record_laws::bitmaps_have_laws;
 pub use set::Set;
 pub use set_bits::SetBits;
 pub use set_error::SetError;

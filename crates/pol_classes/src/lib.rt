@@ -17,12 +17,12 @@ mod class_table;
 mod class_view;
 mod class_write;
 mod constraint_list;
-mod record_laws;
+mod laws;
 
 pub use class_kind::{Class, ClassContext};
 pub use class_rec::{ClassRec, ClassRecList};
 pub use class_table::{ByTypeSets, ClassTable, read_class_table};
 pub use class_view::{ClassView, read_class};
 pub use constraint_list::ConstraintList;
+pub use laws::{classes_have_laws, classes_have_two_forms};
 pub use pol_cursor::write_record as write_class;
-pub use record_laws::{classes_have_laws, classes_have_two_forms};

@@ -13,11 +13,11 @@ mod conditionals;
 mod condnode_rec;
 mod condnode_view;
 mod condnode_write;
+mod laws;
 mod place_groups;
-mod record_laws;
 
 pub use conditionals::{CondNode, Conditionals, read_conditionals};
 pub use condnode_rec::{CondNodeRec, CondNodeRecList};
 pub use condnode_view::{CondNodeView, read_condnode};
+pub use laws::{conditional_nodes_have_laws, conditionals_have_laws};
 pub use pol_cursor::write_record as write_condnode;
-pub use record_laws::{conditional_nodes_have_laws, conditionals_have_laws};

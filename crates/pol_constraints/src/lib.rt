@@ -17,7 +17,7 @@ mod constraint_text;
 mod constraint_view;
 mod constraint_write;
 mod junction;
-mod record_laws;
+mod laws;
 mod type_set_view;
 
 pub use constraint_item::{ConstraintItemView, ConstraintItems};
@@ -25,6 +25,6 @@ pub use constraint_places::constraint_end;
 pub use constraint_rec::{ConstraintItem, ConstraintRec, ConstraintRecList, TypeSet};
 pub use constraint_view::{ConstraintView, read_constraint};
 pub use junction::Junction;
+pub use laws::{constraints_have_laws, constraints_have_one_tree};
 pub use pol_cursor::write_record as write_constraint;
-pub use record_laws::{constraints_have_laws, constraints_have_one_tree};
 pub use type_set_view::TypeSetView;

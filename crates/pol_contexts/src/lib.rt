@@ -24,12 +24,12 @@ mod ibendport_rec;
 mod ibpkey_entry;
 mod ibpkey_rec;
 mod kinds;
+mod laws;
 mod named_entry;
 mod named_rec;
 mod port_entry;
 mod port_rec;
 mod readers;
-mod record_laws;
 mod sid_entry;
 mod sid_rec;
 mod tables;
@@ -44,6 +44,10 @@ pub use kinds::{
     NamedView, Netif, NetifRec, NetifView, Node, Node6, Node6Rec, Node6View, NodeRec, NodeView,
     Port, PortView, Sid, SidView,
 };
+pub use laws::{
+    behaviours_have_laws, device_ports_have_laws, file_systems_have_laws, interfaces_have_laws,
+    nodes_have_laws, nodes6_have_laws, partition_keys_have_laws, ports_have_laws, sids_have_laws,
+};
 pub use named_rec::NamedRec;
 pub use pol_cursor::{
     write_record as write_fs, write_record as write_fsuse, write_record as write_ibendport,
@@ -54,10 +58,6 @@ pub use port_rec::PortRec;
 pub use readers::{
     read_fs_entry, read_fsuse_entry, read_ibendport_entry, read_ibpkey_entry, read_netif_entry,
     read_node_entry, read_node6_entry, read_port_entry, read_sid_entry,
-};
-pub use record_laws::{
-    behaviours_have_laws, device_ports_have_laws, file_systems_have_laws, interfaces_have_laws,
-    nodes_have_laws, nodes6_have_laws, partition_keys_have_laws, ports_have_laws, sids_have_laws,
 };
 pub use sid_rec::SidRec;
 pub use tables::{

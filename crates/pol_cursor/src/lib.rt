@@ -22,9 +22,9 @@ mod names;
 mod nested_records;
 mod owned_list;
 mod part;
+mod part_laws;
 mod parts;
 mod read_error;
-mod record_laws;
 mod record_list;
 mod referring;
 
@@ -37,12 +37,12 @@ pub use names::{Names, dangling, push_name};
 pub use nested_records::{NestedRecord, NestedRecords, end_of_nested, read_nested};
 pub use owned_list::{ByteList, NumberList, OwnedList};
 pub use part::{Part, Written, write_record};
-pub use parts::{array_in, push_number, refuse, string_in, u16_in, u32_in, u64_in};
-pub use read_error::ReadError;
-pub use record_laws::{
+pub use part_laws::{
     dependent_lists_have_laws, lists_have_laws, names_have_laws, numbers_have_laws,
     strings_have_laws,
 };
+pub use parts::{array_in, push_number, refuse, string_in, u16_in, u32_in, u64_in};
+pub use read_error::ReadError;
 pub use record_list::{
     ReadAfter, ReadAlone, Record, RecordView, Records, read_counted, read_records,
     read_records_after,

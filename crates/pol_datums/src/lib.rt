@@ -19,7 +19,7 @@ mod causes;
 mod datum;
 mod flags;
 mod flavour;
-mod record_laws;
+mod laws;
 mod role_kind;
 mod role_rec;
 mod role_view;
@@ -43,13 +43,13 @@ pub use category_rec::{CategoryRec, CategoryRecList};
 pub use category_view::{CategoryView, read_category};
 pub use datum::{CopiedDatum, Datum, DatumKind, DatumView, ReferringDatum};
 pub use flavour::Flavour;
+pub use laws::{
+    booleans_have_laws, categories_have_laws, roles_have_laws, sensitivities_have_laws,
+    types_have_laws,
+};
 pub use pol_cursor::{
     write_record as write_boolean, write_record as write_category, write_record as write_role,
     write_record as write_sensitivity, write_record as write_type,
-};
-pub use record_laws::{
-    booleans_have_laws, categories_have_laws, roles_have_laws, sensitivities_have_laws,
-    types_have_laws,
 };
 pub use role_kind::Role;
 pub use role_rec::{RoleRec, RoleRecList};

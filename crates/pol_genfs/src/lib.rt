@@ -15,12 +15,12 @@ mod genfs_reading;
 mod genfs_rec;
 mod genfs_view;
 mod genfs_write;
-mod record_laws;
+mod laws;
 
 pub use genfs_list::{GenfsList, read_genfs};
 pub use genfs_path_view::{GenfsPath, GenfsPathView};
 pub use genfs_reading::read_genfs_entry;
 pub use genfs_rec::{GenfsPathRec, GenfsPathRecList, GenfsRec, GenfsRecList};
 pub use genfs_view::{Genfs, GenfsView};
+pub use laws::genfs_have_laws;
 pub use pol_cursor::write_record as write_genfs;
-pub use record_laws::genfs_have_laws;

@@ -12,13 +12,13 @@ mod context_rec;
 mod context_texts;
 mod context_view;
 mod context_write;
+mod laws;
 mod level_rec;
 mod level_view;
 mod level_write;
 mod range_rec;
 mod range_view;
 mod range_write;
-mod record_laws;
 mod run;
 mod run_text;
 mod texts;
@@ -27,6 +27,7 @@ pub use context_laws::contexts_have_laws;
 pub use context_rec::{ContextRec, ContextRecList};
 pub use context_texts::context_text;
 pub use context_view::{ContextView, context_end, read_context};
+pub use laws::{levels_have_laws, ranges_have_laws};
 pub use level_rec::{LevelRec, LevelRecList};
 pub use level_view::{LevelView, read_level};
 pub use pol_cursor::{
@@ -34,5 +35,4 @@ pub use pol_cursor::{
 };
 pub use range_rec::{RangeRec, RangeRecList};
 pub use range_view::{RangeView, read_range};
-pub use record_laws::{levels_have_laws, ranges_have_laws};
 pub use texts::{level_text, range_text};

@@ -12,7 +12,7 @@
 //! ```
 #![tactic(auto)]
 
-mod record_laws;
+mod laws;
 mod symbol_views;
 mod symbols;
 mod user_kind;
@@ -20,8 +20,8 @@ mod user_rec;
 mod user_view;
 mod user_write;
 
+pub use laws::users_have_laws;
 pub use pol_cursor::write_record as write_user;
-pub use record_laws::users_have_laws;
 pub use symbols::{OtherTables, RuleTables, Symbols, read_symbols};
 pub use user_kind::User;
 pub use user_rec::{UserRec, UserRecList};

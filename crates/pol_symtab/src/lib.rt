@@ -13,9 +13,9 @@
 #![tactic(auto)]
 
 mod causes;
+mod laws;
 mod name_order;
 mod name_prefix;
-mod record_laws;
 mod symbol;
 mod symbol_fields;
 mod symbol_laws;
@@ -31,7 +31,7 @@ mod value_index;
 pub use causes::{
     is_name, length_cause, name_cause, new_value_cause, primary_value_cause, value_cause,
 };
-pub use record_laws::{ranks_have_law, tables_have_laws};
+pub use laws::{ranks_have_law, tables_have_laws};
 pub use symbol::{Symbol, SymbolKind};
 pub use symbol_fields::{read_symbol_length, read_symbol_name};
 pub use symbol_table::{SymbolTable, check_table, read_symbol_table, read_whole_table};

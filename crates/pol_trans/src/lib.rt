@@ -11,6 +11,7 @@
 //! ```
 #![tactic(auto)]
 
+mod laws;
 mod lists;
 mod name_datum_rec;
 mod name_datum_view;
@@ -24,7 +25,6 @@ mod name_trans_write;
 mod range_trans_rec;
 mod range_trans_view;
 mod range_trans_write;
-mod record_laws;
 mod role_allow_rec;
 mod role_allow_view;
 mod role_allow_write;
@@ -33,6 +33,10 @@ mod role_trans_view;
 mod role_trans_write;
 mod transition;
 
+pub use laws::{
+    name_groups_have_laws, name_transitions_have_laws, range_transitions_have_laws,
+    role_allows_have_laws, role_transitions_have_laws,
+};
 pub use lists::{
     NameGroupList, NameTransList, RangeTransList, RoleAllowList, RoleTransList, read_range_trans,
     read_role_allows, read_role_trans,
@@ -51,10 +55,6 @@ pub use pol_cursor::{
 };
 pub use range_trans_rec::{RangeTransRec, RangeTransRecList};
 pub use range_trans_view::{RangeTransView, read_range_trans_entry};
-pub use record_laws::{
-    name_groups_have_laws, name_transitions_have_laws, range_transitions_have_laws,
-    role_allows_have_laws, role_transitions_have_laws,
-};
 pub use role_allow_rec::{RoleAllowRec, RoleAllowRecList};
 pub use role_allow_view::{RoleAllowView, read_role_allow_entry};
 pub use role_trans_rec::{RoleTransRec, RoleTransRecList};

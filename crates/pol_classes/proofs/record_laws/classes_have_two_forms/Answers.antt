@@ -1,5 +1,0 @@
-use Rattle.pol_classes.proofs.ClassForms.{class_alike}
-use Rattle.pol_classes.proofs.record_laws.classes_have_two_forms.Goals as goal
-
-pub returns : goal.returns
-returns c = class_alike
