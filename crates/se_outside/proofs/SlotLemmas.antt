@@ -3,7 +3,7 @@ use Rattle.std.proofs.Common.{◌≡◌, ℕ, ◌+◌, ◌<◌, List, [], ◌∷
 use Rattle.std.proofs.lemmas.List.{drop-drop}
 use Rattle.std.specs.Option.{ForSome}
 use Rattle.se_outside.specs.declared.files.Slot.{Slot}
-use Rattle.se_outside.specs.declared.files.Slot.TheVariants.{Policy, Map}
+use Rattle.se_outside.specs.declared.files.Slot.TheVariants as slots
 use Rattle.se_outside.specs.declared.mem_slot.MemFile.{MemFile}
 use Rattle.se_outside.specs.declared.mem_slot.MemSlot.{MemSlot}
 use Rattle.se_outside.specs.declared.mem_slot.Place.{Place}
@@ -30,9 +30,10 @@ slot_state-kept : (fs gs : List MemFile) (s : MemSlot) → IsPlaced fs s → slo
 slot_state-kept fs gs s placed = rw (asked_name-kept fs gs s.place placed, left_of-kept fs gs s.place placed) refl
 
 -- a file that is added changes no slot
-pub mem_state-added : (old : MemFiles) (fs : List MemFile) (f : MemFile) (g : Slot → SlotState) → fs ≡ old.files.items ++ f ∷ [] → g Policy ≡ slot_state fs old.policy → g Map ≡ slot_state fs old.map → (slot : Slot) → g slot ≡ mem_state old slot
-mem_state-added old fs f g e policy map Policy = policy ∙ rw e (slot_state-kept old.files.items (f ∷ []) old.policy old.policy_placed)
-mem_state-added old fs f g e policy map Map = map ∙ rw e (slot_state-kept old.files.items (f ∷ []) old.map old.map_placed)
+pub mem_state-added : (old : MemFiles) (fs : List MemFile) (f : MemFile) (g : Slot → SlotState) → fs ≡ old.files.items ++ f ∷ [] → g slots.Policy ≡ slot_state fs old.policy → g slots.Map ≡ slot_state fs old.map → g slots.List ≡ slot_state fs old.list → (slot : Slot) → g slot ≡ mem_state old slot
+mem_state-added old fs f g e policy map list slots.Policy = policy ∙ rw e (slot_state-kept old.files.items (f ∷ []) old.policy old.policy_placed)
+mem_state-added old fs f g e policy map list slots.Map = map ∙ rw e (slot_state-kept old.files.items (f ∷ []) old.map old.map_placed)
+mem_state-added old fs f g e policy map list slots.List = list ∙ rw e (slot_state-kept old.files.items (f ∷ []) old.list old.list_placed)
 
 -- what an open slot has left
 pub left-open : (fs : List MemFile) (p : Place) (i at : ℕ) (f : MemFile) → p ≡ Open i at → slice_get fs i ≡ Some f → left_of fs p ≡ Some (drop at f.bytes.items)

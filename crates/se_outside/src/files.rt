@@ -9,6 +9,8 @@ pub enum Slot {
     Policy,
     /// The permission map.
     Map,
+    /// The checklist.
+    List,
 }
 
 /// A call to the outside failed. The object counts it as a fault; where the count stands at its last

@@ -8,7 +8,7 @@ use crate::{Failed, Files, Slot};
 use std::alloc::{AllocError, Global};
 
 /// Files in memory, for tests. It tells what each name holds, the same for each slot, and the names
-/// asked. Calls of `open` and `read` are counted from 1 over both slots; the count stands still at
+/// asked. Calls of `open` and `read` are counted from 1 over all slots; the count stands still at
 /// the last value of a `u64`. Each error is a counted fault of its slot.
 #[derive(Drop)]
 pub struct MemFiles {
@@ -17,8 +17,10 @@ pub struct MemFiles {
     plan: Plan,
     policy: MemSlot,
     map: MemSlot,
+    list: MemSlot,
     ghost policy_placed: { IsPlaced files.items policy },
     ghost map_placed: { IsPlaced files.items map },
+    ghost list_placed: { IsPlaced files.items list },
 }
 
 impl MemFiles {
@@ -40,6 +42,7 @@ impl MemFiles {
             plan: Plan::new(alloc),
             policy: MemSlot::new(),
             map: MemSlot::new(),
+            list: MemSlot::new(),
         }
     }
 
@@ -59,7 +62,7 @@ impl MemFiles {
         Ok(self.files.push(file)?)
     }
 
-    /// That call of `open` or `read` fails, counted from 1 over both. After an error, of memory
+    /// That call of `open` or `read` fails, counted from 1 over all slots. After an error, of memory
     /// alone, all is as it was.
     pub fn fail(&mut self, call: u64) -> Result<(), AllocError>
         ensures asked { NoneAsked (mem_state self.old) → NoneAsked (mem_state self.new) }
@@ -106,6 +109,7 @@ impl Files for MemFiles {
         match slot {
             Slot::Policy => self.policy.open(&self.files, name, fails),
             Slot::Map => self.map.open(&self.files, name, fails),
+            Slot::List => self.list.open(&self.files, name, fails),
         }
     }
 
@@ -125,6 +129,7 @@ impl Files for MemFiles {
         match slot {
             Slot::Policy => self.policy.read(&self.files, into, most, fails),
             Slot::Map => self.map.read(&self.files, into, most, fails),
+            Slot::List => self.list.read(&self.files, into, most, fails),
         }
     }
 }

@@ -70,6 +70,7 @@ pub struct RealFiles<'r, R: rt::Files> {
     runtime: &'r R,
     policy: RealSlot<R::File>,
     map: RealSlot<R::File>,
+    list: RealSlot<R::File>,
 }
 
 impl<'r, R: rt::Files> RealFiles<'r, R> {
@@ -82,6 +83,7 @@ impl<'r, R: rt::Files> RealFiles<'r, R> {
             runtime,
             policy: RealSlot::new(),
             map: RealSlot::new(),
+            list: RealSlot::new(),
         }
     }
 }
@@ -101,6 +103,7 @@ impl<'r, R: rt::Files> Files for RealFiles<'r, R> {
         match slot {
             Slot::Policy => self.policy.open(opened),
             Slot::Map => self.map.open(opened),
+            Slot::List => self.list.open(opened),
         }
     }
 
@@ -117,6 +120,7 @@ impl<'r, R: rt::Files> Files for RealFiles<'r, R> {
         match slot {
             Slot::Policy => self.policy.read(into),
             Slot::Map => self.map.read(into),
+            Slot::List => self.list.read(into),
         }
     }
 
@@ -125,6 +129,7 @@ impl<'r, R: rt::Files> Files for RealFiles<'r, R> {
         match slot {
             Slot::Policy => length_told(&self.policy.file),
             Slot::Map => length_told(&self.map.file),
+            Slot::List => length_told(&self.list.file),
         }
     }
 }

@@ -61,18 +61,20 @@ impl<'a> SureSlot<'a> {
 pub struct SureFiles<'a> {
     policy: SureSlot<'a>,
     map: SureSlot<'a>,
+    list: SureSlot<'a>,
 }
 
 impl<'a> SureFiles<'a> {
-    /// The bytes of the policy and those of the permission map. No slot was asked yet.
+    /// The bytes of the policy, and those of the permission map, which are the checklist's too. No slot was asked yet.
     pub fn new(policy: &'a [u8], map: &'a [u8]) -> SureFiles<'a>
         ensures asked { NoneAsked (sure_state result) }
         ensures turns { (slot : _) → (sure_state result slot).turns ≡ 0 }
-        ensures world { sure_world result ≡ holding policy.now map.now }
+        ensures world { sure_world result ≡ holding policy.now map.now map.now }
     {
         SureFiles {
             policy: SureSlot::new(policy),
             map: SureSlot::new(map),
+            list: SureSlot::new(map),
         }
     }
 }
@@ -92,6 +94,7 @@ impl<'a> Files for SureFiles<'a> {
         match slot {
             Slot::Policy => self.policy.open(),
             Slot::Map => self.map.open(),
+            Slot::List => self.list.open(),
         }
         Ok(())
     }
@@ -107,6 +110,7 @@ impl<'a> Files for SureFiles<'a> {
         match slot {
             Slot::Policy => self.policy.read(into),
             Slot::Map => self.map.read(into),
+            Slot::List => self.list.read(into),
         }
     }
 }

@@ -11,8 +11,10 @@ mod message;
 mod status;
 mod written;
 
+pub use check_list::{ListCause, ListFault};
 pub use least_word::{least, least_is_least};
 pub use message::report;
 pub use perm_map::{MapCause, MapFault};
+pub use pol_unheld::Unheld;
 pub use status::Status;
 pub use written::status_written;

@@ -5,9 +5,11 @@ ghost use Rattle.se_status.specs.Message.{message_of, part_text, pattern_words, 
 
 use crate::Status;
 use arrayvec::ArrayString;
+use check_list::ListFault;
 use itoa::Buffer;
 use perm_map::MapFault;
 use pol_fields::{Cause, Fault};
+use pol_unheld::Unheld;
 use se_items::write_all;
 use se_outside::{Failed, PatternKind, Sink, Slot};
 
@@ -32,6 +34,8 @@ pub fn report<E: Sink>(status: &Status, err: &mut E) -> Result<(), Failed>
         Status::TooLarge(slot) => say_slot(slot, ": too large", err),
         Status::BadPolicy(fault) => say_fault(&fault, err),
         Status::BadMap(fault) => say_map_fault(&fault, err),
+        Status::BadList(fault) => say_list_fault(&fault, err),
+        Status::CannotHold(version, unheld) => say_unheld(version, unheld, err),
         Status::UnknownName(word) => say_word(word, ": unknown name", err),
         Status::BadNumber(word) => say_word(word, ": not a number", err),
         Status::BadPattern(word, kind) => say_word(word, pattern_words(kind), err),
@@ -68,13 +72,46 @@ fn say_slot<E: Sink>(slot: Slot, after: &str, err: &mut E) -> Result<(), Failed>
 fn say_map_fault<E: Sink>(fault: &MapFault, err: &mut E) -> Result<(), Failed>
     ensures { Wrote (E.state err.old) (E.state err.new) (message_of (Status.BadMap fault.now)) result }
 {
-    let line = Part::Number(fault.line as u64);
+    say_line("map: line ", fault.line, fault.cause.word(), err)
+}
+
+// Writes the message of a checklist's fault.
+fn say_list_fault<E: Sink>(fault: &ListFault, err: &mut E) -> Result<(), Failed>
+    ensures { Wrote (E.state err.old) (E.state err.new) (message_of (Status.BadList fault.now)) result }
+{
+    say_line("checklist: line ", fault.line, fault.cause.word(), err)
+}
+
+// Writes a message on a line of a text.
+fn say_line<'t, E: Sink>(
+    before: &'t str,
+    line: u32,
+    cause: &'t str,
+    err: &mut E,
+) -> Result<(), Failed>
+    ensures { Wrote (E.state err.old) (E.state err.new) (said (before.now ∷ decimal line ∷ codes ": " ∷ cause.now ∷ [])) result }
+{
     say(
         &[
-            Part::Text("map: line "),
-            line,
+            Part::Text(before),
+            Part::Number(line as u64),
             Part::Text(": "),
-            Part::Text(fault.cause.word()),
+            Part::Text(cause),
+        ],
+        err,
+    )
+}
+
+// Writes what a version cannot hold.
+fn say_unheld<E: Sink>(version: u32, unheld: Unheld, err: &mut E) -> Result<(), Failed>
+    ensures { Wrote (E.state err.old) (E.state err.new) (message_of (Status.CannotHold version unheld)) result }
+{
+    say(
+        &[
+            Part::Text("version "),
+            Part::Number(version as u64),
+            Part::Text(" cannot hold: "),
+            Part::Text(unheld.word()),
         ],
         err,
     )
@@ -124,6 +161,7 @@ fn slot_word(slot: Slot) -> &'static str
     match slot {
         Slot::Policy => "policy",
         Slot::Map => "map",
+        Slot::List => "checklist",
     }
 }
 

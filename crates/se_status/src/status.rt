@@ -1,6 +1,8 @@
 // How a run ends.
+use check_list::ListFault;
 use perm_map::MapFault;
 use pol_fields::Fault;
+use pol_unheld::Unheld;
 use se_outside::{PatternKind, Slot};
 
 /// How a run ends.
@@ -18,6 +20,10 @@ pub enum Status {
     BadPolicy(Fault),
     /// The permission map is none: its first faulty line.
     BadMap(MapFault),
+    /// The checklist is none, or names what the policy does not have: its first faulty line.
+    BadList(ListFault),
+    /// The version of that number cannot hold the policy, and what of it.
+    CannotHold(u32, Unheld),
     /// A name of the word of that number is one that the policy does not have.
     UnknownName(u64),
     /// An element of the word of that number is no number and no range.
@@ -43,6 +49,8 @@ impl Status {
             Status::TooLarge(_)
             | Status::BadPolicy(_)
             | Status::BadMap(_)
+            | Status::BadList(_)
+            | Status::CannotHold(..)
             | Status::UnknownName(_)
             | Status::BadNumber(_)
             | Status::BadPattern(..) => 1,
