@@ -1,9 +1,9 @@
 -- The sources of a datum that are declared, by the bits of the datum and by the declared values.
 use Rattle.std.proofs.Common.{◌≡◌, ℕ, ◌+◌, ◌<◌, ◌≤◌, ◌^◌, Bool, true, false, inl, inr, ◌↔◌, List, [], ◌∷◌, ◌++◌, Some, None, refl, sym, ap, ◌∙◌, arith}
 use Rattle.std.specs.Prelude.{◌==◌, IsTrue, min, if◌then◌else◌}
-use Rattle.std.specs.List.{Contains, filter, list_any}
+use Rattle.std.specs.List.{Contains, filter}
 use Rattle.std.specs.Option.{option_to_list}
-use Rattle.std.proofs.lemmas.Bool.{cases_Bool, cond_both, eqb-true, eq-eqb, false≢true, or_cases, or_left, or_right}
+use Rattle.std.proofs.lemmas.Bool.{cases_Bool, cond_both, eqb-true, eq-eqb, false≢true}
 use Rattle.std.proofs.lemmas.List.Elements.{All-contains, Contains-append_cases, Contains-append_right}
 use Rattle.pol_bitmap.specs.declared.node.Node.{Node}
 use Rattle.pol_bitmap.specs.Nodes.{bits_of, has_bit}
@@ -13,6 +13,7 @@ use Rattle.pol_bitmap.proofs.Elements.{contains_nothing, contains_one, contains_
 use Rattle.pol_bitmap.proofs.SetLaws.{set_bits_fit}
 use Rattle.pol_convert.specs.Ungrouped.{is_source, declared_sources}
 use Rattle.pol_convert.specs.Inner.FoundSources.{source_of_bit, found_sources}
+use Rattle.pol_convert.proofs.Members.{any_from, any_gives}
 
 -- ---- one bit
 
@@ -87,20 +88,6 @@ stands_found declared (bit ∷ bits) value s = elim (Contains-append_cases (bit 
     here : (b : Bool) → bit ≡ s.bit → has_bit declared (bit + 1) ≡ b → Contains (option_to_list (if b then Some (bit + 1) else None) ++ found_sources declared bits) value
     here true e known = rw (← s.next, ← e) (contains_first (bit + 1) (found_sources declared bits))
     here false e known = absurd (false≢true (sym known ∙ ap (λ (c : ℕ). has_bit declared (c + 1)) e ∙ s.known))
-
-any_gives : (p : ℕ → Bool) (xs : List ℕ) → list_any p xs ≡ true → (x : ℕ) × Contains xs x × (p x ≡ true)
-any_gives p [] e = absurd (false≢true e)
-any_gives p (x ∷ xs) e = elim (or_cases (p x) (list_any p xs) e) [
-  | inl t ↦ (x, contains_first x xs, t)
-  | inr r ↦ let f = any_gives p xs r in (f.0, Contains-append_right (x ∷ []) xs f.0 f.1, f.2)
-]
-
-any_from : (p : ℕ → Bool) (xs : List ℕ) (x : ℕ) → Contains xs x → p x ≡ true → list_any p xs ≡ true
-any_from p [] x h e = absurd (contains_nothing x h)
-any_from p (y ∷ ys) x h e = elim (Contains-append_cases (y ∷ []) ys x h) [
-  | inl one ↦ or_left (p y) (list_any p ys) (ap p (contains_one x y one) ∙ e)
-  | inr r ↦ or_right (p y) (list_any p ys) (any_from p ys x r e)
-]
 
 found_declared : (declared sources : List Node) (value : ℕ) → Stands declared (bits_of sources) value → Contains (declared_sources declared sources) value
 found_declared declared sources value s =

@@ -2,5 +2,5 @@ mod DeclaredSources
 mod EntryLengths
 mod GroupRows
 mod MadeOfRows
-mod OneGrouping
-mod Parts
+pub mod Members
+pub mod Parts

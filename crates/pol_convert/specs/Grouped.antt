@@ -1,10 +1,9 @@
 -- The file-name transitions of a policy that has them one by one, in groups, as versions from 33 on have them (libsepol's
 -- filename_trans_read and filename_trans_write).
-use Rattle.std.specs.Prelude.{◌≡◌, ◌↔◌, ℕ, Bool, not, ◌-◌, ◌&&◌, ◌==◌, List, [], ◌∷◌, map, Contains}
+use Rattle.std.specs.Prelude.{ℕ, Bool, not, ◌-◌, ◌&&◌, ◌==◌, List, [], ◌∷◌, map}
 use Rattle.std.specs.Str.{bytes_eq}
-use Rattle.std.specs.List.{All, filter}
-use Rattle.pol_bitmap.specs.Nodes.{bits_of}
-use Rattle.pol_bitmap.specs.Sets.{IsSet}
+use Rattle.std.specs.List.{filter}
+use Rattle.set_nodes.specs.SetNodes.{set_of_values}
 use Rattle.pol_trans.specs.declared.name_trans_rec.NameTransRec.{NameTransRec}
 use Rattle.pol_trans.specs.declared.name_datum_rec.NameDatumRec.{NameDatumRec}
 use Rattle.pol_trans.specs.declared.name_group_rec.NameGroupRec.{NameGroupRec}
@@ -26,22 +25,18 @@ same_part a b = bytes_eq a.name b.name && (a.target == b.target) && (a.class == 
 abbrev pub part_of_entry : NameTransRec → CommonPart
 part_of_entry entry = record { name = entry.name; target = entry.target; class = entry.class }
 
-abbrev pub part_of_group : NameGroupRec → CommonPart
-part_of_group group = record { name = group.name; target = group.target; class = group.class }
+-- the datum of entries that have a default: bit v - 1 stands for the source v
+abbrev pub datum_of : ℕ → List NameTransRec → NameDatumRec
+datum_of default entries = record { sources = set_of_values (map (λ entry. entry.source - 1) entries); default = default }
 
--- a datum has the sources of some entries: bit v - 1 stands for the value v
-pub record HasSourcesOf (entries : List NameTransRec) (datum : NameDatumRec) : Type 0 where
-  pub form : IsSet datum.sources
-  pub each : (bit : ℕ) → Contains (bits_of datum.sources) bit ↔ Contains (map (λ entry. entry.source - 1) entries) bit
+-- a datum for each default of entries, in the order in which the defaults are first met
+unfoldable pub data_of : List NameTransRec → List NameDatumRec
+data_of entries = map (λ default. datum_of default (filter (λ entry. default == entry.default) entries)) (firsts ◌==◌ (map (λ entry. entry.default) entries))
 
--- there is a datum for each default of some entries, in the order in which the defaults are first met, and it has the sources of the
--- entries of that default
-pub record AreDataOf (entries : List NameTransRec) (datums : List NameDatumRec) : Type 0 where
-  pub defaults : map (λ datum. datum.default) datums ≡ firsts ◌==◌ (map (λ entry. entry.default) entries)
-  pub each : All (λ datum. HasSourcesOf (filter (λ entry. datum.default == entry.default) entries) datum) datums
+-- the group of entries that have a name, a target and a class
+abbrev pub group_of : CommonPart → List NameTransRec → NameGroupRec
+group_of part entries = record { name = part.name; target = part.target; class = part.class; datums = data_of entries }
 
--- there is a group for each name, target and class of the entries, in the order in which they are first met, and its data are those of
--- the entries that have them
-pub record IsGrouped (entries : List NameTransRec) (groups : List NameGroupRec) : Type 0 where
-  pub parts : map part_of_group groups ≡ firsts same_part (map part_of_entry entries)
-  pub each : All (λ group. AreDataOf (filter (λ entry. same_part (part_of_group group) (part_of_entry entry)) entries) group.datums) groups
+-- a group for each name, target and class of entries, in the order in which they are first met
+unfoldable pub grouped : List NameTransRec → List NameGroupRec
+grouped entries = map (λ part. group_of part (filter (λ entry. same_part part (part_of_entry entry)) entries)) (firsts same_part (map part_of_entry entries))

@@ -2,13 +2,13 @@
 
 ghost use Rattle.std.specs.Prelude.{◌≡◌, ◌≤◌, IfOk, map};
 ghost use Rattle.std.specs.List.{All};
-ghost use Rattle.pol_convert.specs.Grouped.{AreDataOf, HasSourcesOf, IsGrouped, part_of_group};
+ghost use Rattle.pol_convert.specs.Grouped.{data_of, datum_of, group_of, grouped};
 ghost use Rattle.pol_convert.specs.Inner.Parts.{shown};
 
 use crate::rows::{CommonKey, rows_by_default, rows_by_part};
-use pol_bitmap::Set;
 use pol_cursor::{ByteList, OwnedList};
 use pol_trans::{NameDatumRec, NameGroupRec, NameTransRec};
+use set_nodes::set_of_values;
 use std::alloc::{AllocError, Global};
 
 /// The groups of entries: one for each name, target and class, with a datum for each default, both in the order in which they are
@@ -17,7 +17,7 @@ use std::alloc::{AllocError, Global};
 /// The time is linear in the entries and their names, as far as hashing is, and for the sources of each datum that of a sort.
 pub fn group(alloc: Global, list: &[NameTransRec]) -> Result<Vec<NameGroupRec>, AllocError>
     requires { All (λ entry. 1 ≤ entry.source) list.now }
-    ensures { IfOk result (λ groups. IsGrouped list.now groups.items) }
+    ensures { IfOk result (λ groups. groups.items ≡ grouped list.now) }
 {
     let (set, rows) = rows_by_part(alloc, list)?;
     let parts = set.as_slice();
@@ -35,8 +35,7 @@ fn group_of(
     entries: &[&NameTransRec],
 ) -> Result<NameGroupRec, AllocError>
     requires { All (λ entry. 1 ≤ entry.source) (map (λ entry. entry.now) entries.now) }
-    ensures part { IfOk result (λ group. part_of_group group ≡ shown part.now) }
-    ensures datums { IfOk result (λ group. AreDataOf (map (λ entry. entry.now) entries.now) group.datums) }
+    ensures { IfOk result (λ group. group ≡ group_of (shown part.now) (map (λ entry. entry.now) entries.now)) }
 {
     let datums = OwnedList::from_vec(data_of(alloc, entries)?);
     Ok(NameGroupRec {
@@ -50,7 +49,7 @@ fn group_of(
 // A datum for each default of entries.
 fn data_of(alloc: Global, entries: &[&NameTransRec]) -> Result<Vec<NameDatumRec>, AllocError>
     requires { All (λ entry. 1 ≤ entry.source) (map (λ entry. entry.now) entries.now) }
-    ensures { IfOk result (λ datums. AreDataOf (map (λ entry. entry.now) entries.now) datums.items) }
+    ensures { IfOk result (λ datums. datums.items ≡ data_of (map (λ entry. entry.now) entries.now)) }
 {
     let (set, rows) = rows_by_default(alloc, entries)?;
     let defaults = set.as_slice();
@@ -68,13 +67,12 @@ fn datum_of(
     entries: &[&NameTransRec],
 ) -> Result<NameDatumRec, AllocError>
     requires { All (λ entry. 1 ≤ entry.source) (map (λ entry. entry.now) entries.now) }
-    ensures default { IfOk result (λ datum. datum.default ≡ default) }
-    ensures sources { IfOk result (HasSourcesOf (map (λ entry. entry.now) entries.now)) }
+    ensures { IfOk result (λ datum. datum ≡ datum_of default (map (λ entry. entry.now) entries.now)) }
 {
     let mut bits = Vec::with_capacity(alloc, entries.len())?;
     for entry in entries {
         bits.push(entry.source - 1)?;
     }
-    let sources = Set::from_values(alloc, bits)?;
+    let sources = set_of_values(alloc, bits)?;
     Ok(NameDatumRec { sources, default })
 }

@@ -10,11 +10,9 @@
 #![tactic(auto)]
 
 mod entries;
-mod group_law;
 mod groups;
 mod rows;
 mod sources;
 
 pub use entries::{ungroup, ungrouped_length};
-pub use group_law::groups_have_law;
 pub use groups::group;

@@ -1,3 +1,11 @@
-mod Answering
+mod DeclaredSources
+mod DeclaredTypes
 mod EmptySets
+mod GroupedRules
+mod KeptLists
+mod KeptRules
+mod Members
+mod NameForms
+mod RulesOfTrees
 mod TreeLengths
+mod UngroupedRules

@@ -1,8 +1,8 @@
 -- How many bytes a tree has with more file-name transitions.
-use Rattle.std.proofs.Common.{◌≡◌, ℕ, ◌+◌, ◌-◌, ◌^◌, ◌<◌, ◌≤◌, Bool, nat_lt, inl, inr, true, false, List, [], ◌++◌, length, Ok, Err, refl, sym, subst, ◌∙◌, arith, if◌then◌else◌}
+use Rattle.std.proofs.Common.{◌≡◌, ℕ, ◌+◌, ◌-◌, ◌^◌, ◌<◌, ◌≤◌, Bool, nat_lt, inl, inr, true, false, Some, None, List, [], ◌++◌, length, refl, sym, ap, ◌∙◌, arith, if◌then◌else◌}
 use Rattle.std.specs.Prelude.{min}
 use Rattle.pol_fields.specs.declared.limits.TheConstants.{MAX_POLICY_BYTES}
-use Rattle.std.proofs.lemmas.Bool.{cases_lt, false≢true, lt-ltb, ltb-true}
+use Rattle.std.proofs.lemmas.Bool.{cases_lt, lt-ltb, ltb-true}
 use Rattle.std.proofs.lemmas.List.{length-append}
 use Rattle.pol_cursor.specs.Parts.{spell_counted}
 use Rattle.pol_cursor.proofs.Numbers.{length-bytes_of}
@@ -14,10 +14,9 @@ use Rattle.pol_trans.specs.NameTransitions.{has_groups}
 use Rattle.pol_convert.specs.Ungrouped.{entries_length, ungrouped}
 use Rattle.pol_tree.specs.declared.Tree.{Tree}
 use Rattle.pol_tree.specs.TreeSpelling.{spell_front, spell_symbols, spell_rules, spell_contexts, spell_labels, spell}
-use Rattle.pol_versions.specs.Inner.Steps.{bare, IsWithEntries}
-use Rattle.pol_versions.specs.Conversion.{AreValuesOf, IsWithinLimit}
-use Rattle.pol_versions.specs.declared.errors.ConvertError.TheVariants.{CannotHold}
-use Rattle.pol_versions.specs.declared.errors.Unheld.TheVariants.{TooLong}
+use Rattle.pol_versions.specs.Inner.Steps.{bare}
+use Rattle.pol_versions.specs.Conversion.{too_long, values_of_types, with_entries}
+use Rattle.pol_unheld.specs.declared.Unheld.TheVariants.{TooLong}
 
 counted_length : (entries : List NameTransRec) → length (spell_counted spell_name_trans entries) ≡ length (spell_counted spell_name_trans []) + entries_length entries
 counted_length entries = grind (
@@ -60,7 +59,7 @@ entries_add tree entries e =
     rw (same_front tree entries, same_front tree [], same_symbols tree entries, same_symbols tree [], same_labels tree entries, same_labels tree [])
     (around (spell_front tree) (spell_symbols tree) (spell_rules (record tree { nametrans = entries })) (spell_labels tree) (spell_rules (record tree { nametrans = [] })) (entries_length entries) (rules_length tree entries e))
 
--- ---- whether a tree with entries is within the limit
+-- ---- whether a tree is within the limit
 
 above : (a b : ℕ) → a < b → nat_lt a b ≡ true
 above a b lt = lt-ltb a b lt
@@ -68,44 +67,25 @@ above a b lt = lt-ltb a b lt
 below : (a b : ℕ) → b ≤ a → nat_lt a b ≡ false
 below a b le = grind (arith, ltb-true)
 
-not_above : (a b : ℕ) → nat_lt a b ≡ false → b ≤ a
-not_above a b e = elim (cases_lt a b) [
-  | inl lt ↦ absurd (false≢true (sym e ∙ above a b lt))
-  | inr le ↦ le
+-- a count that stops at the greatest number
+pub count_stops : (bytes : ℕ) → nat_lt MAX_POLICY_BYTES (min bytes (2 ^ 64 - 1)) ≡ nat_lt MAX_POLICY_BYTES bytes
+count_stops bytes = elim (cases_lt MAX_POLICY_BYTES bytes) [
+  | inl long ↦ above MAX_POLICY_BYTES (min bytes (2 ^ 64 - 1)) (omega (arith, long)) ∙ sym (above MAX_POLICY_BYTES bytes long)
+  | inr fits ↦ below MAX_POLICY_BYTES (min bytes (2 ^ 64 - 1)) (omega (arith, fits)) ∙ sym (below MAX_POLICY_BYTES bytes fits)
 ]
 
-not_below : (a b : ℕ) → nat_lt a b ≡ true → a < b
-not_below a b e = elim (cases_lt a b) [
-  | inl lt ↦ lt
-  | inr le ↦ absurd (false≢true (sym (below a b le) ∙ e))
-]
-
--- sums that stop at the greatest number
-pub sum_stops : (a others : ℕ) → nat_lt MAX_POLICY_BYTES (min (min a (2 ^ 64 - 1) + others) (2 ^ 64 - 1)) ≡ nat_lt MAX_POLICY_BYTES (others + a)
-sum_stops a others = elim (cases_lt MAX_POLICY_BYTES (others + a)) [
-  | inl long ↦ above MAX_POLICY_BYTES (min (min a (2 ^ 64 - 1) + others) (2 ^ 64 - 1)) (omega (arith, long)) ∙ sym (above MAX_POLICY_BYTES (others + a) long)
-  | inr fits ↦ below MAX_POLICY_BYTES (min (min a (2 ^ 64 - 1) + others) (2 ^ 64 - 1)) (omega (arith, fits)) ∙ sym (below MAX_POLICY_BYTES (others + a) fits)
-]
+-- the sum of two such counts
+pub sum_stops : (a others : ℕ) → nat_lt MAX_POLICY_BYTES (min (min a (2 ^ 64 - 1) + min others (2 ^ 64 - 1)) (2 ^ 64 - 1)) ≡ nat_lt MAX_POLICY_BYTES (others + a)
+sum_stops a others =
+    let sum : min (min a (2 ^ 64 - 1) + min others (2 ^ 64 - 1)) (2 ^ 64 - 1) ≡ min (others + a) (2 ^ 64 - 1) = omega arith in
+    ap (λ (n : ℕ). nat_lt MAX_POLICY_BYTES n) sum ∙ count_stops (others + a)
 
 -- ---- the answer with entries
 
-module _ (tree : Tree) (declared : List Node) (values : AreValuesOf tree.types declared) (plain : has_groups tree.version ≡ false) (long : Bool) (said : long ≡ nat_lt MAX_POLICY_BYTES (length (spell (bare tree)) + entries_length (ungrouped declared tree.namegroup))) where
-  abbrev filled : Tree
-  filled = record (bare tree) { nametrans = ungrouped declared tree.namegroup }
-
-  has_them : IsWithEntries tree filled
-  has_them = record { declared = declared; values = values; others = refl }
-
-  bytes : length (spell filled) ≡ length (spell (bare tree)) + entries_length (ungrouped declared tree.namegroup)
-  bytes = entries_add (bare tree) (ungrouped declared tree.namegroup) plain
-
-  pub too_long : long ≡ true → IsWithinLimit (IsWithEntries tree) (Err (CannotHold TooLong))
-  too_long over = (filled, has_them, rw bytes (not_below MAX_POLICY_BYTES (length (spell (bare tree)) + entries_length (ungrouped declared tree.namegroup)) (sym said ∙ over)))
-
-  within : long ≡ false → IsWithinLimit (IsWithEntries tree) (Ok filled)
-  within under = (has_them, rw bytes (not_above MAX_POLICY_BYTES (length (spell (bare tree)) + entries_length (ungrouped declared tree.namegroup)) (sym said ∙ under)))
-
-  pub with_them : (old : Tree) (list : List NameTransRec) → old ≡ bare tree → list ≡ ungrouped declared tree.namegroup → long ≡ false → IsWithinLimit (IsWithEntries tree) (Ok (record old { nametrans = list }))
-  with_them old list e f under =
-      subst (λ (t : Tree). IsWithinLimit (IsWithEntries tree) (Ok (record t { nametrans = list }))) (sym e)
-      (subst (λ (ns : List NameTransRec). IsWithinLimit (IsWithEntries tree) (Ok (record (bare tree) { nametrans = ns }))) (sym f) (within under))
+-- it is too long exactly where the count said it
+pub with_them_too_long : (tree : Tree) (declared : List Node) (long : Bool) → has_groups tree.version ≡ false → declared ≡ values_of_types tree.types
+    → long ≡ nat_lt MAX_POLICY_BYTES (length (spell (bare tree)) + entries_length (ungrouped declared tree.namegroup)) → too_long (with_entries tree) ≡ (if long then Some TooLong else None)
+unfolding too_long
+with_them_too_long tree declared long plain values said =
+    let bytes = entries_add (bare tree) (ungrouped (values_of_types tree.types) tree.namegroup) plain in
+    rw (said, values, bytes) refl

@@ -1,9 +1,8 @@
 -- A policy at another version: what libsepol's policydb_write writes otherwise by the version.
-use Rattle.std.specs.Prelude.{◌≡◌, ◌↔◌, ℕ, ◌≤◌, ◌<◌, Bool, true, false, Option, Some, None, Result, Ok, Err, List, [], length, map, Contains, if◌then◌else◌}
+use Rattle.std.specs.Prelude.{◌≡◌, ℕ, Bool, true, false, nat_lt, Option, Some, None, Result, Ok, Err, List, [], length, map, if◌then◌else◌}
 use Rattle.pol_fields.specs.declared.limits.TheConstants.{MAX_POLICY_BYTES}
 use Rattle.pol_bitmap.specs.declared.Node.{Node}
-use Rattle.pol_bitmap.specs.Nodes.{bits_of}
-use Rattle.pol_bitmap.specs.Sets.{IsSet}
+use Rattle.set_nodes.specs.SetNodes.{set_of_values}
 use Rattle.pol_constraints.specs.declared.ConstraintItem.{ConstraintItem}
 use Rattle.pol_constraints.specs.declared.ConstraintRec.{ConstraintRec}
 use Rattle.pol_constraints.specs.declared.TypeSet.{TypeSet}
@@ -11,14 +10,25 @@ use Rattle.pol_constraints.specs.ConstraintRecord.{has_type_set}
 use Rattle.pol_datums.specs.declared.TypeRec.{TypeRec}
 use Rattle.pol_classes.specs.declared.ClassRec.{ClassRec}
 use Rattle.pol_trans.specs.NameTransitions.{has_groups}
-use Rattle.pol_convert.specs.Grouped.{IsGrouped}
+use Rattle.pol_convert.specs.Grouped.{grouped}
 use Rattle.pol_convert.specs.Ungrouped.{ungrouped}
+use Rattle.pol_file.specs.declared.Parts.{Parts}
+use Rattle.pol_file.specs.Acceptance.{accept}
 use Rattle.pol_tree.specs.declared.Tree.{Tree}
+use Rattle.pol_tree.specs.PolicyTree.{tree_of}
 use Rattle.pol_tree.specs.TreeSpelling.{spell}
+use Rattle.pol_unheld.specs.declared.Unheld.{Unheld}
+use Rattle.pol_unheld.specs.declared.Unheld.TheVariants.{TooLong}
+use Rattle.pol_versions.specs.Losses.{lost_part}
 use Rattle.pol_versions.specs.declared.errors.ConvertError.{ConvertError}
 use Rattle.pol_versions.specs.declared.errors.ConvertError.TheVariants as errors
-use Rattle.pol_versions.specs.declared.errors.Unheld.{Unheld}
-use Rattle.pol_versions.specs.declared.errors.Unheld.TheVariants as reasons
+
+-- a tree is that of a policy: some file is accepted as a policy of this tree
+pub record IsPolicyTree (tree : Tree) : Type 0 where
+  pub bytes : List ℕ
+  pub policy : Parts
+  pub accepted : accept bytes ≡ Ok policy
+  pub same : tree_of policy ≡ tree
 
 -- ---- the type sets of constraints
 
@@ -37,61 +47,51 @@ constraint_at version constraint = record constraint { items = map (item_at vers
 abbrev pub class_at : ℕ → ClassRec → ClassRec
 class_at version class = record class { constraints = map (constraint_at version) class.constraints; validatetrans = map (constraint_at version) class.validatetrans }
 
--- ---- the file-name transitions
-
--- the values of type records: those of types and attributes, since an alias has the value of its type
-pub record AreValuesOf (types : List TypeRec) (declared : List Node) : Type 0 where
-  pub form : IsSet declared
-  pub each : (value : ℕ) → Contains (bits_of declared) value ↔ Contains (map (λ type. type.value) types) value
-
--- entries in place of groups: those of the sources that are declared
-pub record HasEntriesOf (old new : Tree) : Type 0 where
-  pub declared : List Node
-  pub values : AreValuesOf old.types declared
-  pub nametrans : new.nametrans ≡ ungrouped declared old.namegroup
-  pub namegroup : new.namegroup ≡ []
-
--- groups in place of entries
-pub record HasGroupsOf (old new : Tree) : Type 0 where
-  pub nametrans : new.nametrans ≡ []
-  pub namegroup : IsGrouped old.nametrans new.namegroup
-
--- the same entries and groups
-pub record HasNamesOf (old new : Tree) : Type 0 where
-  pub nametrans : new.nametrans ≡ old.nametrans
-  pub namegroup : new.namegroup ≡ old.namegroup
-
--- a version that has groups or has not, after one that had them or had not
-abbrev pub AreNamesBetween : Bool → Bool → Tree → Tree → Type 0
-AreNamesBetween true false old new = HasEntriesOf old new
-AreNamesBetween false true old new = HasGroupsOf old new
-AreNamesBetween true true old new = HasNamesOf old new
-AreNamesBetween false false old new = HasNamesOf old new
-
--- ---- a whole tree
-
 -- a tree at another version, but for its file-name transitions
 abbrev pub tree_at : ℕ → Tree → Tree
 tree_at version tree = record tree { version = version; classes = map (class_at version) tree.classes }
 
--- A tree is another one at a version: the records are the same, but for the type sets of constraints and the form of the file-name
--- transitions.
-pub record IsConverted (old : Tree) (version : ℕ) (new : Tree) : Type 0 where
-  pub others : new ≡ record (tree_at version old) { nametrans = new.nametrans; namegroup = new.namegroup }
-  pub names : AreNamesBetween (has_groups old.version) (has_groups version) old new
+-- ---- the file-name transitions
+
+-- the values of type records: those of types and attributes, since an alias has the value of its type
+abbrev pub values_of_types : List TypeRec → List Node
+values_of_types types = set_of_values (map (λ type. type.value) types)
+
+-- entries in place of groups: those of the sources that are declared
+abbrev pub with_entries : Tree → Tree
+with_entries tree = record tree { nametrans = ungrouped (values_of_types tree.types) tree.namegroup; namegroup = [] }
+
+-- groups in place of entries
+abbrev pub with_groups : Tree → Tree
+with_groups tree = record tree { nametrans = []; namegroup = grouped tree.nametrans }
+
+-- from a version that has groups or has not to one that has them or has not
+abbrev pub with_names : Bool → Bool → Tree → Tree
+with_names true false tree = with_entries tree
+with_names false true tree = with_groups tree
+with_names true true tree = tree
+with_names false false tree = tree
+
+-- ---- a whole tree
+
+-- The tree at another version: the records are the same, but for the type sets of constraints and the form of the file-name transitions.
+unfoldable pub converted : Tree → ℕ → Tree
+converted tree version = with_names (has_groups tree.version) (has_groups version) (tree_at version tree)
 
 -- no file of a policy is as long
-abbrev pub IsTooLong : Tree → Type 0
-IsTooLong tree = MAX_POLICY_BYTES < length (spell tree)
+unfoldable pub too_long : Tree → Option Unheld
+too_long tree = if nat_lt MAX_POLICY_BYTES (length (spell tree)) then Some TooLong else None
 
--- the answer is such a tree, unless one is too long, where memory suffices
-abbrev pub IsWithinLimit : (Tree → Type 0) → Result Tree ConvertError → Type 0
-IsWithinLimit P (Ok new) = P new × (length (spell new) ≤ MAX_POLICY_BYTES)
-IsWithinLimit P (Err errors.Memory) = Unit {0}
-IsWithinLimit P (Err (errors.CannotHold reasons.TooLong)) = (new : Tree) × P new × IsTooLong new
-IsWithinLimit P (Err (errors.CannotHold part)) = ⊥
+abbrev pub unless_lost : Option Unheld → Option Unheld → Option Unheld
+unless_lost (Some part) others = Some part
+unless_lost None others = others
 
--- the answer names the part that the version has no room for, or else is such a tree
-abbrev pub Answers : Option Unheld → (Tree → Type 0) → Result Tree ConvertError → Type 0
-Answers (Some part) P result = result ≡ Err (errors.CannotHold part)
-Answers None P result = IsWithinLimit P result
+-- what a version cannot hold of a tree: the first part that it has no room for, or the number of the bytes
+abbrev pub cannot : Tree → ℕ → Option Unheld
+cannot tree version = unless_lost (lost_part tree version) (too_long (converted tree version))
+
+-- The answer is the tree exactly where nothing cannot be held, and else what cannot, where memory suffices.
+abbrev pub Converts : Option Unheld → Tree → Result Tree ConvertError → Type 0
+Converts unheld new (Ok tree) = (unheld ≡ None) × (tree ≡ new)
+Converts unheld new (Err errors.Memory) = Unit {0}
+Converts unheld new (Err (errors.CannotHold part)) = unheld ≡ Some part

@@ -1,3 +1,4 @@
-pub mod Inner
-pub mod Losses
 pub mod Conversion
+pub mod Inner
+pub mod KeptRecords
+pub mod Losses

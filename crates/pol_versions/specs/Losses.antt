@@ -7,8 +7,8 @@ use Rattle.pol_avtab.specs.XPerms.{xperms_of}
 use Rattle.pol_conditionals.specs.declared.CondNodeRec.{CondNodeRec}
 use Rattle.pol_contexts.specs.ContextTables.{has_infiniband}
 use Rattle.pol_tree.specs.declared.Tree.{Tree}
-use Rattle.pol_versions.specs.declared.errors.Unheld.{Unheld}
-use Rattle.pol_versions.specs.declared.errors.Unheld.TheVariants.{Extended, ConditionalExtended, Infiniband}
+use Rattle.pol_unheld.specs.declared.Unheld.{Unheld}
+use Rattle.pol_unheld.specs.declared.Unheld.TheVariants.{Extended, ConditionalExtended, Infiniband}
 
 -- ---- extended access vectors
 

@@ -1,36 +1,39 @@
 // A tree at another version.
-ghost use Rattle.std.specs.Prelude.{◌≡◌, ◌≤◌, ◌+◌, false, nat_lt, IfOk, length};
+ghost use Rattle.std.specs.Prelude.{◌≡◌, ◌≤◌, ◌+◌, false, nat_lt, None, IfOk, length};
 ghost use Rattle.std.specs.List.{All};
 ghost use Rattle.pol_trans.specs.NameTransitions.{has_groups};
 ghost use Rattle.pol_convert.specs.Ungrouped.{entries_length, ungrouped};
 ghost use Rattle.pol_fields.specs.declared.limits.TheConstants.{MAX_POLICY_BYTES};
 ghost use Rattle.pol_tree.specs.TreeSpelling.{spell};
-ghost use Rattle.pol_versions.specs.Conversion.{tree_at, Answers, IsConverted, IsWithinLimit};
+ghost use Rattle.pol_versions.specs.Conversion.{cannot, converted, too_long, tree_at, with_entries, with_groups, Converts, IsPolicyTree};
 ghost use Rattle.pol_versions.specs.Losses.{lost_part};
-ghost use Rattle.pol_versions.specs.Inner.Steps.{bare, IsWithEntries, IsWithGroups};
+ghost use Rattle.pol_versions.specs.Inner.Steps.{bare};
 
 use crate::constraints::classes_at;
 use crate::declared::values_of_types;
-use crate::errors::{ConvertError, Unheld};
+use crate::errors::ConvertError;
 use crate::losses::lost_part;
 use pol_bitmap::Set;
 use pol_convert::{group, ungroup, ungrouped_length};
-use pol_cursor::{OwnedList, Written};
+use pol_cursor::OwnedList;
 use pol_fields::limits::MAX_POLICY_BYTES;
 use pol_trans::{NameGroupRec, has_groups};
 use pol_tree::Tree;
+use pol_unheld::Unheld;
 use std::alloc::{AllocError, Global};
 use std::mem::replace;
+use tree_pages::tree_length;
 
-/// The tree at a version of the format, from 28 to 34: the same records, but for what is said below. The error is the first part that
-/// the version cannot hold.
+/// The tree of a policy at a version of the format, from 28 to 34: the same records, but for what is said below. The error is the first
+/// part that the version cannot hold.
 ///
 /// From version 33 on file-name transitions stand in groups, and below it one by one; a source of a group that no type declares has no
 /// rule, and is left out there. From version 29 on the items of constraints have the types that they were written with; where none were
-/// kept, they are empty. How long the entries of groups are is counted before one is made.
+/// kept, they are empty. How long the entries of groups are is counted before one is made, and the bytes of the others are counted record
+/// by record.
 pub fn convert(alloc: Global, tree: Tree, version: u32) -> Result<Tree, ConvertError>
-    requires { All (λ entry. 1 ≤ entry.source) tree.nametrans }
-    ensures { Answers (lost_part tree version) (IsConverted tree version) result }
+    requires { IsPolicyTree tree }
+    ensures { Converts (cannot tree version) (converted tree version) result }
 {
     match lost_part(&tree, version) {
         Some(part) => Err(ConvertError::CannotHold(part)),
@@ -39,9 +42,10 @@ pub fn convert(alloc: Global, tree: Tree, version: u32) -> Result<Tree, ConvertE
 }
 
 // The tree at a version that has room for its parts, unless it has too many bytes then.
+#[tactic(auto, unfolding(crate::specs::Conversion::converted))]
 fn converted(alloc: Global, tree: Tree, version: u32) -> Result<Tree, ConvertError>
-    requires { All (λ entry. 1 ≤ entry.source) tree.nametrans }
-    ensures { IsWithinLimit (IsConverted tree version) result }
+    requires { IsPolicyTree tree }
+    ensures { Converts (too_long (converted tree version)) (converted tree version) result }
 {
     let grouped = has_groups(tree.version);
     let tree = at_version(alloc, tree, version)?;
@@ -68,7 +72,7 @@ fn at_version(alloc: Global, tree: Tree, version: u32) -> Result<Tree, AllocErro
 // The tree with groups in place of entries.
 fn with_groups(alloc: Global, tree: Tree) -> Result<Tree, AllocError>
     requires { All (λ entry. 1 ≤ entry.source) tree.nametrans }
-    ensures { IfOk result (IsWithGroups tree) }
+    ensures { IfOk result (λ new. new ≡ with_groups tree) }
 {
     let mut tree = tree;
     let groups = group(alloc, tree.nametrans.as_slice())?;
@@ -80,7 +84,7 @@ fn with_groups(alloc: Global, tree: Tree) -> Result<Tree, AllocError>
 // The tree with entries in place of groups, unless it has too many bytes with them.
 fn with_entries(alloc: Global, tree: Tree) -> Result<Tree, ConvertError>
     requires { has_groups tree.version ≡ false }
-    ensures { IsWithinLimit (IsWithEntries tree) result }
+    ensures { Converts (too_long (with_entries tree)) (with_entries tree) result }
 {
     let declared = values_of_types(alloc, tree.types.as_slice())?;
     let (tree, groups) = without_names(alloc, tree);
@@ -113,26 +117,18 @@ fn is_too_long(
 ) -> Result<bool, AllocError>
     ensures { IfOk result (λ long. long ≡ nat_lt MAX_POLICY_BYTES (length (spell tree.now) + entries_length (ungrouped declared.now groups.now))) }
 {
-    let others = spelled_length(alloc, tree)?;
+    let others = tree_length(alloc, tree)?;
     let entries = ungrouped_length(groups, declared);
     Ok(entries.saturating_add(others) > MAX_POLICY_BYTES as u64)
 }
 
 // The tree, unless it has too many bytes.
+#[tactic(auto, unfolding(crate::specs::Conversion::too_long))]
 fn within_limit(alloc: Global, tree: Tree) -> Result<Tree, ConvertError>
-    ensures { IsWithinLimit (λ new. new ≡ tree) result }
+    ensures { Converts (too_long tree) tree result }
 {
-    if spelled_length(alloc, &tree)? > MAX_POLICY_BYTES as u64 {
+    if tree_length(alloc, &tree)? > MAX_POLICY_BYTES as u64 {
         return Err(ConvertError::CannotHold(Unheld::TooLong));
     }
     Ok(tree)
-}
-
-// How many bytes a tree has in a file.
-fn spelled_length(alloc: Global, tree: &Tree) -> Result<u64, AllocError>
-    ensures { IfOk result (λ bytes. bytes ≡ length (spell tree.now)) }
-{
-    let mut bytes = Vec::new(alloc);
-    tree.write(&mut bytes)?;
-    Ok(bytes.len() as u64)
 }

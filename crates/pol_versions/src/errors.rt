@@ -1,18 +1,6 @@
 // Why a policy cannot have another version.
+use pol_unheld::Unheld;
 use std::alloc::AllocError;
-
-/// What a version cannot hold of a policy.
-#[derive(Clone, Copy, Debug, PartialEq, Eq)]
-pub enum Unheld {
-    /// Extended access vectors, which version 30 brought.
-    Extended,
-    /// Extended access vectors under a condition, which version 34 brought.
-    ConditionalExtended,
-    /// The tables of InfiniBand, which version 31 brought.
-    Infiniband,
-    /// More than 67,108,864 bytes.
-    TooLong,
-}
 
 /// Why a tree was not converted.
 #[derive(Debug, Drop, thiserror::Error)]

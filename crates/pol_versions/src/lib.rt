@@ -11,7 +11,10 @@ mod constraints;
 mod conversion;
 mod declared;
 mod errors;
+mod keep_laws;
 mod losses;
 
 pub use conversion::convert;
-pub use errors::{ConvertError, Unheld};
+pub use errors::ConvertError;
+pub use keep_laws::{conversions_keep_records, conversions_keep_rules};
+pub use pol_unheld::Unheld;

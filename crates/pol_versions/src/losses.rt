@@ -3,12 +3,12 @@ ghost use Rattle.std.specs.Prelude.{◌≡◌};
 ghost use Rattle.std.specs.List.{list_any};
 ghost use Rattle.pol_versions.specs.Losses.{has_extended, has_extended_node, is_extended_node, is_extended_rule, lost_part};
 
-use crate::errors::Unheld;
 use pol_avtab::{AvPart, AvRec};
 use pol_conditionals::CondNodeRec;
 use pol_contexts::has_infiniband;
 use pol_fields::codes::{POLICYDB_VERSION_COND_XPERMS, POLICYDB_VERSION_XPERMS_IOCTL};
 use pol_tree::Tree;
+use pol_unheld::Unheld;
 
 /// The first part of a tree that the version has no room for.
 pub fn lost_part(tree: &Tree, version: u32) -> Option<Unheld>

@@ -1,0 +1,2 @@
+pub mod RisingValues
+pub mod SetBits
