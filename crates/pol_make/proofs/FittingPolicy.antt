@@ -10,14 +10,14 @@ use Rattle.pol_tree.specs.TreeRanges.{TreeFits}
 use Rattle.pol_make.specs.MadeSymbols.{made_nprims}
 use Rattle.pol_make.specs.MadeRules.{allow, made_rules, made_sids, made_rows}
 use Rattle.pol_make.specs.Made.{made}
-use Rattle.pol_make.proofs.GrantedSets.{set-fits}
+use Rattle.pol_moved.proofs.GrantedSets.{set-fits}
 use Rattle.pol_make.proofs.GrantedFew.{no-bits, one-bit, commons-fit, roles-fit, booleans-fit, levels-fit}
 use Rattle.pol_make.proofs.GrantedTypes.{types-fit, categories-fit}
 use Rattle.pol_make.proofs.GrantedClasses.{classes-fit}
 use Rattle.pol_make.proofs.GrantedUsers.{users-fit}
 use Rattle.pol_make.proofs.GrantedRules.{IsMadeRule, rules-made, length-made_rules}
 use Rattle.pol_make.proofs.GrantedRows.{IsRow, rows-made}
-use Rattle.pol_make.proofs.ListFacts.{all-so}
+use Rattle.pol_moved.proofs.ListFacts.{all-so}
 
 rule-fits : (n : ℕ) → n ≤ 5000 → (av : AvRec) → IsMadeRule n av → AvFits av
 rule-fits n most av made =

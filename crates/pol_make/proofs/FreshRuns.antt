@@ -6,7 +6,7 @@ use Rattle.std.specs.Str.{bytes_eq}
 use Rattle.std.proofs.lemmas.List.{append-nil}
 use Rattle.std.proofs.lemmas.List.Folds.{list_any-append}
 use Rattle.pol_symtab.specs.Claims.{Claims, no_claims, has_name, has_value, with_member, with_claim}
-use Rattle.pol_make.proofs.Granted.{EachUnder}
+use Rattle.pol_moved.proofs.Granted.{EachUnder}
 
 -- ---- a run of records in its table
 

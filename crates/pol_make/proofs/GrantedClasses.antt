@@ -23,7 +23,7 @@ use Rattle.pol_classes.specs.ConstraintLists.{constraints_at}
 use Rattle.pol_classes.specs.ClassRecord.{common_test, common_name_at, head_at, head_of, spell_head, default_at, class_at, spell_class, ClassFits}
 use Rattle.pol_classes.specs.ClassTables.{class_start, after_class, class_under, class_table_at}
 use Rattle.pol_make.specs.MadeSymbols.{file_permissions, made_commons, process_permissions, same_user, process_constraints, permission, file_class, process_class, made_classes}
-use Rattle.pol_make.proofs.Granted.{GrantsOf, EachUnder, grants-done, grants-then, grants-as, grants-number, grants-number_if, grants-string_if, grants-none, grants-list_of, grants-records, grants-counted}
+use Rattle.pol_moved.proofs.Granted.{GrantsOf, EachUnder, grants-done, grants-then, grants-as, grants-number, grants-number_if, grants-string_if, grants-none, grants-list_of, grants-records, grants-counted}
 use Rattle.pol_make.proofs.GrantedTables.{GrantsBare, grants-table}
 use Rattle.pol_make.proofs.GrantedSymbols.{MayStand, stands-so, grants-length, grants-name, new_value-stands}
 use Rattle.pol_make.proofs.GrantedFew.{permissions_stand, permissions-granted, permissions-fit}

@@ -23,13 +23,13 @@ use Rattle.pol_datums.specs.RoleRecord.{role_at, spell_role, RoleFits}
 use Rattle.pol_datums.specs.BooleanRecord.{boolean_at, spell_boolean, BooleanFits}
 use Rattle.pol_datums.specs.SensitivityRecord.{sensitivity_at, spell_sensitivity, SensitivityFits}
 use Rattle.pol_datums.specs.Flags.{is_primary_flag}
-use Rattle.pol_make.specs.SetNodes.{set_of, first_bits}
+use Rattle.set_nodes.specs.SetNodes.{set_of, first_bits}
 use Rattle.pol_make.specs.MadeSymbols.{file_permissions, made_commons, made_roles, made_booleans, made_levels}
-use Rattle.pol_make.proofs.Granted.{GrantsOf, EachUnder, grants-done, grants-then, grants-as, grants-number, grants-number_if, grants-list_of}
+use Rattle.pol_moved.proofs.Granted.{GrantsOf, EachUnder, grants-done, grants-then, grants-as, grants-number, grants-number_if, grants-list_of}
 use Rattle.pol_make.proofs.GrantedTables.{GrantsBare, grants-table}
-use Rattle.pol_make.proofs.GrantedSets.{AreBits, set-fits, set-granted}
-use Rattle.pol_make.proofs.ListFacts.{all-range}
-use Rattle.pol_make.proofs.RangeLists.{range-rises}
+use Rattle.pol_moved.proofs.GrantedSets.{AreBits, set-fits, set-granted}
+use Rattle.pol_moved.proofs.ListFacts.{all-range}
+use Rattle.set_nodes.proofs.SetBits.{range-rises}
 use Rattle.pol_make.proofs.GrantedSymbols.{MayStand, may_stand, stands-so, grants-length, grants-name, new_value-stands, role-granted, boolean-granted, level-granted}
 
 -- ---- sets

@@ -22,7 +22,7 @@ use Rattle.pol_tree.specs.TreeSpelling.{spell_rules, spell_contexts, spell_label
 use Rattle.pol_write.proofs.FoundParts.{HasNames, HasRules, HasContexts, HasLabels}
 use Rattle.pol_make.specs.MadeSymbols.{attribute_count}
 use Rattle.pol_make.specs.Made.{made}
-use Rattle.pol_make.proofs.Granted.{Grants, grants-done, grants-part, grants-as}
+use Rattle.pol_moved.proofs.Granted.{Grants, grants-done, grants-part, grants-as}
 use Rattle.pol_make.proofs.GrantedTables.{grants-no_entries}
 use Rattle.pol_make.proofs.GrantedRules.{rule_table-granted}
 use Rattle.pol_make.proofs.GrantedSids.{sids-granted}

@@ -9,13 +9,13 @@ use Rattle.pol_cursor.specs.Contexts.{records_after}
 use Rattle.pol_bitmap.specs.declared.Node.{Node}
 use Rattle.pol_bitmap.specs.Bitmap.{bitmap_at, spell_bitmap}
 use Rattle.pol_file.specs.TypeRows.{type_rows_at}
-use Rattle.pol_make.specs.SetNodes.{set_of}
+use Rattle.set_nodes.specs.SetNodes.{set_of}
 use Rattle.pol_make.specs.MadeSymbols.{attribute_count}
 use Rattle.pol_make.specs.MadeRules.{attribute_of, type_row, attribute_row, made_rows}
-use Rattle.pol_make.proofs.Granted.{GrantsOf, EachUnder}
+use Rattle.pol_moved.proofs.Granted.{GrantsOf, EachUnder}
 use Rattle.pol_make.proofs.GrantedTables.{GrantsValues, grants-rows}
-use Rattle.pol_make.proofs.GrantedSets.{AreBits, set-granted-below}
-use Rattle.pol_make.proofs.ListFacts.{all-append, all-map, all-range}
+use Rattle.pol_moved.proofs.GrantedSets.{AreBits, set-granted-below}
+use Rattle.pol_moved.proofs.ListFacts.{all-append, all-map, all-range}
 
 -- a set of one bit or two below a limit
 pub record IsRow (limit : ℕ) (row : List Node) : Type 0 where

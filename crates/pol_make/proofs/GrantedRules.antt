@@ -16,9 +16,9 @@ use Rattle.pol_avtab.specs.AvTables.{Earlier, rule_at, after_rule, no_rules, tab
 use Rattle.pol_avtab.proofs.AvLaws.{table_unplaced}
 use Rattle.pol_make.specs.MadeSymbols.{attribute_count}
 use Rattle.pol_make.specs.MadeRules.{ring_value, allow, transition_rules, file_rules, attribute_rule, rules_of, made_rules}
-use Rattle.pol_make.proofs.Granted.{GrantsOf, EachUnder, grants-done, grants-then, grants-as, grants-number, grants-number_if, grants-list_of, grants-counted, grants-through}
+use Rattle.pol_moved.proofs.Granted.{GrantsOf, EachUnder, grants-done, grants-then, grants-as, grants-number, grants-number_if, grants-list_of, grants-counted, grants-through}
 use Rattle.pol_make.proofs.GrantedTables.{GrantsValues}
-use Rattle.pol_make.proofs.ListFacts.{all-append, all-so, all-map, all-flat_map, all-range, length-flat_map-same}
+use Rattle.pol_moved.proofs.ListFacts.{all-append, all-so, all-map, all-flat_map, all-range, length-flat_map-same}
 use Rattle.pol_make.proofs.RuleNumbers.{number_of, AreNumbered, AreBelow, length-rules_of, rules-numbered, number-is_new}
 
 -- ---- what each rule is

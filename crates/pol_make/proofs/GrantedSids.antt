@@ -11,7 +11,7 @@ use Rattle.pol_contexts.specs.declared.SidRec.{SidRec}
 use Rattle.pol_contexts.specs.SidRecord.{sid_at, spell_sid}
 use Rattle.pol_make.specs.MadeSymbols.{bare_range}
 use Rattle.pol_make.specs.MadeRules.{made_sids}
-use Rattle.pol_make.proofs.Granted.{GrantsOf, grants-done, grants-then, grants-as, grants-number, grants-number_if, grants-none}
+use Rattle.pol_moved.proofs.Granted.{GrantsOf, grants-done, grants-then, grants-as, grants-number, grants-number_if, grants-none}
 use Rattle.pol_make.proofs.GrantedTables.{GrantsValues, grants-entries}
 use Rattle.pol_make.proofs.GrantedFew.{nothing-granted}
 

@@ -1,8 +1,6 @@
 -- What stands at the head of a policy that is made, and its symbol tables, are read.
 use Rattle.std.proofs.Common.{◌≡◌, ℕ, ◌+◌, ◌≤◌, List, ◌++◌, refl, ap, append_assoc, arith}
 use Rattle.std.proofs.lemmas.List.{append-nil}
-use Rattle.pol_fields.specs.declared.fields.TheConstants.{HEADER_MAGIC, HEADER_IDLEN, HEADER_ID, HEADER_VERSION, HEADER_CONFIG, HEADER_SYMTABS, HEADER_CONTEXTS}
-use Rattle.pol_file.specs.HeaderRecord.{identity, identity_at, counts_at, header_at, spell_identity, spell_counts, spell_header}
 use Rattle.pol_symtab.specs.SymbolTables.{bare, spell_table}
 use Rattle.pol_commons.specs.CommonRecord.{spell_common}
 use Rattle.pol_datums.specs.RoleRecord.{spell_role}
@@ -20,7 +18,8 @@ use Rattle.pol_tree.specs.TreeSpelling.{spell_front, spell_symbols}
 use Rattle.pol_write.proofs.FoundParts.{HasFront, HasSymbols}
 use Rattle.pol_make.specs.MadeSymbols.{attribute_count, made_nprims, made_commons, made_classes, made_roles, made_types, made_users, made_booleans, made_levels, made_categories}
 use Rattle.pol_make.specs.Made.{made}
-use Rattle.pol_make.proofs.Granted.{Grants, GrantsOf, grants-done, grants-then, grants-part, grants-as, grants-number_if, grants-string_if}
+use Rattle.pol_moved.proofs.Granted.{Grants, grants-done, grants-part, grants-as}
+use Rattle.pol_moved.proofs.GrantedHeader.{header-granted}
 use Rattle.pol_make.proofs.GrantedTypes.{types-granted, categories-granted}
 use Rattle.pol_make.proofs.GrantedFew.{commons-granted, roles-granted, booleans-granted, levels-granted, nothing-granted, one-granted}
 use Rattle.pol_make.proofs.GrantedClasses.{classes-granted}
@@ -28,41 +27,11 @@ use Rattle.pol_make.proofs.GrantedUsers.{users-granted}
 
 -- ---- the header and the two bitmaps behind it
 
-identity-granted : GrantsOf identity_at tt spell_identity
-unfolding identity_at
-identity-granted =
-    grants-as
-    (grants-then _ (grants-number_if HEADER_MAGIC 4 0xf97cff8c _ (omega arith) refl)
-    (grants-then _ (grants-number_if HEADER_IDLEN 4 8 _ (omega arith) refl)
-    (grants-then _ (grants-string_if HEADER_ID identity _ refl)
-    (grants-done tt refl))))
-    (simp (append_assoc, append-nil))
-
-counts-granted : GrantsOf (counts_at 31) tt (spell_counts 31)
-unfolding counts_at
-counts-granted =
-    grants-as
-    (grants-then _ (grants-number_if HEADER_SYMTABS 4 8 _ (omega arith) refl)
-    (grants-then _ (grants-number_if HEADER_CONTEXTS 4 9 _ (omega arith) refl)
-    (grants-done tt refl)))
-    (simp append-nil)
-
-header-granted : GrantsOf header_at (record { version = 31; config = 5 }) (spell_header (record { version = 31; config = 5 }))
-unfolding header_at
-header-granted =
-    grants-as
-    (grants-then _ identity-granted
-    (grants-then _ (grants-number_if HEADER_VERSION 4 31 _ (omega arith) refl)
-    (grants-then _ (grants-number_if HEADER_CONFIG 4 5 _ (omega arith) refl)
-    (grants-then _ counts-granted
-    (grants-done (record { version = 31; config = 5 }) refl)))))
-    (simp (append_assoc, append-nil))
-
 pub front-granted : (n : ℕ) → Grants front_at (HasFront (made n)) (spell_front (made n))
 unfolding front_at spell_front made
 front-granted n =
     grants-as
-    (grants-part _ header-granted λ header is_header.
+    (grants-part _ (header-granted (record { version = 31; config = 5 }) (record { version = omega arith; config = omega arith }) refl refl) λ header is_header.
     grants-part _ (one-granted 1 (omega arith)) λ capabilities are_capabilities.
     grants-part _ nothing-granted λ permissive are_permissive.
     grants-done _ (record { header = is_header; capabilities = are_capabilities; permissive = are_permissive }))

@@ -23,7 +23,7 @@ use Rattle.pol_datums.specs.TypeRecord.{type_at, spell_type, TypeFits, is_primar
 use Rattle.pol_datums.specs.BooleanRecord.{boolean_at, spell_boolean, BooleanFits}
 use Rattle.pol_datums.specs.SensitivityRecord.{sensitivity_at, sens_at, spell_sensitivity, SensitivityFits}
 use Rattle.pol_datums.specs.CategoryRecord.{category_at, spell_category, CategoryFits}
-use Rattle.pol_make.proofs.Granted.{GrantsOf, grants-done, grants-then, grants-as, grants-number, grants-number_if, grants-string_if}
+use Rattle.pol_moved.proofs.Granted.{GrantsOf, grants-done, grants-then, grants-as, grants-number, grants-number_if, grants-string_if}
 use Rattle.pol_make.proofs.NumberedNames.{IsName}
 
 -- a record of that name and value may stand behind those that have taken the claims

@@ -16,7 +16,7 @@ use Rattle.pol_cursor.proofs.ContextLists.{records_after_unplaced}
 use Rattle.pol_symtab.specs.SymbolTables.{Table, BareTable, bare, nprim_test, table_head_at, table_at, bare_table_at, spell_table}
 use Rattle.pol_symtab.proofs.TableLaws.{table_unplaced}
 use Rattle.pol_write.proofs.ListFindings.{counted_unplaced}
-use Rattle.pol_make.proofs.Granted.{Grants, GrantsOf, EachUnder, grants-done, grants-then, grants-as, grants-number, grants-number_if, grants-list_of, grants-records, grants-counted, grants-through}
+use Rattle.pol_moved.proofs.Granted.{Grants, GrantsOf, EachUnder, grants-done, grants-then, grants-as, grants-number, grants-number_if, grants-list_of, grants-records, grants-counted, grants-through}
 
 -- the values that are read, without their places, are these
 abbrev pub GrantsValues : {A : Type 0} → Reader (List (Placed A)) → List A → List ℕ → Type 0

@@ -14,9 +14,9 @@ use Rattle.pol_datums.specs.TypeRecord.{type_at, spell_type, TypeFits, is_primar
 use Rattle.pol_datums.specs.CategoryRecord.{category_at, spell_category, CategoryFits}
 use Rattle.pol_datums.specs.Flags.{is_primary_flag}
 use Rattle.pol_make.specs.MadeSymbols.{attribute_count, type_name, attribute_name, category_name, made_type, made_attribute, made_types, made_category, categories_of}
-use Rattle.pol_make.proofs.Granted.{EachUnder}
+use Rattle.pol_moved.proofs.Granted.{EachUnder}
 use Rattle.pol_make.proofs.GrantedTables.{GrantsBare, grants-table}
-use Rattle.pol_make.proofs.ListFacts.{all-append, all-map, all-range}
+use Rattle.pol_moved.proofs.ListFacts.{all-append, all-map, all-range}
 use Rattle.pol_make.proofs.NumberedNames.{types-apart, attributes-apart, categories-apart, attribute-no_type, type-is_name, attribute-is_name, category-is_name}
 use Rattle.pol_make.proofs.GrantedSymbols.{MayStand, type-granted, category-granted}
 use Rattle.pol_make.proofs.FreshRuns.{AreFree, all-free, free-behind, each-run, each-last-run}

@@ -13,9 +13,9 @@ use Rattle.pol_symtab.specs.SymbolTables.{table_at, table_start, spell_table, Ta
 use Rattle.pol_symbols.specs.declared.UserRec.{UserRec}
 use Rattle.pol_symbols.specs.UserRecord.{user_at, spell_user, UserFits}
 use Rattle.pol_make.specs.MadeSymbols.{bare_level, whole_range, made_users}
-use Rattle.pol_make.proofs.Granted.{GrantsOf, EachUnder, grants-done, grants-then, grants-as, grants-number, grants-number_if, grants-some}
+use Rattle.pol_moved.proofs.Granted.{GrantsOf, EachUnder, grants-done, grants-then, grants-as, grants-number, grants-number_if, grants-some}
 use Rattle.pol_make.proofs.GrantedTables.{GrantsBare, grants-table}
-use Rattle.pol_make.proofs.GrantedSets.{set-fits}
+use Rattle.pol_moved.proofs.GrantedSets.{set-fits}
 use Rattle.pol_make.proofs.GrantedSymbols.{MayStand, stands-so, grants-length, grants-name, grants-new_value, grants-bounds}
 use Rattle.pol_make.proofs.GrantedFew.{no-bits, one-bit, first_bits-fit, first_bits-granted, nothing-granted, one-granted}
 

@@ -5,7 +5,7 @@ use Rattle.std.proofs.lemmas.List.{length-append}
 use Rattle.pol_cursor.specs.Parts.{spell_counted}
 use Rattle.pol_cursor.specs.Spelling.{bytes_of}
 use Rattle.pol_cursor.proofs.Numbers.{length-bytes_of}
-use Rattle.pol_make.proofs.ListFacts.{all-so, length-flat_map-most}
+use Rattle.pol_moved.proofs.ListFacts.{all-so, length-flat_map-most}
 
 -- it takes no more than so many bytes
 pub record TakesMost (most : ℕ) (text : List ℕ) : Type 0 where

@@ -1,12 +1,8 @@
-pub mod Granted
-pub mod GrantedBitmaps
 pub mod GrantedTables
-pub mod SetBits
-pub mod ListFacts
 pub mod RuleNumbers
 pub mod GrantedRules
 pub mod Lengths
-pub mod GrantedSets
+pub mod SetLengths
 pub mod RangeLists
 pub mod NumberedNames
 pub mod GrantedSymbols
@@ -18,7 +14,6 @@ pub mod GrantedUsers
 pub mod GrantedSids
 pub mod GrantedRows
 pub mod GrantedParts
-pub mod NamedValues
 pub mod MadeReferences
 pub mod MadeShape
 pub mod MadeLength

@@ -25,15 +25,15 @@ use Rattle.pol_avtab.specs.declared.AvRec.{AvRec}
 use Rattle.pol_avtab.specs.AvRecord.{spell_av}
 use Rattle.pol_contexts.specs.SidRecord.{spell_sid}
 use Rattle.pol_tree.specs.TreeSpelling.{spell_front, spell_symbols, spell_rules, spell_contexts, spell_labels, spell}
-use Rattle.pol_make.specs.SetNodes.{set_of, first_bits}
+use Rattle.set_nodes.specs.SetNodes.{set_of, first_bits}
 use Rattle.pol_make.specs.MadeSymbols.{attribute_count, role, file_permissions, made_commons, process_permissions, process_constraints, made_classes, made_roles, made_type, made_attribute, made_types, all_categories, made_users, made_booleans, made_levels, made_category, categories_of, made_nprims}
 use Rattle.pol_make.specs.MadeRules.{made_rules, made_sids, made_rows}
 use Rattle.pol_make.specs.Made.{made}
 use Rattle.pol_make.proofs.Lengths.{TakesMost, takes-nothing, takes-text, takes-number, ◌⊕◌, takes-less, takes-each, takes-counted}
-use Rattle.pol_make.proofs.GrantedSets.{takes-set}
+use Rattle.pol_make.proofs.SetLengths.{takes-set}
 use Rattle.pol_make.proofs.GrantedRules.{IsMadeRule, rules-made, length-made_rules}
 use Rattle.pol_make.proofs.GrantedRows.{IsRow, rows-made, length-made_rows}
-use Rattle.pol_make.proofs.ListFacts.{all-append, all-so, all-map, all-range}
+use Rattle.pol_moved.proofs.ListFacts.{all-append, all-so, all-map, all-range}
 
 -- ---- what stands before the symbol tables
 

@@ -46,12 +46,12 @@ use Rattle.pol_file.specs.Acceptance.{undeclared}
 use Rattle.pol_write.proofs.FoundParts.{HasSymbols, HasNames, HasRules, HasContexts, HasLabels}
 use Rattle.pol_make.specs.MadeSymbols.{attribute_count, whole_range, bare_level, made_type, made_attribute, made_classes, made_roles, made_types, made_users, made_levels, made_category, categories_of}
 use Rattle.pol_make.specs.MadeRules.{allow, made_rules, made_sids}
-use Rattle.pol_make.specs.SetNodes.{set_of}
+use Rattle.set_nodes.specs.SetNodes.{set_of}
 use Rattle.pol_make.specs.Made.{made}
 use Rattle.pol_make.proofs.GrantedRules.{IsMadeRule, rules-made}
 use Rattle.pol_make.proofs.GrantedSids.{kernel_sid}
-use Rattle.pol_make.proofs.ListFacts.{all-append, all-map, all-range}
-use Rattle.pol_make.proofs.NamedValues.{AreNamed, none-dangling, nothing-named, named-first, ◌⊕◌, each-named, none-named, declares_in, declared-named, any-range}
+use Rattle.pol_moved.proofs.ListFacts.{all-append, all-map, all-range}
+use Rattle.pol_moved.proofs.NamedValues.{AreNamed, none-dangling, nothing-named, named-first, ◌⊕◌, each-named, none-named, declares_in, declared-named, any-range}
 
 -- ---- what is declared
 

@@ -1,24 +1,17 @@
 -- A policy that is made has the optional parts of its records.
-use Rattle.std.proofs.Common.{◌≡◌, ℕ, ◌≤◌, Option, None, List, [], ◌∷◌, refl}
-use Rattle.std.specs.List.{AllByRecursion}
+use Rattle.std.proofs.Common.{◌≡◌, ℕ, ◌≤◌, None, refl}
 use Rattle.std.proofs.lemmas.Bool.{eq-eqb}
-use Rattle.pol_fields.specs.declared.Field.{Field}
 use Rattle.pol_avtab.specs.declared.AvRec.{AvRec}
 use Rattle.pol_tree.specs.OptionalParts.{first_of, first_in}
 use Rattle.pol_tree.specs.RecordShapes.{shape_of_av}
-use Rattle.pol_tree.proofs.Wrongs.{none-first}
 use Rattle.pol_tree.specs.TreeShape.{shape_of_symbols, shape_of_rules, shape_of_contexts, shape_of_labels, shape}
 use Rattle.pol_make.specs.MadeSymbols.{process_constraints, made_nprims, made_classes, made_users}
 use Rattle.pol_make.specs.MadeRules.{made_rules, made_sids}
 use Rattle.pol_make.specs.Made.{made}
 use Rattle.pol_make.proofs.GrantedRules.{IsMadeRule, rules-made}
 use Rattle.pol_make.proofs.GrantedRows.{length-made_rows}
-use Rattle.pol_make.proofs.ListFacts.{all-so}
-
-none-in : {A : Type 0} (shape_of : A → Option Field) (xs : List A) → AllByRecursion (λ x. shape_of x ≡ None) xs → first_in shape_of xs ≡ None
-unfolding first_of
-none-in shape_of [] h = refl
-none-in shape_of (x ∷ xs) h = none-first (shape_of x) _ h.0 (none-in shape_of xs h.1)
+use Rattle.pol_moved.proofs.ListFacts.{all-so}
+use Rattle.pol_moved.proofs.GrantedPolicy.{none-in}
 
 rule-shaped : (n : ℕ) (av : AvRec) → IsMadeRule n av → shape_of_av av ≡ None
 rule-shaped n av made = rw made.is refl

@@ -1,13 +1,8 @@
 -- Numbers one after the other, and lists that are made of them.
-use Rattle.std.proofs.Common.{◌≡◌, ℕ, zero, suc, ◌+◌, List, [], ◌∷◌, ◌++◌, map, refl, append_assoc, arith}
+use Rattle.std.proofs.Common.{◌≡◌, ℕ, ◌+◌, List, [], ◌∷◌, ◌++◌, map, refl, append_assoc}
 use Rattle.std.specs.List.{range_with_len, flat_map}
 use Rattle.std.proofs.lemmas.List.FromFn.{map-range_with_len_more}
 use Rattle.pol_cursor.proofs.Ranges.{flat_range_more}
-use Rattle.pol_bitmap.proofs.BitLists.{RisesFrom}
-
-pub range-rises : (a n : ℕ) → RisesFrom a (range_with_len a n)
-range-rises a zero = tt
-range-rises a (suc n) = (omega arith, range-rises (a + 1) n)
 
 -- what is made of one more number, behind a list that has what is made of those before
 pub pushed : {X : Type 0} (f : ℕ → X) (front now : List X) (a n j : ℕ) → a + n ≡ j → now ≡ front ++ map f (range_with_len a n) → now ++ f j ∷ [] ≡ front ++ map f (range_with_len a (n + 1))

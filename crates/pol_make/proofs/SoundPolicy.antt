@@ -1,25 +1,24 @@
 -- A policy that is made is sound.
-use Rattle.std.proofs.Common.{◌≡◌, ℕ, ◌+◌, ◌≤◌, None, [], ◌++◌, length, refl, sym, ap, subst, append_assoc, arith}
+use Rattle.std.proofs.Common.{◌≡◌, ℕ, ◌+◌, ◌≤◌, None, length, sym, ap, subst, append_assoc, arith}
 use Rattle.pol_fields.specs.declared.limits.TheConstants.{MAX_POLICY_BYTES}
 use Rattle.std.proofs.lemmas.List.{append-nil}
 use Rattle.std.proofs.lemmas.Bool.{le-leb}
 use Rattle.pol_fields.specs.declared.fields.TheConstants.{END_END}
-use Rattle.pol_cursor.specs.Outcome.{Outcome, Got, Bad}
 use Rattle.pol_file.specs.declared.HeaderRec.{HeaderRec}
 use Rattle.pol_symtab.specs.SymbolTables.{BareTable}
 use Rattle.pol_datums.specs.declared.TypeRec.{TypeRec}
 use Rattle.pol_symbols.specs.declared.Symbols.{Symbols}
 use Rattle.pol_symbols.specs.PolicySymbols.{symbols_at}
 use Rattle.pol_file.specs.declared.Front.{Front}
-use Rattle.pol_file.specs.declared.Parts.{Parts}
 use Rattle.pol_file.specs.PolicyParts.{rule_lists_at, label_lists_at, policy_at}
-use Rattle.pol_file.specs.Acceptance.{undeclared, judged, accept}
+use Rattle.pol_file.specs.Acceptance.{undeclared}
 use Rattle.pol_tree.specs.TreeSpelling.{spell_symbols, spell_rules, spell_labels, spell}
-use Rattle.pol_write.specs.Soundness.{refusal_of, unsound, IsSound}
+use Rattle.pol_write.specs.Soundness.{unsound, IsSound}
 use Rattle.pol_write.proofs.FoundParts.{HasFront, HasSymbols, HasRules, HasLabels}
 use Rattle.pol_make.specs.MadeSymbols.{attribute_count, made_nprims}
 use Rattle.pol_make.specs.Made.{Allowed, made}
-use Rattle.pol_make.proofs.Granted.{IsGiven, Grants, GrantsLast, grants-to_last, grants-end, grants-last-as}
+use Rattle.pol_moved.proofs.Granted.{Grants, GrantsLast, grants-to_last, grants-end, grants-last-as}
+use Rattle.pol_moved.proofs.GrantedPolicy.{granted-accepted}
 use Rattle.pol_make.proofs.GrantedSymbolTables.{front-granted, symbols-granted}
 use Rattle.pol_make.proofs.GrantedParts.{rule_lists-granted, label_lists-granted}
 use Rattle.pol_make.proofs.FittingPolicy.{made-fits}
@@ -56,21 +55,11 @@ policy-granted n allowed =
 
 -- ---- it is accepted
 
-not-refused : (o : Outcome Parts) (n : ℕ) → IsGiven (λ policy. undeclared policy ≡ None) n o → refusal_of (judged o) ≡ None
-not-refused (Got policy next) n h = rw h.0 refl
-not-refused (Bad fault) n h = absurd h
-
-made-accepted : (n : ℕ) → Allowed n → refusal_of (accept (spell (made n))) ≡ None
-unfolding accept
-made-accepted n allowed =
-    let given = (policy-granted n allowed).gives [] in
-    rw append-nil at (not-refused (policy_at (spell (made n) ++ []) 0) (0 + length (spell (made n))) given)
-
 pub made-sound : (n : ℕ) → Allowed n → IsSound (made n)
 unfolding unsound
 made-sound n allowed =
     let many : 20 ≤ n = omega (arith, allowed.least) in
     record {
       fits = made-fits n many allowed.most;
-      accepted = rw (made-shaped n many, le-leb (length (spell (made n))) MAX_POLICY_BYTES (made-takes n many allowed.most)) (made-accepted n allowed);
+      accepted = rw (made-shaped n many, le-leb (length (spell (made n))) MAX_POLICY_BYTES (made-takes n many allowed.most)) (granted-accepted (spell (made n)) (policy-granted n allowed));
     }

@@ -1,4 +1,3 @@
-pub mod SetNodes
 pub mod MadeSymbols
 pub mod MadeRules
 pub mod Made

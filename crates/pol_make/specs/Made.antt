@@ -2,7 +2,7 @@
 -- transition, to the type after it.
 use Rattle.std.specs.Prelude.{◌≡◌, ℕ, ◌%◌, ◌≤◌, [], ◌∷◌}
 use Rattle.pol_tree.specs.declared.Tree.{Tree}
-use Rattle.pol_make.specs.SetNodes.{set_of}
+use Rattle.set_nodes.specs.SetNodes.{set_of}
 use Rattle.pol_make.specs.MadeSymbols.{made_nprims, made_commons, made_classes, made_roles, made_types, made_users, made_booleans, made_levels, made_categories}
 use Rattle.pol_make.specs.MadeRules.{made_rules, made_sids, made_rows}
 

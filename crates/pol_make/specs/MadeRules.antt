@@ -5,7 +5,7 @@ use Rattle.pol_bitmap.specs.declared.Node.{Node}
 use Rattle.pol_avtab.specs.declared.AvPart.TheVariants.{Data}
 use Rattle.pol_avtab.specs.declared.AvRec.{AvRec}
 use Rattle.pol_contexts.specs.declared.SidRec.{SidRec}
-use Rattle.pol_make.specs.SetNodes.{set_of}
+use Rattle.set_nodes.specs.SetNodes.{set_of}
 use Rattle.pol_make.specs.MadeSymbols.{attribute_count, bare_range}
 
 -- ---- the rules

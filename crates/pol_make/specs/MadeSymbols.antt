@@ -15,7 +15,7 @@ use Rattle.pol_datums.specs.declared.BooleanRec.{BooleanRec}
 use Rattle.pol_datums.specs.declared.SensitivityRec.{SensitivityRec}
 use Rattle.pol_datums.specs.declared.CategoryRec.{CategoryRec}
 use Rattle.pol_symbols.specs.declared.UserRec.{UserRec}
-use Rattle.pol_make.specs.SetNodes.{set_of, first_bits}
+use Rattle.set_nodes.specs.SetNodes.{set_of, first_bits}
 
 -- how many attributes there are beside n types: each has twenty of them
 abbrev pub attribute_count : ℕ → ℕ

@@ -15,7 +15,6 @@ mod make_symbols;
 mod make_types;
 mod making;
 mod names;
-mod sets;
 
-pub use made_laws::{made_policies_are_sound, made_sets_have_their_bits};
+pub use made_laws::made_policies_are_sound;
 pub use making::make;

@@ -6,12 +6,12 @@ ghost use Rattle.pol_make.specs.MadeSymbols.{attribute_count};
 ghost use Rattle.pol_make.specs.MadeRules.{ring_value, attribute_of, allow, transition_rules, file_rule, file_rules, attribute_rule, rules_of, made_rules, made_sids, type_row, attribute_row, made_rows};
 
 use crate::make_symbols::bare_range;
-use crate::sets::set_of;
 use pol_avtab::{AvPart, AvRec, AvRecList};
 use pol_bitmap::{Set, SetList};
 use pol_contexts::{SidRec, SidRecList};
 use pol_cursor::OwnedList;
 use pol_mls::ContextRec;
+use set_nodes::set_of;
 use std::alloc::{AllocError, Global};
 
 /// The table of rules.

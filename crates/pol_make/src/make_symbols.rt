@@ -3,7 +3,6 @@ ghost use Rattle.std.specs.Prelude.{◌≡◌, ◌<◌, ◌≤◌, IfOk};
 ghost use Rattle.pol_make.specs.MadeSymbols.{all_categories, bare_level, bare_range, whole_range, made_users, boolean, made_booleans, made_levels, made_category, categories_of};
 
 use crate::names::{category_name, name};
-use crate::sets::{first_bits, set_of};
 use pol_bitmap::Set;
 use pol_cursor::OwnedList;
 use pol_datums::{
@@ -11,6 +10,7 @@ use pol_datums::{
 };
 use pol_mls::{LevelRec, RangeRec};
 use pol_symbols::{UserRec, UserRecList};
+use set_nodes::{first_bits, set_of};
 use std::alloc::{AllocError, Global};
 
 /// The table of users.

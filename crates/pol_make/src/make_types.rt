@@ -4,10 +4,10 @@ ghost use Rattle.std.specs.List.{range_with_len};
 ghost use Rattle.pol_make.specs.MadeSymbols.{attribute_count, role, made_roles, made_type, made_attribute, made_types};
 
 use crate::names::{attribute_name, name, type_name};
-use crate::sets::{first_bits, set_of};
 use pol_bitmap::Set;
 use pol_cursor::OwnedList;
 use pol_datums::{RoleRec, RoleRecList, TypeRec, TypeRecList};
+use set_nodes::{first_bits, set_of};
 use std::alloc::{AllocError, Global};
 
 /// The table of roles.

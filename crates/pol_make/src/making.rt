@@ -1,7 +1,7 @@
 // A policy of so many types, made part by part.
 ghost use Rattle.std.specs.Prelude.{◌≡◌, ◌∷◌, [], IfOk, OnOk};
 ghost use Rattle.pol_make.specs.Made.{Allowed, made};
-ghost use Rattle.pol_make.specs.SetNodes.{set_of};
+ghost use Rattle.set_nodes.specs.SetNodes.{set_of};
 ghost use Rattle.pol_make.specs.MadeRules.{made_rules, made_rows, made_sids};
 ghost use Rattle.pol_make.specs.MadeSymbols.{made_nprims, made_commons, made_classes, made_roles, made_types, made_users, made_booleans, made_levels, made_categories};
 
@@ -9,8 +9,8 @@ use crate::make_classes::{make_classes, make_commons};
 use crate::make_rules::{make_rows, make_rules, make_sids};
 use crate::make_symbols::{make_booleans, make_categories, make_levels, make_users};
 use crate::make_types::{make_roles, make_types};
-use crate::sets::set_of;
 use pol_tree::Tree;
+use set_nodes::set_of;
 use std::alloc::{AllocError, Global};
 
 /// A policy of n types in a ring, 200 to 5,000 and a multiple of 20. Each type has one transition, to the type after it, and one

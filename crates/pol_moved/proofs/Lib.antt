@@ -1,0 +1,12 @@
+pub mod ListFacts
+pub mod NamedValues
+pub mod Granted
+pub mod GrantedBitmaps
+pub mod GrantedSets
+pub mod GrantedHeader
+pub mod GrantedPolicy
+pub mod Moves
+pub mod Stood
+pub mod MovesSymbols
+pub mod MovesRules
+pub mod HeldRules
