@@ -1,2 +1,3 @@
 pub mod TrueBooleans
+pub mod BooleanSets
 pub mod ConditionValues

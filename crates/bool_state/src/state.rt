@@ -1,9 +1,7 @@
 //! The booleans that are true, and the values of conditions under them.
 
-ghost use Rattle.std.specs.Prelude.{◌≡◌, ◌↔◌, ◌∷◌, ◌++◌, [], ℕ, IfOk, OnOk, IsTrue, Contains};
-ghost use Rattle.pol_bitmap.specs.Nodes.{bits_of};
-ghost use Rattle.pol_bitmap.specs.Sets.{IsSet};
-ghost use Rattle.bool_state.specs.BooleanStates.{values_on, condition_value, HasValue};
+ghost use Rattle.std.specs.Prelude.{◌≡◌, ◌↔◌, ◌∷◌, ◌++◌, [], IfOk, OnOk, IsTrue};
+ghost use Rattle.bool_state.specs.BooleanStates.{true_booleans, values_on, condition_value, HasValue};
 
 use crate::given::{Given, is_on};
 use pol_bitmap::Set;
@@ -20,12 +18,15 @@ pub struct BoolState {
 }
 
 impl Model for BoolState {
-    ghost use Rattle.std.specs.Prelude.{List};
-    ghost use Rattle.pol_bitmap.specs.declared.Node.{Node};
+    ghost use Rattle.std.specs.FinSet as set;
+    ghost use Rattle.pol_bitmap.specs.Nodes.{bits_of};
+    ghost use Rattle.bool_state.specs.BooleanStates.{Booleans, values_code};
 
-    ghost Value = { List Node };
+    ghost Value = { Booleans };
 
-    ghost view = { λ s. s.on };
+    ghost coded = { values_code };
+
+    ghost view = { λ s. set.from_list (bits_of s.on) };
 }
 
 impl BoolState {
@@ -38,8 +39,7 @@ impl BoolState {
         symbols: &Symbols<'_>,
         given: &[Given],
     ) -> Result<BoolState, AllocError>
-        ensures form { IfOk result IsSet }
-        ensures members { IfOk result (λ state. (value : ℕ) → Contains (bits_of state) value ↔ Contains (values_on given.now symbols.now.booleans.records) value) }
+        ensures { IfOk result (λ state. state ≡ true_booleans given.now symbols.now.booleans.records) }
     {
         let mut values = Vec::new(alloc);
         for i in 0..symbols.booleans.len() {

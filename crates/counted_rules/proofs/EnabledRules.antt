@@ -5,7 +5,6 @@ use Rattle.std.proofs.NetLemmas.Options.{map_some}
 use Rattle.std.proofs.lemmas.List.{map_push, take_all}
 use Rattle.std.proofs.lemmas.Option.{slice_get-map}
 use Rattle.pol_cursor.specs.References.{Placed}
-use Rattle.pol_bitmap.specs.declared.Node.{Node}
 use Rattle.pol_symtab.proofs.ListPlaces.{take_then}
 use Rattle.pol_expr.specs.declared.condition_rec.ConditionRec.{ConditionRec}
 use Rattle.pol_expr.specs.ConditionMeaning.{same_truth}
@@ -15,7 +14,7 @@ use Rattle.pol_conditionals.specs.CondNodeRecord.{node_condition}
 use Rattle.pol_file.specs.declared.Parts.{Parts}
 use Rattle.pol_read.specs.declared.Condition.{Condition}
 use Rattle.pol_read.specs.StoredRules.{StoredRule}
-use Rattle.bool_state.specs.BooleanStates.{HasValue, condition_value}
+use Rattle.bool_state.specs.BooleanStates.{Booleans, HasValue, condition_value}
 use Rattle.bool_state.proofs.ConditionValues.{has_value, value_decides}
 use Rattle.counted_rules.specs.declared.node_values.NodeValues.{NodeValues}
 use Rattle.counted_rules.specs.CountedRules.{counts, counts_under, is_branch_on, is_enabled, node_value, node_values, rules_under}
@@ -23,12 +22,12 @@ use Rattle.counted_rules.specs.Inner.NodeTables.{AreValuesOf, enables, is_branch
 
 -- ---- the values, node by node
 
-pub values_none : (on : List Node) → node_values on [] ≡ []
+pub values_none : (on : Booleans) → node_values on [] ≡ []
 unfolding node_values
 values_none on = refl
 
 -- those so far, and of one more
-pub values_next : (on : List Node) (nodes : List (Placed CondNodeRec)) (i : ℕ) (condition : Placed ConditionRec) (value : Bool) (out : List Bool) → option_map node_condition (slice_get nodes i) ≡ Some condition → value ≡ condition_value on condition.value.items → out ≡ node_values on (take i nodes) → out ++ value ∷ [] ≡ node_values on (take (i + 1) nodes)
+pub values_next : (on : Booleans) (nodes : List (Placed CondNodeRec)) (i : ℕ) (condition : Placed ConditionRec) (value : Bool) (out : List Bool) → option_map node_condition (slice_get nodes i) ≡ Some condition → value ≡ condition_value on condition.value.items → out ≡ node_values on (take i nodes) → out ++ value ∷ [] ≡ node_values on (take (i + 1) nodes)
 unfolding node_values
 values_next on nodes i condition value out at is sofar =
     map_some node_condition (slice_get nodes i) condition at λ node there same.
@@ -36,7 +35,7 @@ values_next on nodes i condition value out at is sofar =
     ∙ ap (λ (v : Bool). map (node_value on) (take i nodes) ++ v ∷ []) (is ∙ ap (λ (c : Placed ConditionRec). condition_value on c.value.items) (sym same))
     ∙ sym (ap (map (node_value on)) (take_then nodes i node there) ∙ map_push (node_value on) (take i nodes) node)
 
-pub values_end : (on : List Node) (nodes : List (Placed CondNodeRec)) (i : ℕ) (out : List Bool) → length nodes ≤ i → out ≡ node_values on (take i nodes) → out ≡ node_values on nodes
+pub values_end : (on : Booleans) (nodes : List (Placed CondNodeRec)) (i : ℕ) (out : List Bool) → length nodes ≤ i → out ≡ node_values on (take i nodes) → out ≡ node_values on nodes
 values_end on nodes i out le h = h ∙ ap (node_values on) (take_all i nodes le)
 
 -- ---- by the values
@@ -47,11 +46,11 @@ same_is true false = refl
 same_is false true = refl
 same_is false false = refl
 
-branch_is : (on : List Node) (branch : Bool) (o : Option (Placed CondNodeRec)) → is_branch_of branch (option_map (node_value on) o) ≡ is_branch_on on branch o
+branch_is : (on : Booleans) (branch : Bool) (o : Option (Placed CondNodeRec)) → is_branch_of branch (option_map (node_value on) o) ≡ is_branch_on on branch o
 branch_is on branch None = refl
 branch_is on branch (Some node) = refl
 
-enabled_is : (on : List Node) (nodes : List (Placed CondNodeRec)) (condition : Option Condition) → enables (node_values on nodes) condition ≡ is_enabled nodes on condition
+enabled_is : (on : Booleans) (nodes : List (Placed CondNodeRec)) (condition : Option Condition) → enables (node_values on nodes) condition ≡ is_enabled nodes on condition
 unfolding is_enabled node_values
 enabled_is on nodes None = refl
 enabled_is on nodes (Some condition) =
@@ -70,7 +69,7 @@ enabled_count nodes values found condition answer are is says =
 
 -- ---- by the tree
 
-pub enabled_by_tree : (policy : Parts) (on : List Node) (rule : StoredRule) (condition : Condition) (node : Placed CondNodeRec) → rule.condition ≡ Some condition → slice_get policy.rules.conditionals condition.node ≡ Some node → IsCondition node.value.condition.items
+pub enabled_by_tree : (policy : Parts) (on : Booleans) (rule : StoredRule) (condition : Condition) (node : Placed CondNodeRec) → rule.condition ≡ Some condition → slice_get policy.rules.conditionals condition.node ≡ Some node → IsCondition node.value.condition.items
     → IsTrue (counts (rules_under policy on) rule) ↔ HasValue on node.value.condition.items condition.branch
 unfolding is_enabled
 enabled_by_tree policy on rule condition node under at is =
@@ -79,6 +78,6 @@ enabled_by_tree policy on rule condition node under at is =
     ap (is_enabled policy.rules.conditionals on) under ∙ ap (is_branch_on on condition.branch) at ∙ sym (same_is (condition_value on items) condition.branch) in
     subst (λ (test : Bool). IsTrue test ↔ HasValue on items condition.branch) (sym same) (value_decides on items (condition_value on items) condition.branch (has_value on items is))
 
-pub enabled_free : (policy : Parts) (on : List Node) (rule : StoredRule) → rule.condition ≡ None → counts (rules_under policy on) rule ≡ true
+pub enabled_free : (policy : Parts) (on : Booleans) (rule : StoredRule) → rule.condition ≡ None → counts (rules_under policy on) rule ≡ true
 unfolding is_enabled
 enabled_free policy on rule none = ap (is_enabled policy.rules.conditionals on) none

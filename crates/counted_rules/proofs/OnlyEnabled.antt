@@ -6,7 +6,6 @@ use Rattle.std.proofs.lemmas.List.Elements.{filter-append}
 use Rattle.std.proofs.lemmas.Option.{slice_get-map}
 use Rattle.pol_cursor.specs.References.{Placed}
 use Rattle.pol_cursor.specs.NestedRecords.{placed_from}
-use Rattle.pol_bitmap.specs.declared.Node.{Node}
 use Rattle.pol_symbols.specs.declared.Symbols.{Symbols}
 use Rattle.pol_expr.specs.ConditionMeaning.{same_truth}
 use Rattle.pol_avtab.specs.declared.AvRec.{AvRec}
@@ -17,6 +16,7 @@ use Rattle.pol_trans.specs.declared.NameTrans.TheVariants.{Entries, Groups}
 use Rattle.pol_file.specs.declared.Parts.{Parts}
 use Rattle.pol_read.specs.declared.Condition.{Condition}
 use Rattle.pol_read.specs.StoredRules.{StoredRule, av_rule, declared_sources, name_rule, name_rules, name_trans_rule, range_trans_rule, role_allow_rule, role_trans_rule, rules_of_branch, rules_of_datum, rules_of_group, rules_of_node, rules_of_nodes, stored_rules}
+use Rattle.bool_state.specs.BooleanStates.{Booleans}
 use Rattle.counted_rules.specs.CountedRules.{counts, is_branch_on, is_enabled, node_value, rules_under}
 use Rattle.counted_rules.specs.EnabledPolicy.{enabled_node, enabled_policy, one_branch}
 
@@ -47,7 +47,7 @@ of_branch condition false false node = no_places condition node.value.false_rule
 
 -- ---- which rules are enabled
 
-module _ (nodes : List (Placed CondNodeRec)) (on : List Node) where
+module _ (nodes : List (Placed CondNodeRec)) (on : Booleans) where
   abbrev passes : StoredRule → Bool
   passes rule = is_enabled nodes on rule.condition
 
@@ -103,7 +103,7 @@ module _ (nodes : List (Placed CondNodeRec)) (on : List Node) where
       (range_with_len 0 (length nodes))
       ∙ ap (λ (n : ℕ). flat_map (rules_of_node (map (enabled_node on) nodes)) (range_with_len 0 n)) (sym (length-map nodes (enabled_node on)))
 
-pub enabled_rules : (policy : Parts) (on : List Node) → filter (counts (rules_under policy on)) (stored_rules policy) ≡ stored_rules (enabled_policy policy on)
+pub enabled_rules : (policy : Parts) (on : Booleans) → filter (counts (rules_under policy on)) (stored_rules policy) ≡ stored_rules (enabled_policy policy on)
 enabled_rules policy on =
     let nodes = policy.rules.conditionals in
     joined nodes on _ _ _ _ (free nodes on (av_rule None) (λ x. refl) policy.rules.table)

@@ -25,10 +25,14 @@ impl Drop for CountedRules<'_> {
 
 impl<'p> Model for CountedRules<'p> {
     ghost use Rattle.std.specs.Prelude.{◌≡◌, option_map};
+    ghost use Rattle.std.specs.Coded.{codes};
+    ghost use Rattle.bool_state.specs.BooleanStates.{values_code};
     ghost use Rattle.counted_rules.specs.CountedRules.{Counted};
     ghost use Rattle.counted_rules.specs.Inner.NodeTables.{AreValuesOf};
 
     ghost Value = { Counted };
+
+    ghost coded = { Prim.hlevel (codes, values_code) };
 
     ghost view = { λ r. record { policy = r.policy.now; on = option_map (λ v. v.on) r.values } };
 

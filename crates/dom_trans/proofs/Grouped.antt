@@ -15,7 +15,7 @@ use Rattle.pol_expand.specs.JoinedTypes.{passes}
 use Rattle.value_groups.proofs.Anys.{filter_agree}
 use Rattle.value_groups.proofs.Filters.{by_places, filter_map_is}
 use Rattle.rules_between.proofs.Found.{groups_within}
-use Rattle.dom_trans.specs.Grants.{has_default, part_has_default}
+use Rattle.dom_trans.specs.DefaultRules.{has_default, part_has_default}
 use Rattle.dom_trans.specs.Inner.ByDefault.{AreByDefault, default_value, found_default, part_default}
 use Rattle.dom_trans.proofs.Defaults.{not_so}
 

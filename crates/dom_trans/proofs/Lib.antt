@@ -8,3 +8,4 @@ pub mod FoundTargets
 pub mod Defaults
 pub mod Grouped
 pub mod FoundSources
+pub mod EnabledTransitions

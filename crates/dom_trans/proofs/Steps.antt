@@ -20,10 +20,10 @@ use Rattle.dom_trans.specs.Inner.EdgesBetween.{transition_types}
 use Rattle.dom_trans.specs.Inner.Targets.{AreOpen, AreSources, AreTargets, is_open}
 use Rattle.dom_trans.proofs.Ways.{step_by_transition, step_excluded}
 
-pub step_is_transition : (domains : Domains) (a b : ℕ) → is_step domains a b ≡ true → is_transition domains.policy a b ≡ true
+pub step_is_transition : (domains : Domains) (a b : ℕ) → is_step domains a b ≡ true → is_transition domains.rules a b ≡ true
 unfolding is_step
 step_is_transition domains a b e =
-    (and_parts (is_transition domains.policy a b) (not (has_bit domains.excluded a)) (and_parts (is_transition domains.policy a b && not (has_bit domains.excluded a)) (not (has_bit domains.excluded b)) e).0).0
+    (and_parts (is_transition domains.rules a b) (not (has_bit domains.excluded a)) (and_parts (is_transition domains.rules a b && not (has_bit domains.excluded a)) (not (has_bit domains.excluded b)) e).0).0
 
 -- ---- two different types, none of them excluded
 
@@ -39,8 +39,8 @@ open_sides true true true false true = refl
 open_sides true true true false false = refl
 
 -- both are in the set of those that are not excluded, and they differ
-open_by_sides : (domains : Domains) (a b : ℕ) → is_open domains a b ≡ ((is_type_outside domains.policy domains.excluded a && is_type_outside domains.policy domains.excluded b) && not (a == b))
-open_by_sides domains a b = open_sides (is_type_value domains.policy a) (is_type_value domains.policy b) (not (a == b)) (has_bit domains.excluded a) (has_bit domains.excluded b)
+open_by_sides : (domains : Domains) (a b : ℕ) → is_open domains a b ≡ ((is_type_outside domains.rules.policy domains.excluded a && is_type_outside domains.rules.policy domains.excluded b) && not (a == b))
+open_by_sides domains a b = open_sides (is_type_value domains.rules.policy a) (is_type_value domains.rules.policy b) (not (a == b)) (has_bit domains.excluded a) (has_bit domains.excluded b)
 
 not_false : (b : Bool) → not b ≡ true → b ≡ false
 not_false true h = absurd (false≢true h)
@@ -51,29 +51,29 @@ not_from true h = absurd (h refl)
 not_from false h = refl
 
 -- an excluded type has no step
-pub none_open : (domains : Domains) (open_set : List Node) (a : ℕ) (types found : List ℕ) → bits_of open_set ≡ types_outside domains.policy domains.excluded → ¬ Contains (bits_of open_set) a → found ≡ [] → AreOpen domains a types found
+pub none_open : (domains : Domains) (open_set : List Node) (a : ℕ) (types found : List ℕ) → bits_of open_set ≡ types_outside domains.rules.policy domains.excluded → ¬ Contains (bits_of open_set) a → found ≡ [] → AreOpen domains a types found
 none_open domains open_set a types found is out none = record {
   each = λ b. (
     λ there. absurd (contains_nothing b (subst (λ (xs : List ℕ). Contains xs b) none there)),
     λ h.
-        let sides = and_parts (is_type_outside domains.policy domains.excluded a && is_type_outside domains.policy domains.excluded b) (not (a == b)) (sym (open_by_sides domains a b) ∙ h.1) in
-        let first = (and_parts (is_type_outside domains.policy domains.excluded a) (is_type_outside domains.policy domains.excluded b) sides.0).0 in
-        absurd (out ((in_outside domains.policy domains.excluded open_set a is).1 first)),
+        let sides = and_parts (is_type_outside domains.rules.policy domains.excluded a && is_type_outside domains.rules.policy domains.excluded b) (not (a == b)) (sym (open_by_sides domains a b) ∙ h.1) in
+        let first = (and_parts (is_type_outside domains.rules.policy domains.excluded a) (is_type_outside domains.rules.policy domains.excluded b) sides.0).0 in
+        absurd (out ((in_outside domains.rules.policy domains.excluded open_set a is).1 first)),
   );
 }
 
 -- the others have steps to those in the set that are not themselves
-pub open_are : (domains : Domains) (open_set : List Node) (a : ℕ) (types both itself found : List ℕ) → bits_of open_set ≡ types_outside domains.policy domains.excluded → Contains (bits_of open_set) a → IsCommon types (bits_of open_set) both → itself ≡ a ∷ []
+pub open_are : (domains : Domains) (open_set : List Node) (a : ℕ) (types both itself found : List ℕ) → bits_of open_set ≡ types_outside domains.rules.policy domains.excluded → Contains (bits_of open_set) a → IsCommon types (bits_of open_set) both → itself ≡ a ∷ []
     → IsDifference both itself found → AreOpen domains a types found
 open_are domains open_set a types both itself found is there common one less = record {
   each = λ b.
-      let outside = is_type_outside domains.policy domains.excluded in
-      let other = in_outside domains.policy domains.excluded open_set b is in (
+      let outside = is_type_outside domains.rules.policy domains.excluded in
+      let other = in_outside domains.rules.policy domains.excluded open_set b is in (
         λ m.
             let parts = (less.each b).0 m in
             let sides = (common.each b).0 parts.0 in
             let apart : not (a == b) ≡ true = not_from (a == b) (λ e. parts.1 (subst (λ (xs : List ℕ). Contains xs b) (sym one) (subst (λ (x : ℕ). Contains (x ∷ []) b) (sym (eqb-true a b e)) (contains_first b [])))) in
-            (sides.0, open_by_sides domains a b ∙ and_from (outside a && outside b) (not (a == b)) (and_from (outside a) (outside b) ((in_outside domains.policy domains.excluded open_set a is).0 there) (other.0 sides.1)) apart),
+            (sides.0, open_by_sides domains a b ∙ and_from (outside a && outside b) (not (a == b)) (and_from (outside a) (outside b) ((in_outside domains.rules.policy domains.excluded open_set a is).0 there) (other.0 sides.1)) apart),
         λ h.
             let sides = and_parts (outside a && outside b) (not (a == b)) (sym (open_by_sides domains a b) ∙ h.1) in
             let second = (and_parts (outside a) (outside b) sides.0).1 in
@@ -83,27 +83,27 @@ open_are domains open_set a types both itself found is there common one less = r
 
 -- a step is a transition that is open
 step_opens : (domains : Domains) (a b : ℕ) → is_step domains a b ≡ true → is_open domains a b ≡ true
-step_opens domains a b e = and_from (are_two_types domains.policy a b) (not (has_bit domains.excluded a || has_bit domains.excluded b)) (transition_types domains.policy a b (step_is_transition domains a b e))
+step_opens domains a b e = and_from (are_two_types domains.rules.policy a b) (not (has_bit domains.excluded a || has_bit domains.excluded b)) (transition_types domains.rules a b (step_is_transition domains a b e))
     (not_from (has_bit domains.excluded a || has_bit domains.excluded b) (λ h. false≢true (step_excluded domains a b h ∙ e)))
 
-open_steps : (domains : Domains) (a b : ℕ) → is_open domains a b ≡ true → is_transition domains.policy a b ≡ true → is_step domains a b ≡ true
+open_steps : (domains : Domains) (a b : ℕ) → is_open domains a b ≡ true → is_transition domains.rules a b ≡ true → is_step domains a b ≡ true
 open_steps domains a b e t =
-    let parts = and_parts (are_two_types domains.policy a b) (not (has_bit domains.excluded a || has_bit domains.excluded b)) e in
+    let parts = and_parts (are_two_types domains.rules.policy a b) (not (has_bit domains.excluded a || has_bit domains.excluded b)) e in
     sym (step_by_transition domains a b (not_false (has_bit domains.excluded a || has_bit domains.excluded b) parts.1)) ∙ t
 
 open_turns : (domains : Domains) (a b : ℕ) → is_open domains a b ≡ true → is_open domains b a ≡ true
 open_turns domains a b e =
-    let outside = is_type_outside domains.policy domains.excluded in
+    let outside = is_type_outside domains.rules.policy domains.excluded in
     let sides = and_parts (outside a && outside b) (not (a == b)) (sym (open_by_sides domains a b) ∙ e) in
     let both = and_parts (outside a) (outside b) sides.0 in
     open_by_sides domains b a
     ∙ and_from (outside b && outside a) (not (b == a)) (and_from (outside b) (outside a) both.1 both.0) (not_from (b == a) (λ h. false≢true (sym (not_false (a == b) sides.1) ∙ eq-eqb a b (sym (eqb-true b a h)))))
 
-two_types : (domains : Domains) (a b : ℕ) → is_open domains a b ≡ true → are_two_types domains.policy a b ≡ true
-two_types domains a b e = (and_parts (are_two_types domains.policy a b) (not (has_bit domains.excluded a || has_bit domains.excluded b)) e).0
+two_types : (domains : Domains) (a b : ℕ) → is_open domains a b ≡ true → are_two_types domains.rules.policy a b ≡ true
+two_types domains a b e = (and_parts (are_two_types domains.rules.policy a b) (not (has_bit domains.excluded a || has_bit domains.excluded b)) e).0
 
 -- the steps from a type, and those to a type
-pub ends_from : (domains : Domains) (a : ℕ) (targets found : List ℕ) → AreTargets domains.policy a targets → AreOpen domains a targets found → AreSuccessors (is_step domains) a found
+pub ends_from : (domains : Domains) (a : ℕ) (targets found : List ℕ) → AreTargets domains.rules a targets → AreOpen domains a targets found → AreSuccessors (is_step domains) a found
 ends_from domains a targets found are opened = record {
   each = λ b. (
     λ there. let h = (opened.each b).0 there in open_steps domains a b h.1 ((are.each b (two_types domains a b h.1)).0 h.0),
@@ -111,7 +111,7 @@ ends_from domains a targets found are opened = record {
   );
 }
 
-pub ends_to : (domains : Domains) (b : ℕ) (sources found : List ℕ) → AreSources domains.policy b sources → AreOpen domains b sources found → AreSuccessors (λ node a. is_step domains a node) b found
+pub ends_to : (domains : Domains) (b : ℕ) (sources found : List ℕ) → AreSources domains.rules b sources → AreOpen domains b sources found → AreSuccessors (λ node a. is_step domains a node) b found
 ends_to domains b sources found are opened = record {
   each = λ a. (
     λ there.

@@ -1,4 +1,4 @@
-pub mod Grants
+pub mod DefaultRules
 pub mod Transitions
 pub mod DomainEdges
 pub mod ReasonLists

@@ -3,7 +3,7 @@ ghost use Rattle.std.specs.Prelude.{◌≡◌, ◌≤◌, ◌<◌, ◌^◌, IfOk
 ghost use Rattle.std.specs.List.{All, filter};
 ghost use Rattle.pol_read.specs.StoredRules.{stored_rules};
 ghost use Rattle.rule_order.specs.ListedOrder.{AreRules};
-ghost use Rattle.dom_trans.specs.Grants.{has_default};
+ghost use Rattle.dom_trans.specs.DefaultRules.{has_default};
 ghost use Rattle.dom_trans.specs.Inner.ByDefault.{default_value};
 
 use pol_read::{Policy, RulePart};

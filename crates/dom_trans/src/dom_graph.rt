@@ -3,12 +3,14 @@ ghost use Rattle.std.specs.Prelude.{◌≡◌, IfOk};
 ghost use Rattle.pol_bitmap.specs.Nodes.{bits_of};
 ghost use Rattle.pol_expand.specs.PolicyMap.{IsPolicyMap};
 ghost use Rattle.walk_enum.specs.Walks.{AreSuccessors};
+ghost use Rattle.counted_rules.specs.CountedRules.{all_rules};
 ghost use Rattle.dom_trans.specs.ReasonLists.{reasons_between};
 ghost use Rattle.dom_trans.specs.DomainEdges.{domain_edge, is_step};
 ghost use Rattle.dom_trans.specs.Inner.Targets.{AreOpen};
 
 use crate::dom_rules::DomRules;
 use crate::reasons::Reasons;
+use counted_rules::CountedRules;
 use pol_bitmap::Set;
 use pol_expand::{TypeMap, types_outside};
 use pol_read::Policy;
@@ -17,8 +19,8 @@ use std::marker::Model;
 use std::sync::ledger::Ledger;
 use walk_enum::{Graph, Steps};
 
-/// The graph of the transitions of a policy, or of their reverse. Its nodes are the type values, and a step neither begins nor ends
-/// at an excluded type. Contracts see the policy, the excluded types and the direction.
+/// The graph of the transitions of a policy by its rules that count, or of their reverse. Its nodes are the type values, and a step neither
+/// begins nor ends at an excluded type. Contracts see which rules count, the excluded types and the direction.
 ///
 /// It is made of the rules that transitions rest on, and asks them for the successors of a node. All edges are never made.
 pub struct DomGraph<'p> {
@@ -43,19 +45,23 @@ impl Drop for DomGraph<'_> {
 
 impl<'p> Model for DomGraph<'p> {
     ghost use Rattle.std.specs.Prelude.{◌≡◌};
+    ghost use Rattle.std.specs.Coded.{codes};
     ghost use Rattle.pol_bitmap.specs.Nodes.{bits_of};
     ghost use Rattle.pol_expand.specs.PlainTypes.{types_outside};
+    ghost use Rattle.bool_state.specs.BooleanStates.{values_code};
     ghost use Rattle.dom_trans.specs.DomainEdges.{Domains};
 
     ghost Value = { Domains };
 
-    ghost view = { λ g. record { policy = g.rules; excluded = g.excluded; reverse = g.reverse } };
+    ghost coded = { Prim.hlevel (codes, values_code) };
 
-    ghost invariant = { λ g. bits_of g.included ≡ types_outside g.rules g.excluded };
+    ghost view = { λ g. record { rules = g.rules; excluded = g.excluded; reverse = g.reverse } };
+
+    ghost invariant = { λ g. bits_of g.included ≡ types_outside g.rules.policy g.excluded };
 }
 
 impl<'p> DomGraph<'p> {
-    /// The graph of a policy, with the map of its types. Goes through the rules once.
+    /// The graph of a policy of which all rules count, with the map of its types. Goes through the rules once.
     pub fn new(
         alloc: Global,
         policy: &'p Policy<'p>,
@@ -64,10 +70,24 @@ impl<'p> DomGraph<'p> {
         reverse: bool,
     ) -> Result<DomGraph<'p>, AllocError>
         requires { IsPolicyMap policy.now types.now }
-        ensures { IfOk result (λ graph. graph ≡ record { policy = policy.now; excluded = excluded.now; reverse = reverse }) }
+        ensures { IfOk result (λ graph. graph ≡ record { rules = all_rules policy.now; excluded = excluded.now; reverse = reverse }) }
     {
-        let rules = DomRules::new(alloc, policy, types)?;
-        let included = types_outside(alloc, policy, excluded)?;
+        DomGraph::new_under(alloc, CountedRules::all(policy), types, excluded, reverse)
+    }
+
+    /// The graph of a policy by its rules that count, with the map of its types. Goes through the rules once.
+    pub fn new_under(
+        alloc: Global,
+        rules: CountedRules<'p>,
+        types: &'p TypeMap,
+        excluded: &Set,
+        reverse: bool,
+    ) -> Result<DomGraph<'p>, AllocError>
+        requires { IsPolicyMap rules.policy types.now }
+        ensures { IfOk result (λ graph. graph ≡ record { rules = rules.entry; excluded = excluded.now; reverse = reverse }) }
+    {
+        let included = types_outside(alloc, rules.policy(), excluded)?;
+        let rules = DomRules::new(alloc, rules, types)?;
         Ok(DomGraph {
             rules,
             excluded: excluded.share()?,
@@ -78,7 +98,7 @@ impl<'p> DomGraph<'p> {
 
     /// The policy.
     pub fn policy(&self) -> &'p Policy<'p>
-        ensures { result.now ≡ self.now.policy }
+        ensures { result.now ≡ self.now.rules.policy }
     {
         self.rules.policy()
     }
@@ -97,7 +117,7 @@ impl<'p> DomGraph<'p> {
 
     /// The rules behind the transition from a type to a type. Exclusion and direction change none of them.
     pub fn reasons(&self, alloc: Global, from: u32, to: u32) -> Result<Reasons, AllocError>
-        ensures { IfOk result (λ reasons. reasons ≡ reasons_between self.now.policy from to) }
+        ensures { IfOk result (λ reasons. reasons ≡ reasons_between self.now.rules from to) }
     {
         self.rules.reasons(alloc, from, to)
     }

@@ -1,17 +1,20 @@
-// The rules of a policy that transitions rest on.
+// The rules of a policy that count and that transitions rest on.
 ghost use Rattle.std.specs.Prelude.{◌≡◌, ◌+◌, ◌++◌, ◌≤◌, ◌<◌, ◌^◌, [], ◌∷◌, IfOk, OnOk, length, map};
 ghost use Rattle.pol_bitmap.specs.Nodes.{bits_of};
 ghost use Rattle.pol_expand.specs.PolicyMap.{IsPolicyMap};
 ghost use Rattle.pol_read.specs.StoredRules.{stored_rules};
 ghost use Rattle.pol_expand.specs.JoinedTypes.{targets_from};
 ghost use Rattle.rules_between.specs.Inner.RuleTables.{AreEndsOf};
-ghost use Rattle.dom_trans.specs.Grants.{granting_rules, grants, default_rules, process, setexec, setcurrent, file, entrypoint};
+ghost use Rattle.rule_grants.specs.Grants.{granting_rules, grants};
+ghost use Rattle.rule_grants.specs.Names.{process, setexec, setcurrent, file, entrypoint};
+ghost use Rattle.dom_trans.specs.DefaultRules.{default_rules};
 ghost use Rattle.dom_trans.specs.Inner.Keeping.{AreKept, wanted_in};
 ghost use Rattle.dom_trans.specs.Inner.RuleLists.{chosen, rule_lists, rules_of};
 
 use crate::by_default::RulesByDefault;
 use crate::grant::Grant;
 use crate::keeping::{Kept, kept_rules};
+use counted_rules::CountedRules;
 use pol_bitmap::Set;
 use pol_expand::TypeMap;
 use pol_read::Policy;
@@ -19,10 +22,11 @@ use rules_between::{ChosenRules, RulesWithEnds};
 use std::alloc::{AllocError, Global};
 use std::marker::Model;
 
-/// The rules of a policy that transitions rest on, by what they grant. Contracts see the policy.
+/// The rules of a policy that transitions rest on, by what they grant. Contracts see which rules count.
 #[derive(Drop)]
 pub struct DomRules<'p> {
-    pub(crate) policy: &'p Policy<'p>,
+    // Those that count.
+    pub(crate) rules: CountedRules<'p>,
     pub(crate) types: &'p TypeMap,
     // One for each grant, in their order.
     pub(crate) lists: Vec<ChosenRules<'p>>,
@@ -31,35 +35,39 @@ pub struct DomRules<'p> {
 }
 
 impl<'p> Model for DomRules<'p> {
-    ghost use Rattle.pol_file.specs.declared.Parts.{Parts};
     ghost use Rattle.std.specs.Prelude.{◌≡◌};
+    ghost use Rattle.std.specs.Coded.{codes};
+    ghost use Rattle.bool_state.specs.BooleanStates.{values_code};
+    ghost use Rattle.counted_rules.specs.CountedRules.{Counted};
     ghost use Rattle.pol_expand.specs.PolicyMap.{IsPolicyMap};
-    ghost use Rattle.dom_trans.specs.Grants.{default_rules};
+    ghost use Rattle.dom_trans.specs.DefaultRules.{default_rules};
     ghost use Rattle.dom_trans.specs.Inner.RuleLists.{HaveTypeEnds, chosen, rule_lists};
 
-    ghost Value = { Parts };
+    ghost Value = { Counted };
 
-    ghost view = { λ r. r.policy.now };
+    ghost coded = { Prim.hlevel (codes, values_code) };
 
-    ghost invariant = { λ r. (r.lists.items ≡ rule_lists r.policy.now) × IsPolicyMap r.policy.now r.types.now × (r.defaults ≡ chosen r.policy.now (default_rules r.policy.now)) × HaveTypeEnds r.policy.now (default_rules r.policy.now) };
+    ghost view = { λ r. r.rules };
+
+    ghost invariant = { λ r. (r.lists.items ≡ rule_lists r.rules) × IsPolicyMap r.rules.policy r.types.now × (r.defaults ≡ chosen r.rules.policy (default_rules r.rules)) × HaveTypeEnds r.rules.policy (default_rules r.rules) };
 }
 
 impl<'p> DomRules<'p> {
     /// Goes through the rules of a policy once.
     pub fn new(
         alloc: Global,
-        policy: &'p Policy<'p>,
+        rules: CountedRules<'p>,
         types: &'p TypeMap,
     ) -> Result<DomRules<'p>, AllocError>
-        requires { IsPolicyMap policy.now types.now }
-        ensures { IfOk result (λ rules. rules ≡ policy.now) }
+        requires { IsPolicyMap rules.policy types.now }
+        ensures { IfOk result (λ found. found ≡ rules.entry) }
     {
-        let kept = kept_rules(alloc, policy)?;
+        let kept = kept_rules(alloc, &rules)?;
         let numbers = copied(alloc, &kept.defaults.rules)?;
-        let defaults = RulesByDefault::of_rules(alloc, policy, numbers)?;
-        let lists = lists_of(alloc, policy, types, kept)?;
+        let defaults = RulesByDefault::of_rules(alloc, rules.policy(), numbers)?;
+        let lists = lists_of(alloc, &rules, types, kept)?;
         Ok(DomRules {
-            policy,
+            rules,
             types,
             lists,
             defaults,
@@ -68,14 +76,14 @@ impl<'p> DomRules<'p> {
 
     /// The policy.
     pub fn policy(&self) -> &'p Policy<'p>
-        ensures { result.now ≡ self.now }
+        ensures { result.now ≡ self.now.policy }
     {
-        self.policy
+        self.rules.policy()
     }
 
     // The rules of a grant.
     pub(crate) fn list(&self, grant: Grant) -> &ChosenRules<'p>
-        ensures { result.now ≡ chosen self.now (rules_of self.now grant) }
+        ensures { result.now ≡ chosen self.now.policy (rules_of self.now grant) }
     {
         &self.lists[grant.place()]
     }
@@ -96,7 +104,7 @@ impl<'p> DomRules<'p> {
 
     // The types that are entry points of a domain.
     pub(crate) fn points(&self, alloc: Global, b: u32) -> Result<Set, AllocError>
-        ensures { IfOk result (λ points. bits_of points ≡ targets_from self.now (granting_rules self.now file entrypoint) b) }
+        ensures { IfOk result (λ points. bits_of points ≡ targets_from self.now.policy (granting_rules self.now file entrypoint) b) }
     {
         self.list(Grant::Entrypoint).targets_of(alloc, b)
     }
@@ -114,39 +122,39 @@ fn copied(alloc: Global, numbers: &[u32]) -> Result<Vec<u32>, AllocError>
 // The rules of each grant, in their order.
 fn lists_of<'p>(
     alloc: Global,
-    policy: &'p Policy<'p>,
+    rules: &CountedRules<'p>,
     types: &'p TypeMap,
     kept: Kept,
 ) -> Result<Vec<ChosenRules<'p>>, AllocError>
-    requires map { IsPolicyMap policy.now types.now }
-    requires kept { AreKept policy.now (wanted_in policy.now.symbols) (length (stored_rules policy.now)) kept }
-    requires few { length (stored_rules policy.now) ≤ 400000000 }
-    ensures { IfOk result (λ lists. lists.items ≡ rule_lists policy.now) }
+    requires map { IsPolicyMap rules.now.policy types.now }
+    requires kept { AreKept rules.now (wanted_in rules.now.policy.symbols) (length (stored_rules rules.now.policy)) kept }
+    requires few { length (stored_rules rules.now.policy) ≤ 400000000 }
+    ensures { IfOk result (λ lists. lists.items ≡ rule_lists rules.now) }
 {
     let mut lists = Vec::with_capacity(alloc, 7)?;
-    push_ends(&mut lists, policy, types, kept.transition)?;
-    push_ends(&mut lists, policy, types, kept.dyntransition)?;
-    push_ends(&mut lists, policy, types, kept.setexec)?;
-    push_ends(&mut lists, policy, types, kept.setcurrent)?;
-    push_ends(&mut lists, policy, types, kept.execute)?;
-    push_ends(&mut lists, policy, types, kept.entrypoint)?;
-    push_ends(&mut lists, policy, types, kept.defaults)?;
+    push_ends(&mut lists, rules, types, kept.transition)?;
+    push_ends(&mut lists, rules, types, kept.dyntransition)?;
+    push_ends(&mut lists, rules, types, kept.setexec)?;
+    push_ends(&mut lists, rules, types, kept.setcurrent)?;
+    push_ends(&mut lists, rules, types, kept.execute)?;
+    push_ends(&mut lists, rules, types, kept.entrypoint)?;
+    push_ends(&mut lists, rules, types, kept.defaults)?;
     Ok(lists)
 }
 
 // Adds rules with their ends to lists.
 fn push_ends<'p>(
     lists: &mut Vec<ChosenRules<'p>>,
-    policy: &'p Policy<'p>,
+    rules: &CountedRules<'p>,
     types: &'p TypeMap,
     gathered: RulesWithEnds,
 ) -> Result<(), AllocError>
-    requires map { IsPolicyMap policy.now types.now }
-    requires ends { AreEndsOf policy.now gathered.rules.items gathered.sources.items gathered.targets.items }
+    requires map { IsPolicyMap rules.now.policy types.now }
+    requires ends { AreEndsOf rules.now.policy gathered.rules.items gathered.sources.items gathered.targets.items }
     requires few { length gathered.rules.items < 2 ^ 32 }
-    ensures { OnOk result (lists.new.items ≡ lists.old.items ++ chosen policy.now gathered.rules.items ∷ []) }
+    ensures { OnOk result (lists.new.items ≡ lists.old.items ++ chosen rules.now.policy gathered.rules.items ∷ []) }
 {
     let alloc = *lists.allocator();
-    lists.push(ChosenRules::of_gathered(alloc, policy, types, gathered)?)?;
+    lists.push(ChosenRules::of_gathered(alloc, rules.policy(), types, gathered)?)?;
     Ok(())
 }

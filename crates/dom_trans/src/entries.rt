@@ -6,13 +6,13 @@ ghost use Rattle.rule_order.specs.ListedOrder.{AreRules};
 ghost use Rattle.rules_between.specs.ChosenRules.{begins_at};
 ghost use Rattle.pol_expand.specs.PlainTypes.{is_type_value};
 ghost use Rattle.dom_trans.specs.Inner.Targets.{starts_to};
-ghost use Rattle.dom_trans.specs.Grants.{has_default};
+ghost use Rattle.dom_trans.specs.DefaultRules.{has_default};
 ghost use Rattle.dom_trans.specs.Transitions.{entries, defaults_between};
 ghost use Rattle.dom_trans.specs.Inner.EntryPoints.{AreDefaultsFrom, default_points, executable_points};
 
+use crate::default_domains::has_default;
 use crate::dom_rules::DomRules;
 use crate::grant::Grant;
-use crate::permission::has_default;
 use pol_bitmap::Set;
 use pol_cursor::{NumberList, OwnedList};
 use rules_between::rule_begins_at;
@@ -21,12 +21,12 @@ use std::alloc::{AllocError, Global};
 impl<'p> DomRules<'p> {
     // Of some rules, the ones whose default is that type.
     fn with_default(&self, alloc: Global, b: u32, numbers: &[u32]) -> Result<Vec<u32>, AllocError>
-        requires { AreRules self.now numbers.now }
-        ensures { IfOk result (λ found. found.items ≡ filter (has_default self.now b) numbers.now) }
+        requires { AreRules self.now.policy numbers.now }
+        ensures { IfOk result (λ found. found.items ≡ filter (has_default self.now.policy b) numbers.now) }
     {
         let mut found = Vec::new(alloc);
         for number in numbers {
-            if has_default(b, &self.policy.rule(*number)) {
+            if has_default(b, &self.policy().rule(*number)) {
                 found.push(*number)?;
             }
         }
@@ -35,12 +35,12 @@ impl<'p> DomRules<'p> {
 
     // Of some rules, the ones whose source expands to a type.
     fn beginning_at(&self, alloc: Global, a: u32, numbers: &[u32]) -> Result<Vec<u32>, AllocError>
-        requires { AreRules self.now numbers.now }
-        ensures { IfOk result (λ found. found.items ≡ filter (begins_at self.now a) numbers.now) }
+        requires { AreRules self.now.policy numbers.now }
+        ensures { IfOk result (λ found. found.items ≡ filter (begins_at self.now.policy a) numbers.now) }
     {
         let mut found = Vec::new(alloc);
         for number in numbers {
-            if rule_begins_at(self.policy, *number, a) {
+            if rule_begins_at(self.policy(), *number, a) {
                 found.push(*number)?;
             }
         }
@@ -64,7 +64,7 @@ impl<'p> DomRules<'p> {
 
     // The rules that say so, whatever the entry type is, among the rules of the one type or of the other, whichever are fewer.
     fn defaults_from(&self, alloc: Global, a: u32, b: u32) -> Result<Vec<u32>, AllocError>
-        requires { is_type_value self.now b ≡ true }
+        requires { is_type_value self.now.policy b ≡ true }
         ensures { IfOk result (λ found. AreDefaultsFrom self.now a b found.items) }
     {
         let rules = self.list(Grant::Default);
@@ -79,7 +79,7 @@ impl<'p> DomRules<'p> {
 
     // The types from which a process that the one type starts has the other as its default domain.
     fn starts_to(&self, alloc: Global, a: u32, b: u32) -> Result<Set, AllocError>
-        requires { is_type_value self.now b ≡ true }
+        requires { is_type_value self.now.policy b ≡ true }
         ensures { IfOk result (λ starts. bits_of starts ≡ starts_to self.now a b) }
     {
         let found = self.defaults_from(alloc, a, b)?;
@@ -103,7 +103,7 @@ impl<'p> DomRules<'p> {
 
     // The entry points that a type may execute, from which a process that it starts has the domain by default.
     fn default_points(&self, alloc: Global, a: u32, b: u32) -> Result<Set, AllocError>
-        requires { is_type_value self.now b ≡ true }
+        requires { is_type_value self.now.policy b ≡ true }
         ensures { IfOk result (λ points. bits_of points ≡ default_points self.now a b) }
     {
         let starts = self.starts_to(alloc, a, b)?;
@@ -114,7 +114,7 @@ impl<'p> DomRules<'p> {
 
     // The entries from a type to a domain, rising.
     pub(crate) fn entries(&self, alloc: Global, a: u32, b: u32) -> Result<Vec<u32>, AllocError>
-        requires { is_type_value self.now b ≡ true }
+        requires { is_type_value self.now.policy b ≡ true }
         ensures { IfOk result (λ found. found.items ≡ entries self.now a b) }
     {
         if self.may_ask(alloc, a)? {

@@ -7,7 +7,8 @@ ghost use Rattle.pol_expand.specs.JoinedTypes.{any_joins, sources_to};
 ghost use Rattle.rules_between.specs.ChosenRules.{common_sources};
 ghost use Rattle.pol_expand.specs.PlainTypes.{is_type_value};
 ghost use Rattle.dom_trans.specs.Inner.Targets.{AreEntering, AreSources};
-ghost use Rattle.dom_trans.specs.Grants.{granting_rules, grants, process, dyntransition, setcurrent, file, execute};
+ghost use Rattle.rule_grants.specs.Grants.{granting_rules, grants};
+ghost use Rattle.rule_grants.specs.Names.{process, dyntransition, setcurrent, file, execute};
 ghost use Rattle.dom_trans.specs.Inner.RuleLists.{rules_of, rules_to};
 
 use crate::dom_rules::DomRules;
@@ -47,20 +48,20 @@ impl<'p> DomRules<'p> {
 
     // The types that start a process from one of some types, which they may execute, and have a type as its default domain.
     fn starting(&self, alloc: Global, b: u32, points: &Set) -> Result<Set, AllocError>
-        requires { is_type_value self.now b ≡ true }
-        ensures { IfOk result (λ set. bits_of set ≡ common_sources self.now (rules_to self.now b) (granting_rules self.now file execute) (bits_of points.now)) }
+        requires { is_type_value self.now.policy b ≡ true }
+        ensures { IfOk result (λ set. bits_of set ≡ common_sources self.now.policy (rules_to self.now b) (granting_rules self.now file execute) (bits_of points.now)) }
     {
         let numbers = self.defaults.rules_to(alloc, b)?;
         if numbers.is_empty() {
             return Set::empty(alloc);
         }
-        let rules = ChosenRules::build(alloc, self.policy, self.types, numbers)?;
+        let rules = ChosenRules::build(alloc, self.policy(), self.types, numbers)?;
         rules.common_sources(alloc, self.list(Grant::Execute), points)
     }
 
     // The types that may change to a type without executing a file.
     fn turning(&self, alloc: Global, b: u32) -> Result<Set, AllocError>
-        ensures { IfOk result (λ set. bits_of set ≡ filter (λ a. grants self.now a a process setcurrent) (sources_to self.now (granting_rules self.now process dyntransition) b)) }
+        ensures { IfOk result (λ set. bits_of set ≡ filter (λ a. grants self.now a a process setcurrent) (sources_to self.now.policy (granting_rules self.now process dyntransition) b)) }
     {
         let allowed = self.list(Grant::Dyntransition).sources_of(alloc, b)?;
         self.having(alloc, Grant::Setcurrent, &allowed)
@@ -69,7 +70,7 @@ impl<'p> DomRules<'p> {
     // Of some types, the ones that a grant is given to, on themselves.
     fn having(&self, alloc: Global, grant: Grant, types: &Set) -> Result<Set, AllocError>
         requires { IsStrictlyIncreasing (bits_of types.now) }
-        ensures { IfOk result (λ set. bits_of set ≡ filter (λ a. any_joins self.now (rules_of self.now grant) a a) (bits_of types.now)) }
+        ensures { IfOk result (λ set. bits_of set ≡ filter (λ a. any_joins self.now.policy (rules_of self.now grant) a a) (bits_of types.now)) }
     {
         let mut found = Vec::new(alloc);
         for a in types.bits() {

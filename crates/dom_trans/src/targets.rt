@@ -7,12 +7,13 @@ ghost use Rattle.std.specs.Ordering.{nat_cmp};
 ghost use Rattle.pol_bitmap.specs.Nodes.{bits_of};
 ghost use Rattle.value_groups.specs.Among.{is_among};
 ghost use Rattle.dom_trans.specs.Inner.Targets.{AreEntered, AreTargets, AreTypeValues, HaveDefaultOf, default_set_by, enters_by, starts_at_point};
-ghost use Rattle.dom_trans.specs.Grants.{default_rules, setexec, setcurrent};
+ghost use Rattle.rule_grants.specs.Names.{setexec, setcurrent};
+ghost use Rattle.dom_trans.specs.DefaultRules.{default_rules};
 ghost use Rattle.dom_trans.specs.Inner.RuleLists.{IsSourceOf};
 
+use crate::default_domains::default_in;
 use crate::dom_rules::DomRules;
 use crate::grant::Grant;
-use crate::permission::default_in;
 use pol_bitmap::Set;
 use pol_expand::is_type;
 use std::alloc::{AllocError, Global};
@@ -61,7 +62,7 @@ impl<'p> DomRules<'p> {
     {
         let mut numbers = self.list(Grant::Default).rules_from(alloc, a)?;
         self.sort_by_default(&mut numbers)?;
-        let mut found = DenseSet::new(alloc, self.policy.type_count() as usize + 1)?;
+        let mut found = DenseSet::new(alloc, self.policy().type_count() as usize + 1)?;
         let mut left = numbers.as_slice();
         while !left.is_empty() {
             let (alike, rest) = left.split_at(self.count_alike(left));
@@ -74,7 +75,7 @@ impl<'p> DomRules<'p> {
     // Puts rules of the same default together.
     fn sort_by_default(&self, numbers: &mut Vec<u32>) -> Result<(), AllocError>
         ensures same { IsPermutation numbers.old.items numbers.new.items }
-        ensures rise { OnOk result (IsSortedByKey (default_set_by self.now) (option_cmp nat_cmp) numbers.new.items) }
+        ensures rise { OnOk result (IsSortedByKey (default_set_by self.now.policy) (option_cmp nat_cmp) numbers.new.items) }
     {
         numbers.sort_by_cached_key(|number| self.default_of(*number))
     }
@@ -84,8 +85,8 @@ impl<'p> DomRules<'p> {
         requires { 1 ≤ length numbers.now }
         ensures some { 1 ≤ result }
         ensures most { result ≤ length numbers.now }
-        ensures alike { HaveDefaultOf self.now (slice_index numbers.now 0) (take result numbers.now) }
-        ensures longest { result < length numbers.now → ¬ (default_set_by self.now (slice_index numbers.now result) ≡ default_set_by self.now (slice_index numbers.now 0)) }
+        ensures alike { HaveDefaultOf self.now.policy (slice_index numbers.now 0) (take result numbers.now) }
+        ensures longest { result < length numbers.now → ¬ (default_set_by self.now.policy (slice_index numbers.now result) ≡ default_set_by self.now.policy (slice_index numbers.now 0)) }
     {
         let first = self.default_of(numbers[0]);
         for place in 1..numbers.len() {
@@ -98,12 +99,12 @@ impl<'p> DomRules<'p> {
 
     // The default of the rule of a number, if it has one.
     fn default_of(&self, number: u32) -> Option<u32>
-        ensures { result ≡ default_set_by self.now number }
+        ensures { result ≡ default_set_by self.now.policy number }
     {
-        if number >= self.policy.rule_count() {
+        if number >= self.policy().rule_count() {
             return None;
         }
-        default_in(&self.policy.rule(number))
+        default_in(&self.policy().rule(number))
     }
 
     // Adds the default that some rules have, where they start it from one of its entry points among some types.
@@ -116,9 +117,9 @@ impl<'p> DomRules<'p> {
     ) -> Result<(), AllocError>
         requires some { 1 ≤ length numbers.now }
         requires rules { All (Contains (default_rules self.now)) numbers.now }
-        requires alike { HaveDefaultOf self.now (slice_index numbers.now 0) numbers.now }
-        requires within { AreTypeValues self.now (bits_of executable.now) }
-        requires count { found.old.count ≡ self.now.symbols.types.nprim + 1 }
+        requires alike { HaveDefaultOf self.now.policy (slice_index numbers.now 0) numbers.now }
+        requires within { AreTypeValues self.now.policy (bits_of executable.now) }
+        requires count { found.old.count ≡ self.now.policy.symbols.types.nprim + 1 }
         ensures count { found.new.count ≡ found.old.count }
         ensures each { OnOk result ((b : ℕ) → is_among found.new.values b ≡ (is_among found.old.values b || list_any (enters_by self.now (bits_of executable.now) b) numbers.now)) }
     {
@@ -143,7 +144,7 @@ impl<'p> DomRules<'p> {
         types: &Set,
     ) -> Result<bool, AllocError>
         requires rules { All (Contains (default_rules self.now)) numbers.now }
-        requires within { AreTypeValues self.now (bits_of types.now) }
+        requires within { AreTypeValues self.now.policy (bits_of types.now) }
         ensures { IfOk result (λ holds. holds ≡ list_any (starts_at_point self.now (bits_of types.now) b) numbers.now) }
     {
         let starts = self.list(Grant::Default).targets_of_rules(alloc, numbers)?;

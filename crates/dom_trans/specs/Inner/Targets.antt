@@ -6,25 +6,28 @@ use Rattle.pol_file.specs.declared.Parts.{Parts}
 use Rattle.pol_read.specs.declared.RulePart.{RulePart}
 use Rattle.pol_read.specs.declared.RulePart.TheVariants.{Default}
 use Rattle.pol_read.specs.StoredRules.{stored_rules}
+use Rattle.counted_rules.specs.CountedRules.{Counted}
 use Rattle.rules_between.specs.ChosenRules.{ends_at}
 use Rattle.pol_expand.specs.PlainTypes.{are_two_types, is_type_value}
-use Rattle.dom_trans.specs.Grants.{grants, has_default, file, entrypoint}
+use Rattle.rule_grants.specs.Grants.{grants}
+use Rattle.rule_grants.specs.Names.{file, entrypoint}
+use Rattle.dom_trans.specs.DefaultRules.{has_default}
 use Rattle.dom_trans.specs.Transitions.{is_default, is_entry, is_standard, is_transition}
 use Rattle.dom_trans.specs.DomainEdges.{Domains}
 
 -- there is an entry from the one type to the other
-abbrev pub has_entry : Parts → ℕ → ℕ → Bool
-has_entry policy a b = list_any (is_entry policy a b) (range_with_len 1 policy.symbols.types.nprim)
+abbrev pub has_entry : Counted → ℕ → ℕ → Bool
+has_entry rules a b = list_any (is_entry rules a b) (range_with_len 1 rules.policy.symbols.types.nprim)
 
 -- ---- from a type
 
 -- Of the types other than one, those among some types are the ones that have an entry from it.
-pub record AreEntered (policy : Parts) (a : ℕ) (types : List ℕ) : Type 0 where
-  pub each : (b : ℕ) → are_two_types policy a b ≡ true → Contains types b ↔ (has_entry policy a b ≡ true)
+pub record AreEntered (rules : Counted) (a : ℕ) (types : List ℕ) : Type 0 where
+  pub each : (b : ℕ) → are_two_types rules.policy a b ≡ true → Contains types b ↔ (has_entry rules a b ≡ true)
 
 -- Of the types other than one, those among some types are the ones that it has a transition to.
-pub record AreTargets (policy : Parts) (a : ℕ) (types : List ℕ) : Type 0 where
-  pub each : (b : ℕ) → are_two_types policy a b ≡ true → Contains types b ↔ (is_transition policy a b ≡ true)
+pub record AreTargets (rules : Counted) (a : ℕ) (types : List ℕ) : Type 0 where
+  pub each : (b : ℕ) → are_two_types rules.policy a b ≡ true → Contains types b ↔ (is_transition rules a b ≡ true)
 
 -- values of types and attributes
 abbrev pub AreTypeValues : Parts → List ℕ → Type 0
@@ -44,12 +47,12 @@ abbrev pub HaveDefaultOf : Parts → ℕ → List ℕ → Type 0
 HaveDefaultOf policy first numbers = All (λ number. default_set_by policy number ≡ default_set_by policy first) numbers
 
 -- a process that starts by a rule, from one of some types, starts from an entry point of a domain
-abbrev pub starts_at_point : Parts → List ℕ → ℕ → ℕ → Bool
-starts_at_point policy types b number = list_any (λ entry. ends_at policy entry number && grants policy b entry file entrypoint) types
+abbrev pub starts_at_point : Counted → List ℕ → ℕ → ℕ → Bool
+starts_at_point rules types b number = list_any (λ entry. ends_at rules.policy entry number && grants rules b entry file entrypoint) types
 
 -- so it does, and the domain is the default of the rule
-abbrev pub enters_by : Parts → List ℕ → ℕ → ℕ → Bool
-enters_by policy types b number = is_type_value policy b && has_default policy b number && starts_at_point policy types b number
+abbrev pub enters_by : Counted → List ℕ → ℕ → ℕ → Bool
+enters_by rules types b number = is_type_value rules.policy b && has_default rules.policy b number && starts_at_point rules types b number
 
 -- a value is the one that was found
 abbrev pub is_found : Option ℕ → ℕ → Bool
@@ -59,22 +62,22 @@ is_found (Some found) value = found == value
 -- ---- to a type
 
 -- the types from which a process that the one type starts has the other as its default domain, rising
-unfoldable pub starts_to : Parts → ℕ → ℕ → List ℕ
-starts_to policy a b = filter (is_default policy a b) (range_with_len 1 policy.symbols.types.nprim)
+unfoldable pub starts_to : Counted → ℕ → ℕ → List ℕ
+starts_to rules a b = filter (is_default rules a b) (range_with_len 1 rules.policy.symbols.types.nprim)
 
 -- Of the types other than one, those among some types are the ones that have a transition to it by executing a file.
-pub record AreEntering (policy : Parts) (b : ℕ) (types : List ℕ) : Type 0 where
-  pub each : (a : ℕ) → are_two_types policy a b ≡ true → Contains types a ↔ (is_standard policy a b ≡ true)
+pub record AreEntering (rules : Counted) (b : ℕ) (types : List ℕ) : Type 0 where
+  pub each : (a : ℕ) → are_two_types rules.policy a b ≡ true → Contains types a ↔ (is_standard rules a b ≡ true)
 
 -- Of the types other than one, those among some types are the ones that have a transition to it.
-pub record AreSources (policy : Parts) (b : ℕ) (types : List ℕ) : Type 0 where
-  pub each : (a : ℕ) → are_two_types policy a b ≡ true → Contains types a ↔ (is_transition policy a b ≡ true)
+pub record AreSources (rules : Counted) (b : ℕ) (types : List ℕ) : Type 0 where
+  pub each : (a : ℕ) → are_two_types rules.policy a b ≡ true → Contains types a ↔ (is_transition rules a b ≡ true)
 
 -- ---- steps
 
 -- two different types, none of them excluded
 abbrev pub is_open : Domains → ℕ → ℕ → Bool
-is_open domains a b = are_two_types domains.policy a b && not (has_bit domains.excluded a || has_bit domains.excluded b)
+is_open domains a b = are_two_types domains.rules.policy a b && not (has_bit domains.excluded a || has_bit domains.excluded b)
 
 -- of some types, those between which and a type a step may be
 pub record AreOpen (domains : Domains) (a : ℕ) (types found : List ℕ) : Type 0 where

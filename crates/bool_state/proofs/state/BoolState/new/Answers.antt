@@ -1,7 +1,8 @@
-use Rattle.std.proofs.Common.{◌≡◌, ◌↔◌, ℕ, List, sym, ◌∙◌, subst, arith}
-use Rattle.std.specs.Prelude.{Contains}
+use Rattle.std.proofs.Common.{◌≡◌, ℕ, List, sym, ap, ◌∙◌, arith}
+use Rattle.std.specs.FinSet as set
 use Rattle.pol_bitmap.specs.Nodes.{bits_of}
 use Rattle.bool_state.specs.BooleanStates.{values_on}
+use Rattle.bool_state.proofs.BooleanSets.{same_values}
 use Rattle.bool_state.proofs.TrueBooleans.{values_none, values_next, values_end}
 use Rattle.bool_state.proofs.state.BoolState.new.Goals as goal
 
@@ -13,7 +14,7 @@ loop-i-preserved c =
     c.in_ok-push_on.ensures
     ∙ values_next c.args.given.now c.args.symbols.now.booleans.records c.loop-i.i c.boolean_view.result c.loop-i.values.items c.boolean_view.ensures c.loop-i.invariant
 
-pub returns-clause-members : goal.returns-clause-members
-returns-clause-members c =
+pub returns : goal.returns
+returns c =
     let all : c.loop-i.values.items ≡ values_on c.args.given.now c.args.symbols.now.booleans.records = values_end c.args.given.now c.args.symbols.now.booleans.records c.loop-i.i c.loop-i.values.items (omega arith) c.loop-i.invariant in
-    λ value. subst (λ (l : List ℕ). Contains (bits_of c.in_ok-on.on) value ↔ Contains l value) all (c.in_ok-on.ensures.bits value)
+    same_values (bits_of c.in_ok-on.on) c.loop-i.values.items c.in_ok-on.ensures.bits ∙ ap (λ (values : List ℕ). set.from_list values) all

@@ -4,7 +4,7 @@ use Rattle.std.specs.List.{filter}
 use Rattle.std.proofs.lemmas.List.{length-map}
 use Rattle.value_groups.specs.Inner.Grouping.{group_of}
 use Rattle.rules_between.specs.ChosenRules.{ChosenRules}
-use Rattle.dom_trans.specs.Grants.{has_default}
+use Rattle.dom_trans.specs.DefaultRules.{has_default}
 use Rattle.dom_trans.proofs.Grouped.{grouped_are}
 use Rattle.dom_trans.proofs.by_default.RulesByDefault.count_to.Goals as goal
 

@@ -3,7 +3,7 @@ use Rattle.std.specs.Prelude.{slice_index}
 use Rattle.std.specs.List.{All, filter}
 use Rattle.std.proofs.lemmas.Result.{IfOk-weaker}
 use Rattle.rules_between.specs.ChosenRules.{ChosenRules}
-use Rattle.dom_trans.specs.Grants.{has_default}
+use Rattle.dom_trans.specs.DefaultRules.{has_default}
 use Rattle.dom_trans.proofs.Grouped.{grouped_are, places_within}
 use Rattle.dom_trans.proofs.by_default.RulesByDefault.rules_to.Goals as goal
 

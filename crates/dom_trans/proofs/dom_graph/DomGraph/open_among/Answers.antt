@@ -13,7 +13,7 @@ use Rattle.dom_trans.proofs.dom_graph.DomGraph.open_among.Goals as goal
 pub returns-then-not-has : goal.returns-then-not-has
 returns-then-not-has c =
     let inside = c.self.inside in
-    let domains : Domains = record { policy = inside.rules; excluded = inside.excluded; reverse = inside.reverse } in
+    let domains : Domains = record { rules = inside.rules; excluded = inside.excluded; reverse = inside.reverse } in
     let types = bits_of c.args.types.now in
     let answer : c.has.result ≡ false = grind (arith, c.if-not-has.true) in
     subst (λ (d : Domains). IfOk c.empty.result (λ (found : List Node). AreOpen d c.args.a types (bits_of found))) c.self.view_is
@@ -23,7 +23,7 @@ returns-then-not-has c =
 pub returns : goal.returns
 returns c =
     let inside = c.self.inside in
-    let domains : Domains = record { policy = inside.rules; excluded = inside.excluded; reverse = inside.reverse } in
+    let domains : Domains = record { rules = inside.rules; excluded = inside.excluded; reverse = inside.reverse } in
     let types = bits_of c.args.types.now in
     let both = bits_of c.in_ok-both.both in
     let itself = bits_of c.in_ok-itself.itself in

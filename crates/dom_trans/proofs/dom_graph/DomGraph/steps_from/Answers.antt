@@ -13,5 +13,5 @@ returns c =
     let domains = c.args.self.now in
     let targets = bits_of c.in_ok-targets.targets in
     IfOk-weaker c.open_among.result (λ (set : List Node). AreOpen domains c.args.a targets (bits_of set)) (λ (set : List Node). AreSuccessors (is_step domains) c.args.a (bits_of set))
-    (λ set opened. ends_from domains c.args.a targets (bits_of set) (subst (λ (s : Domains). AreTargets s.policy c.args.a targets) c.self.view_is c.in_ok-targets.ensures) opened)
+    (λ set opened. ends_from domains c.args.a targets (bits_of set) (subst (λ (s : Domains). AreTargets s.rules c.args.a targets) c.self.view_is c.in_ok-targets.ensures) opened)
     c.open_among.ensures

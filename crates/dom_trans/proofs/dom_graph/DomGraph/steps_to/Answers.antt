@@ -13,5 +13,5 @@ returns c =
     let domains = c.args.self.now in
     let sources = bits_of c.in_ok-sources.sources in
     IfOk-weaker c.open_among.result (λ (set : List Node). AreOpen domains c.args.b sources (bits_of set)) (λ (set : List Node). AreSuccessors (λ node a. is_step domains a node) c.args.b (bits_of set))
-    (λ set opened. ends_to domains c.args.b sources (bits_of set) (subst (λ (s : Domains). AreSources s.policy c.args.b sources) c.self.view_is c.in_ok-sources.ensures) opened)
+    (λ set opened. ends_to domains c.args.b sources (bits_of set) (subst (λ (s : Domains). AreSources s.rules c.args.b sources) c.self.view_is c.in_ok-sources.ensures) opened)
     c.open_among.ensures

@@ -28,11 +28,11 @@ starting-requires c =
 
 pub returns : goal.returns
 returns c =
-    let policy = c.args.self.now in
+    let rules = c.args.self.now in
     let points = bits_of c.in_ok-points.points in
     let allowed = c.in_ok-allowed.ensures ∙ ap (λ (ends : ChosenRules). sources_to ends.policy ends.rules c.args.b) c.list.ensures in
     let executing = c.in_ok-executing.ensures ∙ ap (λ (ends : ChosenRules). sources_to_any ends.policy ends.rules points) c.list-2.ensures in
-    IfOk-weaker c.union.result (λ (set : List Node). IsUnion (bits_of c.in_ok-asking.asking) (bits_of c.in_ok-default.default) (bits_of set)) (λ (set : List Node). AreEntering policy c.args.b (bits_of set))
-    (λ set union. entering_are policy c.args.b points (bits_of c.in_ok-executing.executing) (bits_of c.in_ok-allowed.allowed) (bits_of c.in_ok-among.among) (bits_of c.in_ok-asking.asking) (bits_of c.in_ok-starting.starting) (bits_of c.in_ok-default.default) (bits_of set)
+    IfOk-weaker c.union.result (λ (set : List Node). IsUnion (bits_of c.in_ok-asking.asking) (bits_of c.in_ok-default.default) (bits_of set)) (λ (set : List Node). AreEntering rules c.args.b (bits_of set))
+    (λ set union. entering_are rules c.args.b points (bits_of c.in_ok-executing.executing) (bits_of c.in_ok-allowed.allowed) (bits_of c.in_ok-among.among) (bits_of c.in_ok-asking.asking) (bits_of c.in_ok-starting.starting) (bits_of c.in_ok-default.default) (bits_of set)
     c.in_ok-points.ensures executing allowed c.in_ok-among.ensures.bits c.in_ok-asking.ensures c.in_ok-starting.ensures c.in_ok-default.ensures.bits union)
     c.union.ensures.bits

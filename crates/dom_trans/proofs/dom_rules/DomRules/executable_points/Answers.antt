@@ -9,16 +9,16 @@ use Rattle.dom_trans.proofs.dom_rules.DomRules.executable_points.Goals as goal
 
 pub returns-in_ok-points : goal.returns-in_ok-points
 returns-in_ok-points c =
-    let policy = c.args.self.now in
+    let rules = c.args.self.now in
     let points = bits_of c.in_ok-points.points in
     let is = c.in_ok-points.ensures ∙ ap (λ (ends : ChosenRules). targets_from ends.policy ends.rules c.args.b) c.list-entrypoint.ensures in
     subst (λ (xs : List ℕ). IfOk c.targets_among.result (λ (set : List Node). bits_of set ≡ xs))
-    (ap (λ (ends : ChosenRules). filter (any_joins ends.policy ends.rules c.args.a) points) c.list-execute.ensures ∙ points_executed policy c.args.a c.args.b points is) c.targets_among.ensures
+    (ap (λ (ends : ChosenRules). filter (any_joins ends.policy ends.rules c.args.a) points) c.list-execute.ensures ∙ points_executed rules c.args.a c.args.b points is) c.targets_among.ensures
 
 pub returns-in_ok-executable : goal.returns-in_ok-executable
 returns-in_ok-executable c =
-    let policy = c.args.self.now in
+    let rules = c.args.self.now in
     let executable = bits_of c.in_ok-executable.executable in
     let is = c.in_ok-executable.ensures ∙ ap (λ (ends : ChosenRules). targets_from ends.policy ends.rules c.args.a) c.list-execute.ensures in
     subst (λ (xs : List ℕ). IfOk c.targets_among-else-branch.result (λ (set : List Node). bits_of set ≡ xs))
-    (ap (λ (ends : ChosenRules). filter (any_joins ends.policy ends.rules c.args.b) executable) c.list-entrypoint.ensures ∙ executed_points policy c.args.a c.args.b executable is) c.targets_among-else-branch.ensures
+    (ap (λ (ends : ChosenRules). filter (any_joins ends.policy ends.rules c.args.b) executable) c.list-entrypoint.ensures ∙ executed_points rules c.args.a c.args.b executable is) c.targets_among-else-branch.ensures

@@ -10,14 +10,14 @@ use Rattle.dom_trans.proofs.dom_rules.DomRules.having.Goals as goal
 
 pub from_rising-requires : goal.from_rising-requires
 from_rising-requires c =
-    let policy = c.args.self.now in
-    let given = λ (a : ℕ). any_joins policy (rules_of policy c.args.grant) a a in
+    let rules = c.args.self.now in
+    let given = λ (a : ℕ). any_joins rules.policy (rules_of rules c.args.grant) a a in
     let found : c.loop-a.found.items ≡ filter given (bits_of c.args.types.now) = sym (append-nil c.loop-a.found.items) ∙ sym (ap (λ (xs : List ℕ). c.loop-a.found.items ++ filter given xs) c.in-None.ensures.steps.0) ∙ c.loop-a.invariant in
     subst IsStrictlyIncreasing (sym (c.deref.ensures.value ∙ found)) (IsStrictlyIncreasing-filter given (bits_of c.args.types.now) c.requires)
 
 pub returns : goal.returns
 returns c =
-    let policy = c.args.self.now in
-    let given = λ (a : ℕ). any_joins policy (rules_of policy c.args.grant) a a in
+    let rules = c.args.self.now in
+    let given = λ (a : ℕ). any_joins rules.policy (rules_of rules c.args.grant) a a in
     let found : c.loop-a.found.items ≡ filter given (bits_of c.args.types.now) = sym (append-nil c.loop-a.found.items) ∙ sym (ap (λ (xs : List ℕ). c.loop-a.found.items ++ filter given xs) c.in-None.ensures.steps.0) ∙ c.loop-a.invariant in
     subst (λ (xs : List ℕ). IfOk c.from_rising.result (λ (set : List Node). bits_of set ≡ xs)) (c.deref.ensures.value ∙ found) c.from_rising.ensures.bits

@@ -12,8 +12,8 @@ returns-then-not-are_two_types c =
 
 pub returns-then-branch : goal.returns-then-branch
 returns-then-branch c =
-    let policy = c.args.self.now in
-    subst (λ (v : Bool). IfOk c.has_between.result (λ holds. holds ≡ v)) (dynamic_by_grant policy c.args.a c.args.b (ap (λ (p : Parts). are_two_types p c.args.a c.args.b) (sym c.policy.ensures) ∙ sym c.are_two_types.ensures ∙ c.if-not-are_two_types.false) (sym c.in_ok-may_change.ensures ∙ c.if-branch.true))
+    let rules = c.args.self.now in
+    subst (λ (v : Bool). IfOk c.has_between.result (λ holds. holds ≡ v)) (dynamic_by_grant rules c.args.a c.args.b (ap (λ (p : Parts). are_two_types p c.args.a c.args.b) (sym c.policy.ensures) ∙ sym c.are_two_types.ensures ∙ c.if-not-are_two_types.false) (sym c.in_ok-may_change.ensures ∙ c.if-branch.true))
     (subst (λ (ends : ChosenRules). IfOk c.has_between.result (λ found. found ≡ any_joins ends.policy ends.rules c.args.a c.args.b)) c.list.ensures c.has_between.ensures)
 
 pub returns : goal.returns

@@ -1,5 +1,5 @@
 use Rattle.std.proofs.Common.{◌≡◌, length, ap, subst, arith}
-use Rattle.pol_file.specs.declared.Parts.{Parts}
+use Rattle.counted_rules.specs.CountedRules.{Counted}
 use Rattle.rules_between.specs.ChosenRules.{ChosenRules}
 use Rattle.dom_trans.specs.Inner.RuleLists.{chosen, rules_of}
 use Rattle.dom_trans.proofs.Chosen.{list_at}
@@ -10,5 +10,5 @@ index-requires c = omega (arith, c.place.ensures.small, ap (length {A = ChosenRu
 
 pub returns : goal.returns
 returns c =
-    subst (λ (policy : Parts). c.index.result.now ≡ chosen policy (rules_of policy c.args.grant)) c.self.view_is
-    (list_at c.self.inside.policy.now c.args.grant c.self.inside.lists.items c.place.result c.index.result.now c.self.invariant.0 c.place.ensures.exact c.index.ensures)
+    subst (λ (rules : Counted). c.index.result.now ≡ chosen rules.policy (rules_of rules c.args.grant)) c.self.view_is
+    (list_at c.self.inside.rules c.args.grant c.self.inside.lists.items c.place.result c.index.result.now c.self.invariant.0 c.place.ensures.exact c.index.ensures)

@@ -16,6 +16,6 @@ pub returns : goal.returns
 returns c =
     subst (λ (xs : List ℕ). IfOk c.targets_of_rules.result (λ (set : List Node). bits_of set ≡ xs))
     (ap (λ (r : ChosenRules). targets_of_rules r.policy c.deref.result.now) c.list.ensures
-    ∙ ap (targets_of_rules c.args.self.now) c.deref.ensures.value
+    ∙ ap (targets_of_rules c.args.self.now.policy) c.deref.ensures.value
     ∙ starts_are c.args.self.now c.args.a c.args.b c.in_ok-found.found.items c.in_ok-found.ensures)
     c.targets_of_rules.ensures

@@ -4,18 +4,18 @@ use Rattle.std.proofs.lemmas.Bool.{cond-true, cond-false}
 use Rattle.std.proofs.lemmas.List.Elements.{filter_more}
 use Rattle.pol_file.specs.declared.Parts.{Parts}
 use Rattle.pol_read.specs.StoredRules.{stored}
-use Rattle.dom_trans.specs.Grants.{has_default}
+use Rattle.dom_trans.specs.DefaultRules.{has_default}
 use Rattle.dom_trans.proofs.Defaults.{default_of}
 use Rattle.dom_trans.proofs.dom_rules.DomRules.with_default.Goals as goal
 use Rattle.dom_trans.proofs.dom_rules.DomRules.with_default.Goals.{then-has_default+in_ok-push, else-has_default}
 
 pub loop-number-preserved : goal.loop-number-preserved
 loop-number-preserved c =
-    let test = has_default c.args.self.now c.args.b in
+    let test = has_default c.args.self.now.policy c.args.b in
     let numbers = c.args.numbers.now in
     let i = c.loop-number.number-index in
     let x = get_or numbers i 0 in
-    let tested : c.has_default.result ≡ test x = c.has_default.ensures ∙ default_of c.self.inside.policy.now c.args.b x (stored c.rule.result) c.rule.ensures.is ∙ ap (λ (p : Parts). has_default p c.args.b x) c.self.view_is in
+    let tested : c.has_default.result ≡ test x = c.has_default.ensures ∙ default_of c.policy.result.now c.args.b x (stored c.rule.result) c.rule.ensures.is ∙ ap (λ (p : Parts). has_default p c.args.b x) c.policy.ensures in
     let more : filter test (take (i + 1) numbers) ≡ filter test (take i numbers) ++ cond (test x) (x ∷ []) [] = filter_more test numbers i 0 c.loop-number-test.true in
     elim c.if-has_default.branch [
       | then-has_default+in_ok-push w ↦

@@ -2,7 +2,7 @@ use Rattle.std.proofs.Common.{◌≡◌, sym, ◌∙◌, arith}
 use Rattle.std.specs.Int.{bit_at}
 use Rattle.std.proofs.lemmas.Bool.{ne_eqb, le-ltb}
 use Rattle.std.proofs.lemmas.Nat.Bits.{bit_at_above}
-use Rattle.dom_trans.proofs.permission.has_bit.Goals as goal
+use Rattle.rule_grants.proofs.permission.has_bit.Goals as goal
 
 pub returns-else-bit-lt32 : goal.returns-else-bit-lt32
 returns-else-bit-lt32 c =
