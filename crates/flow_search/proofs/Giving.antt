@@ -1,11 +1,13 @@
 -- The rules of a flow, found one way and the other.
 use Rattle.std.proofs.Common.{◌≡◌, ◌⊎◌, inl, inr, ℕ, ◌<◌, ◌≤◌, List, [], ◌∷◌, ◌++◌, length, Bool, true, false, ◌&&◌, cond, sym, ◌∙◌, subst, slice_index_or, arith}
-use Rattle.std.specs.List.{Contains, filter, fold}
+use Rattle.std.specs.List.{Contains, filter, fold, range_with_len}
 use Rattle.std.proofs.lemmas.Bool.{and_from, and_parts, or_cases, or_left, or_right}
 use Rattle.std.proofs.lemmas.List.Elements.{All-filter, Contains-append_cases, Contains-append_left, Contains-append_right}
+use Rattle.std.proofs.lemmas.List.Kept.{IsStrictlyIncreasing-filter}
 use Rattle.std.proofs.lemmas.List.Sorted.{Contains-permutation, IsPermutation-sym}
 use Rattle.std.proofs.lemmas.List.FromFn.{get_or-range_with_len, length-range_with_len}
 use Rattle.pol_file.specs.declared.Parts.{Parts}
+use Rattle.counted_rules.specs.CountedRules.{Counted}
 use Rattle.pol_expand.proofs.Values.{filter_rises}
 use Rattle.pol_read.specs.StoredRules.{stored_rules}
 use Rattle.walk_enum.proofs.Ascending.{ascends_from_increasing, same_numbers}
@@ -16,7 +18,7 @@ use Rattle.rules_by_end.specs.RulesByEnd.{AreRulesBetween, HoldRules, RulesByEnd
 use Rattle.perm_map.specs.declared.Direction.{Direction}
 use Rattle.perm_map.specs.PermissionMap.{Weights}
 use Rattle.flow_search.specs.FlowWeights.{inwards, outwards}
-use Rattle.flow_search.specs.Flows.{gives_least, rule_numbers}
+use Rattle.flow_search.specs.Flows.{counted_numbers, gives_least, is_counted}
 use Rattle.flow_search.specs.Inner.FlowParts.{AreDistinct, AreFlowRules, reaches, rules_reaching}
 use Rattle.flow_search.proofs.ReachedWeights.{given_reaches}
 
@@ -83,83 +85,85 @@ to_order policy xs n h = to_sorted (is_listed_before policy) [] xs n h
 
 -- ---- rules between two types that reach a weight
 
-module _ (weights : Weights) (policy : Parts) (least : ℕ) (way : Direction → ℕ → ℕ) (source target : ℕ) where
-  from_between : (n : ℕ) → Contains (filter (joins policy source target) (rules_reaching way weights policy least)) n → Contains (rule_numbers policy) n × ((joins policy source target n && reaches way weights policy least n) ≡ true)
+module _ (weights : Weights) (rules : Counted) (least : ℕ) (way : Direction → ℕ → ℕ) (source target : ℕ) where
+  from_between : (n : ℕ) → Contains (filter (joins rules.policy source target) (rules_reaching way weights rules least)) n → Contains (counted_numbers rules) n × ((joins rules.policy source target n && reaches way weights rules.policy least n) ≡ true)
   unfolding rules_reaching
   from_between n found =
-      let reaching = from_filter (joins policy source target) (filter (reaches way weights policy least) (rule_numbers policy)) n found in (
-        from_filter (reaches way weights policy least) (rule_numbers policy) n reaching,
-        and_from (joins policy source target n) (reaches way weights policy least n)
-            (passes_filter (joins policy source target) (filter (reaches way weights policy least) (rule_numbers policy)) n found)
-            (passes_filter (reaches way weights policy least) (rule_numbers policy) n reaching),
+      let reaching = from_filter (joins rules.policy source target) (filter (reaches way weights rules.policy least) (counted_numbers rules)) n found in (
+        from_filter (reaches way weights rules.policy least) (counted_numbers rules) n reaching,
+        and_from (joins rules.policy source target n) (reaches way weights rules.policy least n)
+            (passes_filter (joins rules.policy source target) (filter (reaches way weights rules.policy least) (counted_numbers rules)) n found)
+            (passes_filter (reaches way weights rules.policy least) (counted_numbers rules) n reaching),
       )
 
-  to_between : (n : ℕ) → Contains (rule_numbers policy) n → (joins policy source target n && reaches way weights policy least n) ≡ true → Contains (filter (joins policy source target) (rules_reaching way weights policy least)) n
+  to_between : (n : ℕ) → Contains (counted_numbers rules) n → (joins rules.policy source target n && reaches way weights rules.policy least n) ≡ true → Contains (filter (joins rules.policy source target) (rules_reaching way weights rules least)) n
   unfolding rules_reaching
   to_between n there passes =
-      let parts = and_parts (joins policy source target n) (reaches way weights policy least n) passes in
-      in_filter (joins policy source target) (filter (reaches way weights policy least) (rule_numbers policy)) n parts.0
-      (in_filter (reaches way weights policy least) (rule_numbers policy) n parts.1 there)
+      let parts = and_parts (joins rules.policy source target n) (reaches way weights rules.policy least n) passes in
+      in_filter (joins rules.policy source target) (filter (reaches way weights rules.policy least) (counted_numbers rules)) n parts.0
+      (in_filter (reaches way weights rules.policy least) (counted_numbers rules) n parts.1 there)
 
 joined_cases : (xs ys : List ℕ) (n : ℕ) → Contains xs n ⊎ Contains ys n → Contains (xs ++ ys) n
 joined_cases xs ys n (inl h) = Contains-append_left xs ys n h
 joined_cases xs ys n (inr h) = Contains-append_right xs ys n h
 
 -- The rules found one way and the other, each once, are those that give the flow.
-module _ (weights : Weights) (policy : Parts) (least from to : ℕ) (some : 1 ≤ least) (ahead back found : List ℕ) (ahead_are : AreRulesBetween policy (rules_reaching outwards weights policy least) from to ahead) (back_are : AreRulesBetween policy (rules_reaching inwards weights policy least) to from back) (distinct : AreDistinct (ahead ++ back) found) where
+module _ (weights : Weights) (rules : Counted) (least from to : ℕ) (some : 1 ≤ least) (ahead back found : List ℕ) (ahead_are : AreRulesBetween rules.policy (rules_reaching outwards weights rules least) from to ahead) (back_are : AreRulesBetween rules.policy (rules_reaching inwards weights rules least) to from back) (distinct : AreDistinct (ahead ++ back) found) where
   abbrev gives : ℕ → Bool
-  gives = gives_least weights policy least from to
+  gives = gives_least weights rules.policy least from to
 
   abbrev out_at : ℕ → Bool
-  out_at n = joins policy from to n && reaches outwards weights policy least n
+  out_at n = joins rules.policy from to n && reaches outwards weights rules.policy least n
 
   abbrev into_at : ℕ → Bool
-  into_at n = joins policy to from n && reaches inwards weights policy least n
+  into_at n = joins rules.policy to from n && reaches inwards weights rules.policy least n
 
   abbrev outs : List ℕ
-  outs = filter (joins policy from to) (rules_reaching outwards weights policy least)
+  outs = filter (joins rules.policy from to) (rules_reaching outwards weights rules least)
 
   abbrev intos : List ℕ
-  intos = filter (joins policy to from) (rules_reaching inwards weights policy least)
+  intos = filter (joins rules.policy to from) (rules_reaching inwards weights rules least)
 
-  found_gives : (n : ℕ) → Contains ahead n ⊎ Contains back n → Contains (filter gives (rule_numbers policy)) n
+  found_gives : (n : ℕ) → Contains ahead n ⊎ Contains back n → Contains (filter gives (counted_numbers rules)) n
   found_gives n (inl h) =
-      let parts = from_between weights policy least outwards from to n (Contains-permutation ahead outs n ahead_are h) in
-      in_filter gives (rule_numbers policy) n (given_reaches weights policy least from to n some ∙ or_left (out_at n) (into_at n) parts.1) parts.0
+      let parts = from_between weights rules least outwards from to n (Contains-permutation ahead outs n ahead_are h) in
+      in_filter gives (counted_numbers rules) n (given_reaches weights rules.policy least from to n some ∙ or_left (out_at n) (into_at n) parts.1) parts.0
   found_gives n (inr h) =
-      let parts = from_between weights policy least inwards to from n (Contains-permutation back intos n back_are h) in
-      in_filter gives (rule_numbers policy) n (given_reaches weights policy least from to n some ∙ or_right (out_at n) (into_at n) parts.1) parts.0
+      let parts = from_between weights rules least inwards to from n (Contains-permutation back intos n back_are h) in
+      in_filter gives (counted_numbers rules) n (given_reaches weights rules.policy least from to n some ∙ or_right (out_at n) (into_at n) parts.1) parts.0
 
-  gives_found : (n : ℕ) → Contains (filter gives (rule_numbers policy)) n → Contains ahead n ⊎ Contains back n
+  gives_found : (n : ℕ) → Contains (filter gives (counted_numbers rules)) n → Contains ahead n ⊎ Contains back n
   gives_found n h =
-      let passes = passes_filter gives (rule_numbers policy) n h in
-      let there = from_filter gives (rule_numbers policy) n h in
-      elim (or_cases (out_at n) (into_at n) (sym (given_reaches weights policy least from to n some) ∙ passes)) [
-        | inl out ↦ inl (Contains-permutation outs ahead n (IsPermutation-sym ahead outs ahead_are) (to_between weights policy least outwards from to n there out))
-        | inr into ↦ inr (Contains-permutation intos back n (IsPermutation-sym back intos back_are) (to_between weights policy least inwards to from n there into))
+      let passes = passes_filter gives (counted_numbers rules) n h in
+      let there = from_filter gives (counted_numbers rules) n h in
+      elim (or_cases (out_at n) (into_at n) (sym (given_reaches weights rules.policy least from to n some) ∙ passes)) [
+        | inl out ↦ inl (Contains-permutation outs ahead n (IsPermutation-sym ahead outs ahead_are) (to_between weights rules least outwards from to n there out))
+        | inr into ↦ inr (Contains-permutation intos back n (IsPermutation-sym back intos back_are) (to_between weights rules least inwards to from n there into))
       ]
 
-  pub giving_is : found ≡ filter gives (rule_numbers policy)
+  pub giving_is : found ≡ filter gives (counted_numbers rules)
   giving_is =
-      same_numbers found (filter gives (rule_numbers policy)) (ascends_from_increasing found distinct.rise) (ascends_from_increasing (filter gives (rule_numbers policy)) (filter_rises gives 0 (length (stored_rules policy))))
+      same_numbers found (filter gives (counted_numbers rules)) (ascends_from_increasing found distinct.rise) (ascends_from_increasing (filter gives (counted_numbers rules)) (IsStrictlyIncreasing-filter gives (counted_numbers rules) (filter_rises (is_counted rules) 0 (length (stored_rules rules.policy)))))
       (λ n h. found_gives n (Contains-append_cases ahead back n ((distinct.each n).0 h)))
       (λ n h. (distinct.each n).1 (joined_cases ahead back n (gives_found n h)))
 
 -- by what a graph keeps
-pub rules_give : (weights : Weights) (policy : Parts) (least from to : ℕ) (reverse : Bool) (out into : RulesByEnd) → 1 ≤ least → AreFlowRules weights policy least reverse out into → (ahead back found : List ℕ) → ((rules : List ℕ) → HoldRules out rules → AreRulesBetween out.policy rules from to ahead)
-    → ((rules : List ℕ) → HoldRules into rules → AreRulesBetween into.policy rules to from back) → AreDistinct (ahead ++ back) found → found ≡ filter (gives_least weights policy least from to) (rule_numbers policy)
-rules_give weights policy least from to reverse out into some are ahead back found ahead_are back_are distinct =
-    giving_is weights policy least from to some ahead back found
-    (subst (λ (p : Parts). AreRulesBetween p (rules_reaching outwards weights policy least) from to ahead) are.out_policy (ahead_are (rules_reaching outwards weights policy least) are.out_rules))
-    (subst (λ (p : Parts). AreRulesBetween p (rules_reaching inwards weights policy least) to from back) are.into_policy (back_are (rules_reaching inwards weights policy least) are.into_rules))
+pub rules_give : (weights : Weights) (rules : Counted) (least from to : ℕ) (reverse : Bool) (out into : RulesByEnd) → 1 ≤ least → AreFlowRules weights rules least reverse out into → (ahead back found : List ℕ) → ((numbers : List ℕ) → HoldRules out numbers → AreRulesBetween out.policy numbers from to ahead)
+    → ((numbers : List ℕ) → HoldRules into numbers → AreRulesBetween into.policy numbers to from back) → AreDistinct (ahead ++ back) found → found ≡ filter (gives_least weights rules.policy least from to) (counted_numbers rules)
+rules_give weights rules least from to reverse out into some are ahead back found ahead_are back_are distinct =
+    giving_is weights rules least from to some ahead back found
+    (subst (λ (p : Parts). AreRulesBetween p (rules_reaching outwards weights rules least) from to ahead) are.out_policy (ahead_are (rules_reaching outwards weights rules least) are.out_rules))
+    (subst (λ (p : Parts). AreRulesBetween p (rules_reaching inwards weights rules least) to from back) are.into_policy (back_are (rules_reaching inwards weights rules least) are.into_rules))
     distinct
 
-pub numbers_are_rules : (policy : Parts) (p : ℕ → Bool) (found : List ℕ) → found ≡ filter p (rule_numbers policy) → AreRules policy found
-numbers_are_rules policy p found is =
-    subst (AreRules policy) (sym is) (All-filter p (λ number. number < length (stored_rules policy)) (rule_numbers policy) (λ k d lt. below k d lt))
+pub numbers_are_rules : (rules : Counted) (p : ℕ → Bool) (found : List ℕ) → found ≡ filter p (counted_numbers rules) → AreRules rules.policy found
+numbers_are_rules rules p found is =
+    let numbers = range_with_len 0 (length (stored_rules rules.policy)) in
+    let counted : AreRules rules.policy (counted_numbers rules) = All-filter (is_counted rules) (λ number. number < length (stored_rules rules.policy)) numbers (λ k d lt. below k d lt) in
+    subst (AreRules rules.policy) (sym is) (All-filter p (λ number. number < length (stored_rules rules.policy)) (counted_numbers rules) counted)
   where
-    below : (k d : ℕ) → k < length (rule_numbers policy) → slice_index_or (rule_numbers policy) k d < length (stored_rules policy)
+    below : (k d : ℕ) → k < length (range_with_len 0 (length (stored_rules rules.policy))) → slice_index_or (range_with_len 0 (length (stored_rules rules.policy))) k d < length (stored_rules rules.policy)
     below k d lt =
-        let many = length-range_with_len 0 (length (stored_rules policy)) in
-        let small : k < length (stored_rules policy) = omega (arith, many, lt) in
-        omega (arith, get_or-range_with_len 0 (length (stored_rules policy)) k d small, small)
+        let many = length-range_with_len 0 (length (stored_rules rules.policy)) in
+        let small : k < length (stored_rules rules.policy) = omega (arith, many, lt) in
+        omega (arith, get_or-range_with_len 0 (length (stored_rules rules.policy)) k d small, small)

@@ -6,3 +6,5 @@ pub mod Successors
 pub mod Giving
 pub mod Greatest
 pub mod Weighing
+pub mod EnabledFlows
+pub mod EnabledOrder

@@ -5,7 +5,7 @@ use Rattle.std.proofs.lemmas.Bool.{false≢true}
 use Rattle.std.proofs.lemmas.Bool.Decides.{nat_tests}
 use Rattle.std.proofs.lemmas.List.FromFn.{length-range_with_len}
 use Rattle.std.specs.Prelude.{length}
-use Rattle.std.specs.List.{All, Contains, filter, fold, list_any}
+use Rattle.std.specs.List.{All, Contains, filter, fold, list_any, range_with_len}
 use Rattle.std.proofs.lemmas.List.Elements.{All-from_get_or, Contains-get_or}
 use Rattle.walk_enum.proofs.Elements.{passes_filter}
 use Rattle.pol_file.specs.declared.Parts.{Parts}
@@ -14,12 +14,13 @@ use Rattle.pol_read.specs.declared.RuleKind.{RuleKind}
 use Rattle.pol_read.specs.declared.RuleKind.TheVariants.{Allow, Auditallow, Dontaudit, AllowXperm, AuditallowXperm, DontauditXperm, TypeTransition, TypeChange, TypeMember, RoleAllow, RoleTransition, RangeTransition}
 use Rattle.pol_read.specs.declared.RulePart.{RulePart}
 use Rattle.pol_read.specs.StoredRules.{StoredRule, stored_rules}
+use Rattle.counted_rules.specs.CountedRules.{Counted}
 use Rattle.pol_expand.specs.JoinedTypes.{has_type_ends, is_between_types, joins, passes}
 use Rattle.pol_expand.specs.PlainTypes.{are_two_types}
 use Rattle.perm_map.specs.declared.Direction.{Direction}
 use Rattle.perm_map.specs.PermissionMap.{Weights}
 use Rattle.flow_search.specs.FlowWeights.{greatest, inwards, outwards, part_weight, rule_weight}
-use Rattle.flow_search.specs.Flows.{flow_weight, given_by, gives_least, rule_numbers, weight_found, weight_of_rule}
+use Rattle.flow_search.specs.Flows.{counted_numbers, flow_weight, given_by, gives_least, is_counted, weight_found, weight_of_rule}
 use Rattle.flow_search.specs.Inner.FlowParts.{any_flow, reaches, rules_reaching}
 use Rattle.flow_search.proofs.TestOrders.{split_tests}
 
@@ -84,19 +85,19 @@ given_reaches weights policy least from to number some =
     ∙ ap (λ (test : Bool). test || leb least (cond back into 0)) (le_where least ahead out some)
     ∙ ap (λ (test : Bool). (ahead && leb least out) || test) (le_where least back into some)
 
-pub any_given : (weights : Weights) (policy : Parts) (least from to : ℕ) → 1 ≤ least → list_any (gives_least weights policy least from to) (rule_numbers policy) ≡ any_flow weights policy least from to
+pub any_given : (weights : Weights) (rules : Counted) (least from to : ℕ) → 1 ≤ least → list_any (gives_least weights rules.policy least from to) (counted_numbers rules) ≡ any_flow weights rules least from to
 unfolding any_flow rules_reaching
-any_given weights policy least from to some =
-    ap (λ (test : ℕ → Bool). list_any test (rule_numbers policy)) (fun_ext (λ number. given_reaches weights policy least from to number some))
-    ∙ any_split (joins policy from to) (reaches outwards weights policy least) (joins policy to from) (reaches inwards weights policy least) (rule_numbers policy)
+any_given weights rules least from to some =
+    ap (λ (test : ℕ → Bool). list_any test (counted_numbers rules)) (fun_ext (λ number. given_reaches weights rules.policy least from to number some))
+    ∙ any_split (joins rules.policy from to) (reaches outwards weights rules.policy least) (joins rules.policy to from) (reaches inwards weights rules.policy least) (counted_numbers rules)
 
 -- a flow reaches a weight where it is between two types and some rule gives it
-pub flow_reaches : (weights : Weights) (policy : Parts) (least from to : ℕ) → 1 ≤ least → leb least (flow_weight weights policy from to) ≡ (are_two_types policy from to && any_flow weights policy least from to)
+pub flow_reaches : (weights : Weights) (rules : Counted) (least from to : ℕ) → 1 ≤ least → leb least (flow_weight weights rules from to) ≡ (are_two_types rules.policy from to && any_flow weights rules least from to)
 unfolding flow_weight
-flow_reaches weights policy least from to some =
-    let given = map (given_by weights policy from to) (rule_numbers policy) in
-    le_where least (are_two_types policy from to) (greatest given) some
-    ∙ ap (λ (test : Bool). are_two_types policy from to && test) (greatest_reaches least given some ∙ any_map (given_by weights policy from to) (leb least) (rule_numbers policy) ∙ any_given weights policy least from to some)
+flow_reaches weights rules least from to some =
+    let given = map (given_by weights rules.policy from to) (counted_numbers rules) in
+    le_where least (are_two_types rules.policy from to) (greatest given) some
+    ∙ ap (λ (test : Bool). are_two_types rules.policy from to && test) (greatest_reaches least given some ∙ any_map (given_by weights rules.policy from to) (leb least) (counted_numbers rules) ∙ any_given weights rules least from to some)
 
 -- ---- which rules reach a weight
 
@@ -128,21 +129,22 @@ kept_short p (x ∷ xs) = by (p x) (kept_short p xs)
     by false h = omega arith
 
 -- there are no more than stored rules
-pub reaching_few : (way : Direction → ℕ → ℕ) (weights : Weights) (policy : Parts) (least : ℕ) (numbers : List ℕ) → numbers ≡ rules_reaching way weights policy least → length numbers ≤ length (stored_rules policy)
+pub reaching_few : (way : Direction → ℕ → ℕ) (weights : Weights) (rules : Counted) (least : ℕ) (numbers : List ℕ) → numbers ≡ rules_reaching way weights rules least → length numbers ≤ length (stored_rules rules.policy)
 unfolding rules_reaching
-reaching_few way weights policy least numbers is =
-    let kept = kept_short (reaches way weights policy least) (rule_numbers policy) in
-    let all = length-range_with_len 0 (length (stored_rules policy)) in
-    omega (arith, ap (length {A = ℕ}) is, kept, all)
+reaching_few way weights rules least numbers is =
+    let all = range_with_len 0 (length (stored_rules rules.policy)) in
+    let kept = kept_short (reaches way weights rules.policy least) (counted_numbers rules) in
+    let counted = kept_short (is_counted rules) all in
+    omega (arith, ap (length {A = ℕ}) is, kept, counted, length-range_with_len 0 (length (stored_rules rules.policy)))
 
 -- the ends of each are types and attributes
-pub reaching_between : (way : Direction → ℕ → ℕ) (weights : Weights) (policy : Parts) (least : ℕ) (numbers : List ℕ) → 1 ≤ least → numbers ≡ rules_reaching way weights policy least → All (λ number. is_between_types policy number ≡ true) numbers
+pub reaching_between : (way : Direction → ℕ → ℕ) (weights : Weights) (rules : Counted) (least : ℕ) (numbers : List ℕ) → 1 ≤ least → numbers ≡ rules_reaching way weights rules least → All (λ number. is_between_types rules.policy number ≡ true) numbers
 unfolding rules_reaching weight_of_rule
-reaching_between way weights policy least numbers some is = All-from_get_or (λ number. is_between_types policy number ≡ true) numbers 0 λ k lt.
+reaching_between way weights rules least numbers some is = All-from_get_or (λ number. is_between_types rules.policy number ≡ true) numbers 0 λ k lt.
     let number = get_or numbers k 0 in
     let there = subst (λ (xs : List ℕ). Contains xs number) is (Contains-get_or numbers k 0 lt) in
-    by (slice_get (stored_rules policy) number) (passes_filter (reaches way weights policy least) (rule_numbers policy) number there)
+    by (slice_get (stored_rules rules.policy) number) (passes_filter (reaches way weights rules.policy least) (counted_numbers rules) number there)
   where
-    by : (o : Option StoredRule) → leb least (weight_found way weights policy o) ≡ true → passes (λ rule. has_type_ends rule.kind) o ≡ true
+    by : (o : Option StoredRule) → leb least (weight_found way weights rules.policy o) ≡ true → passes (λ rule. has_type_ends rule.kind) o ≡ true
     by None h = absurd (false≢true (sym (not_le_zero least some) ∙ h))
-    by (Some rule) h = reached_types way weights policy.symbols least rule some h
+    by (Some rule) h = reached_types way weights rules.policy.symbols least rule some h

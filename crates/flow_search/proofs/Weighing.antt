@@ -4,7 +4,7 @@ use Rattle.std.proofs.Math.Nat.{max-eq_left, max-le}
 use Rattle.std.specs.List.{filter, range_with_len}
 use Rattle.std.specs.Int.{bit_at}
 use Rattle.std.proofs.lemmas.List.{map_push}
-use Rattle.std.proofs.lemmas.List.Elements.{filter_more}
+use Rattle.std.proofs.lemmas.List.Elements.{filter-append, filter_more}
 use Rattle.std.proofs.lemmas.List.Sums.{fold_push}
 use Rattle.std.proofs.lemmas.Option.{slice_get_cases}
 use Rattle.pol_cursor.specs.References.{Placed}
@@ -15,15 +15,16 @@ use Rattle.pol_classes.specs.declared.ClassRec.{ClassRec}
 use Rattle.pol_symbols.specs.declared.Symbols.{Symbols}
 use Rattle.pol_symbols.specs.PolicySymbols.{index_in, permissions_of}
 use Rattle.pol_symbols.proofs.SymbolSearch.{primary_found, primary_is_within, primary_missing}
-use Rattle.pol_cursor.proofs.Ranges.{range_more, filter_range_one}
+use Rattle.pol_cursor.proofs.Ranges.{filter_range_one}
 use Rattle.pol_file.specs.declared.Parts.{Parts}
 use Rattle.pol_read.specs.StoredRules.{StoredRule, stored_rules}
+use Rattle.counted_rules.specs.CountedRules.{Counted, counts}
 use Rattle.perm_map.specs.declared.Direction.{Direction}
 use Rattle.perm_map.specs.PermissionMap.{Entry, Weights, weights_of}
 use Rattle.flow_search.specs.declared.class_weights.PermissionWeight.{PermissionWeight}
 use Rattle.flow_search.specs.FlowWeights.{class_of, greatest, inwards, mask_weight, outwards, permission_weight, rule_weight}
-use Rattle.pol_expand.specs.JoinedTypes.{joins}
-use Rattle.flow_search.specs.Flows.{given_by, weight_found, weight_of_rule}
+use Rattle.pol_expand.specs.JoinedTypes.{joins, passes}
+use Rattle.flow_search.specs.Flows.{given_by, is_counted, weight_found, weight_of_rule}
 use Rattle.flow_search.specs.Inner.FlowParts.{reaches}
 use Rattle.flow_search.specs.declared.reach_bits.ReachBits.{ReachBits}
 use Rattle.flow_search.specs.Inner.WeightTables.{AreBitsOf, AreReachBits, AreWeights, HaveReachBits, Reached, class_weights, greatest_into, greatest_out, is_in, shares_bit, weighed}
@@ -50,27 +51,38 @@ pub into_more : (mask : ℕ) (permissions : List PermissionWeight) (i : ℕ) (d 
 unfolding greatest_into
 into_more mask permissions i d lt = greatest_more (λ p. p.into) (is_in mask) permissions i d lt
 
--- the greatest that is given by one number more
-pub numbers_more : (g : ℕ → ℕ) (n : ℕ) → greatest (map g (range_with_len 0 (n + 1))) ≡ max (greatest (map g (range_with_len 0 n))) (g n)
-numbers_more g n =
-    let e : 0 + n ≡ n = omega arith in
-    ap (λ (xs : List ℕ). greatest (map g xs)) (range_more 0 n ∙ ap (λ (x : ℕ). range_with_len 0 n ++ x ∷ []) e)
-    ∙ ap greatest (map_push g (range_with_len 0 n) n) ∙ greatest_push (map g (range_with_len 0 n)) (g n)
+-- the greatest that is given by one number more, where it passes a test
+pub numbers_more : (g : ℕ → ℕ) (p : ℕ → Bool) (n : ℕ) → greatest (map g (filter p (range_with_len 0 (n + 1)))) ≡ cond (p n) (max (greatest (map g (filter p (range_with_len 0 n)))) (g n)) (greatest (map g (filter p (range_with_len 0 n))))
+numbers_more g p n =
+    ap (λ (xs : List ℕ). greatest (map g xs)) (filter_range_one p 0 n n (omega arith)) ∙ greatest_where g (filter p (range_with_len 0 n)) n (p n)
 
--- one rule more, where it reaches a weight
-pub reached_more : (way : Direction → ℕ → ℕ) (weights : Weights) (policy : Parts) (least number : ℕ) (rule : StoredRule) (holds : Bool) (old new : List ℕ) → slice_get (stored_rules policy) number ≡ Some rule → old ≡ filter (reaches way weights policy least) (range_with_len 0 number)
-    → holds ≡ leb least (rule_weight way weights policy.symbols rule) → new ≡ old ++ cond holds (number ∷ []) [] → new ≡ filter (reaches way weights policy least) (range_with_len 0 (number + 1))
+-- ---- rules that reach a weight, one after the other
+
+kept_alone : (p : ℕ → Bool) (x : ℕ) (test : Bool) → filter p (cond test (x ∷ []) []) ≡ cond (test && p x) (x ∷ []) []
+kept_alone p x true = refl
+kept_alone p x false = refl
+
+-- one number more, where it passes both of two tests
+kept_more : (p q : ℕ → Bool) (n : ℕ) → filter p (filter q (range_with_len 0 (n + 1))) ≡ filter p (filter q (range_with_len 0 n)) ++ cond (q n && p n) (n ∷ []) []
+kept_more p q n =
+    ap (filter p) (filter_range_one q 0 n n (omega arith)) ∙ filter-append p (filter q (range_with_len 0 n)) (cond (q n) (n ∷ []) [])
+    ∙ ap (λ (xs : List ℕ). filter p (filter q (range_with_len 0 n)) ++ xs) (kept_alone p n (q n))
+
+-- one rule more, where it counts and reaches a weight
+pub reached_more : (way : Direction → ℕ → ℕ) (weights : Weights) (rules : Counted) (least number : ℕ) (rule : StoredRule) (holds : Bool) (old new : List ℕ) → slice_get (stored_rules rules.policy) number ≡ Some rule → old ≡ filter (reaches way weights rules.policy least) (filter (is_counted rules) (range_with_len 0 number))
+    → holds ≡ (counts rules rule && leb least (rule_weight way weights rules.policy.symbols rule)) → new ≡ old ++ cond holds (number ∷ []) [] → new ≡ filter (reaches way weights rules.policy least) (filter (is_counted rules) (range_with_len 0 (number + 1)))
 unfolding weight_of_rule
-reached_more way weights policy least number rule holds old new at was is more =
+reached_more way weights rules least number rule holds old new at was is more =
+    let sofar = filter (reaches way weights rules.policy least) (filter (is_counted rules) (range_with_len 0 number)) in
     more ∙ ap (λ (xs : List ℕ). xs ++ cond holds (number ∷ []) []) was
-    ∙ ap (λ (test : Bool). filter (reaches way weights policy least) (range_with_len 0 number) ++ cond test (number ∷ []) []) (is ∙ ap (λ (found : Option StoredRule). leb least (weight_found way weights policy found)) (sym at))
-    ∙ sym (filter_range_one (reaches way weights policy least) 0 number number (omega arith))
+    ∙ ap (λ (test : Bool). sofar ++ cond test (number ∷ []) []) (is ∙ ap (λ (found : Option StoredRule). passes (counts rules) found && leb least (weight_found way weights rules.policy found)) (sym at))
+    ∙ sym (kept_more (reaches way weights rules.policy least) (is_counted rules) number)
 
 -- what a test of a least weight answers of a rule
-pub by_test : (way : Direction → ℕ → ℕ) (test : Reached) (entries : List Entry) (policy own : Parts) (least : ℕ) (rule : StoredRule) (holds : Bool) → test ≡ record { policy = own; entries = entries; least = least } → policy ≡ own
-    → holds ≡ leb test.least (rule_weight way (weights_of test.entries) test.policy.symbols rule) → holds ≡ leb least (rule_weight way (weights_of entries) policy.symbols rule)
-by_test way test entries policy own least rule holds made same is =
-    is ∙ ap (λ (t : Reached). leb t.least (rule_weight way (weights_of t.entries) t.policy.symbols rule)) made ∙ ap (λ (p : Parts). leb least (rule_weight way (weights_of entries) p.symbols rule)) (sym same)
+pub by_test : (way : Direction → ℕ → ℕ) (test : Reached) (rules : Counted) (entries : List Entry) (least : ℕ) (rule : StoredRule) (holds : Bool) → test ≡ record { rules = rules; entries = entries; least = least }
+    → holds ≡ (counts test.rules rule && leb test.least (rule_weight way (weights_of test.entries) test.rules.policy.symbols rule)) → holds ≡ (counts rules rule && leb least (rule_weight way (weights_of entries) rules.policy.symbols rule))
+by_test way test rules entries least rule holds made is =
+    is ∙ ap (λ (t : Reached). counts t.rules rule && leb t.least (rule_weight way (weights_of t.entries) t.rules.policy.symbols rule)) made
 
 -- ---- permissions
 

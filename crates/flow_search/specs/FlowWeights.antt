@@ -65,6 +65,6 @@ abbrev pub part_weight : (Direction → ℕ → ℕ) → Weights → Symbols →
 part_weight way weights symbols class Allow (Perms mask) = mask_weight way weights symbols (class_of symbols class) mask
 part_weight way weights symbols class kind part = 0
 
--- one way of a rule, whatever condition it stands under
+-- one way of a rule, whether it counts or not
 unfoldable pub rule_weight : (Direction → ℕ → ℕ) → Weights → Symbols → StoredRule → ℕ
 rule_weight way weights symbols rule = part_weight way weights symbols rule.class rule.kind rule.part

@@ -3,16 +3,18 @@ ghost use Rattle.std.specs.Prelude.{◌≡◌, ◌≤◌, ◌++◌, true, IfOk};
 ghost use Rattle.std.specs.List.{filter};
 ghost use Rattle.pol_bitmap.specs.Nodes.{bits_of};
 ghost use Rattle.pol_expand.specs.PolicyMap.{IsPolicyMap};
+ghost use Rattle.counted_rules.specs.CountedRules.{all_rules};
 ghost use Rattle.perm_map.specs.PermissionMap.{weights_of};
 ghost use Rattle.rule_order.specs.ListedOrder.{AreRules, in_rule_order};
 ghost use Rattle.walk_enum.specs.Walks.{AreSuccessors};
-ghost use Rattle.flow_search.specs.Flows.{flow_rules, flow_weight, gives_least, rule_numbers};
+ghost use Rattle.flow_search.specs.Flows.{counted_numbers, flow_rules, flow_weight, gives_least};
 ghost use Rattle.flow_search.specs.FlowEdges.{flow_edge};
 ghost use Rattle.flow_search.specs.Inner.FlowParts.{any_edge, first_end, is_open, AreDistinct, AreJoined, IsOpenPart};
 
 use crate::node_sets::{either, without};
 use crate::reaching::{Reaching, rules_reaching};
 use crate::weigher::Weigher;
+use counted_rules::CountedRules;
 use perm_map::PermMap;
 use pol_bitmap::Set;
 use pol_expand::{TypeMap, are_two_types, types_outside};
@@ -24,17 +26,18 @@ use std::marker::Model;
 use std::sync::ledger::Ledger;
 use walk_enum::{Graph, Steps};
 
-/// The graph of the flows of a policy of at least a weight, or of their reverse. Its nodes are the type values, and no edge joins an excluded
-/// type. Contracts see the policy, the entries of the permission map, the least weight, the excluded types and the direction.
+/// The graph of the flows of at least a weight by those rules of a policy that count, or of their reverse. Its nodes are the type values, and
+/// no edge joins an excluded type. Contracts see these rules, the entries of the permission map, the least weight, the excluded types and the
+/// direction.
 ///
-/// It keeps the rules that flow at least the weight, each under the end at which an edge begins, and asks them for the successors of a
+/// It keeps those of them that flow at least the weight, each under the end at which an edge begins, and asks them for the successors of a
 /// node. All edges are never made.
 pub struct FlowGraph<'p> {
     weigher: Weigher<'p>,
     least: u8,
-    // The rules that flow from the source to the target at least the weight.
+    // The rules that count and flow from the source to the target at least the weight.
     out: RulesByEnd<'p>,
-    // The rules that flow from the target to the source at least the weight.
+    // Those that flow from the target to the source at least the weight.
     into: RulesByEnd<'p>,
     excluded: Set,
     // The types that may be an end of an edge.
@@ -59,7 +62,9 @@ impl Drop for FlowGraph<'_> {
 
 impl<'p> Model for FlowGraph<'p> {
     ghost use Rattle.std.specs.Prelude.{◌≡◌, ◌≤◌};
+    ghost use Rattle.std.specs.Coded.{codes};
     ghost use Rattle.pol_bitmap.specs.Nodes.{bits_of};
+    ghost use Rattle.bool_state.specs.BooleanStates.{values_code};
     ghost use Rattle.pol_expand.specs.PlainTypes.{types_outside};
     ghost use Rattle.perm_map.specs.PermissionMap.{weights_of};
     ghost use Rattle.flow_search.specs.FlowEdges.{FlowSearch};
@@ -67,13 +72,15 @@ impl<'p> Model for FlowGraph<'p> {
 
     ghost Value = { FlowSearch };
 
-    ghost view = { λ g. record { policy = g.weigher.policy; entries = g.weigher.entries; least = g.least; excluded = g.excluded; reverse = g.reverse } };
+    ghost coded = { Prim.hlevel (codes, values_code) };
 
-    ghost invariant = { λ g. (1 ≤ g.least) × AreFlowRules (weights_of g.weigher.entries) g.weigher.policy g.least g.reverse g.out g.into × (bits_of g.open_types ≡ types_outside g.weigher.policy g.excluded) };
+    ghost view = { λ g. record { rules = g.weigher.rules; entries = g.weigher.entries; least = g.least; excluded = g.excluded; reverse = g.reverse } };
+
+    ghost invariant = { λ g. (1 ≤ g.least) × AreFlowRules (weights_of g.weigher.entries) g.weigher.rules g.least g.reverse g.out g.into × (bits_of g.open_types ≡ types_outside g.weigher.rules.policy g.excluded) };
 }
 
 impl<'p> FlowGraph<'p> {
-    /// The graph of a policy, with the map of its types. Goes through the rules once.
+    /// The graph of all rules of a policy, whatever conditions they stand under, with the map of its types. Goes through the rules once.
     pub fn new(
         alloc: Global,
         policy: &'p Policy<'p>,
@@ -85,9 +92,28 @@ impl<'p> FlowGraph<'p> {
     ) -> Result<FlowGraph<'p>, AllocError>
         requires types { IsPolicyMap policy.now types.now }
         requires weight { 1 ≤ least }
-        ensures { IfOk result (λ graph. graph ≡ record { policy = policy.now; entries = map.now; least = least; excluded = excluded.now; reverse = reverse }) }
+        ensures { IfOk result (λ graph. graph ≡ record { rules = all_rules policy.now; entries = map.now; least = least; excluded = excluded.now; reverse = reverse }) }
     {
-        let weigher = Weigher::new(alloc, policy, map)?;
+        let rules = CountedRules::all(policy);
+        FlowGraph::new_under(alloc, rules, types, map, least, excluded, reverse)
+    }
+
+    /// The graph of the rules of a policy that count, with the map of its types. Goes through the rules once.
+    pub fn new_under(
+        alloc: Global,
+        rules: CountedRules<'p>,
+        types: &'p TypeMap,
+        map: &'p PermMap<'p>,
+        least: u8,
+        excluded: &Set,
+        reverse: bool,
+    ) -> Result<FlowGraph<'p>, AllocError>
+        requires types { IsPolicyMap rules.policy types.now }
+        requires weight { 1 ≤ least }
+        ensures { IfOk result (λ graph. graph ≡ record { rules = rules.entry; entries = map.now; least = least; excluded = excluded.now; reverse = reverse }) }
+    {
+        let policy = rules.policy();
+        let weigher = Weigher::new(alloc, rules, map)?;
         let Reaching { out, into } = rules_reaching(alloc, &weigher, least)?;
         let near = first_end(reverse);
         Ok(FlowGraph {
@@ -103,7 +129,7 @@ impl<'p> FlowGraph<'p> {
 
     /// The policy.
     pub fn policy(&self) -> &'p Policy<'p>
-        ensures { result.now ≡ self.now.policy }
+        ensures { result.now ≡ self.now.rules.policy }
     {
         self.weigher.policy()
     }
@@ -111,15 +137,15 @@ impl<'p> FlowGraph<'p> {
     /// The weight of the flow from a type to another, 0 for none. Exclusion, direction and the least weight do not change it. It takes no
     /// memory and goes through all rules.
     pub fn flow(&self, from: u32, to: u32) -> u8
-        ensures { result ≡ flow_weight (weights_of self.now.entries) self.now.policy from to }
+        ensures { result ≡ flow_weight (weights_of self.now.entries) self.now.rules from to }
     {
         self.weigher.flow(from, to)
     }
 
-    // The rules that give the flow from a value to another at least the least weight, in the order in which rules are listed.
+    // The rules that count and give the flow from a value to another at least the least weight, in the order in which rules are listed.
     fn giving(&self, alloc: Global, from: u32, to: u32) -> Result<Vec<u32>, AllocError>
-        ensures found { IfOk result (λ found. found.items ≡ in_rule_order self.now.policy (filter (gives_least (weights_of self.now.entries) self.now.policy self.now.least from to) (rule_numbers self.now.policy))) }
-        ensures rules { IfOk result (λ found. AreRules self.now.policy found.items) }
+        ensures found { IfOk result (λ found. found.items ≡ in_rule_order self.now.rules.policy (filter (gives_least (weights_of self.now.entries) self.now.rules.policy self.now.least from to) (counted_numbers self.now.rules))) }
+        ensures rules { IfOk result (λ found. AreRules self.now.rules.policy found.items) }
     {
         let ahead = self.out.between(alloc, from, to)?;
         let back = self.into.between(alloc, to, from)?;
@@ -127,12 +153,12 @@ impl<'p> FlowGraph<'p> {
         sort_by_rule_order(alloc, self.policy(), &numbers)
     }
 
-    /// The rules that give the flow from a type to another at least the least weight, in the order in which rules are listed. Exclusion and
-    /// direction change none of them.
+    /// The rules that count and give the flow from a type to another at least the least weight, in the order in which rules are listed.
+    /// Exclusion and direction change none of them.
     #[tactic(auto, unfolding(crate::specs::Flows::flow_rules))]
     pub fn rules(&self, alloc: Global, from: u32, to: u32) -> Result<Vec<u32>, AllocError>
-        ensures found { IfOk result (λ found. found.items ≡ flow_rules (weights_of self.now.entries) self.now.policy self.now.least from to) }
-        ensures rules { IfOk result (λ found. AreRules self.now.policy found.items) }
+        ensures found { IfOk result (λ found. found.items ≡ flow_rules (weights_of self.now.entries) self.now.rules self.now.least from to) }
+        ensures rules { IfOk result (λ found. AreRules self.now.rules.policy found.items) }
     {
         if !are_two_types(self.policy(), from, to) {
             return Ok(Vec::new(alloc));
@@ -143,8 +169,8 @@ impl<'p> FlowGraph<'p> {
     /// The weight of the flow from a type to another, by its rules as [`FlowGraph::rules`] answers them. It looks at no other rule where
     /// there are any.
     pub fn weight(&self, rules: &[u32], from: u32, to: u32) -> u8
-        requires { rules.now ≡ flow_rules (weights_of self.now.entries) self.now.policy self.now.least from to }
-        ensures { result ≡ flow_weight (weights_of self.now.entries) self.now.policy from to }
+        requires { rules.now ≡ flow_rules (weights_of self.now.entries) self.now.rules self.now.least from to }
+        ensures { result ≡ flow_weight (weights_of self.now.entries) self.now.rules from to }
     {
         if rules.is_empty() {
             return self.flow(from, to);
@@ -158,7 +184,7 @@ impl<'p> FlowGraph<'p> {
 
     // The types that the rules join a node to, as the graph is turned.
     fn joined(&self, alloc: Global, node: u32) -> Result<Set, AllocError>
-        ensures { IfOk result (λ set. AreJoined self.now.policy (any_edge self.now node) (bits_of set)) }
+        ensures { IfOk result (λ set. AreJoined self.now.rules.policy (any_edge self.now node) (bits_of set)) }
     {
         let out = self.out.others(alloc, node)?;
         let into = self.into.others(alloc, node)?;

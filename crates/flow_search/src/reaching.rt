@@ -1,4 +1,4 @@
-// The rules that flow at least a weight.
+// The rules that count and flow at least a weight.
 ghost use Rattle.std.specs.Prelude.{◌≡◌, ◌≤◌, ◌++◌, ◌∷◌, [], IfOk, OnOk, length, if◌then◌else◌};
 ghost use Rattle.pol_read.specs.StoredRules.{stored_rules};
 ghost use Rattle.perm_map.specs.PermissionMap.{weights_of};
@@ -26,9 +26,9 @@ pub fn rules_reaching(
     least: u8,
 ) -> Result<Reaching, AllocError>
     requires { 1 ≤ least }
-    ensures out { IfOk result (λ found. found.out.items ≡ rules_reaching outwards (weights_of weigher.now.entries) weigher.now.policy least) }
-    ensures into { IfOk result (λ found. found.into.items ≡ rules_reaching inwards (weights_of weigher.now.entries) weigher.now.policy least) }
-    ensures few { length (stored_rules weigher.now.policy) ≤ 400000000 }
+    ensures out { IfOk result (λ found. found.out.items ≡ rules_reaching outwards (weights_of weigher.now.entries) weigher.now.rules least) }
+    ensures into { IfOk result (λ found. found.into.items ≡ rules_reaching inwards (weights_of weigher.now.entries) weigher.now.rules least) }
+    ensures few { length (stored_rules weigher.now.rules.policy) ≤ 400000000 }
 {
     let policy = weigher.policy();
     let count = policy.rule_count();

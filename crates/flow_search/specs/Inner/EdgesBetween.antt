@@ -13,11 +13,11 @@ use Rattle.flow_search.specs.FlowEdges.{FlowSearch, flow_count, flow_edge, is_fl
 flow_within : (search : FlowSearch) (a b : ℕ) → is_flow search a b ≡ true → (1 ≤ a) × (a ≤ flow_count search) × (1 ≤ b) × (b ≤ flow_count search)
 unfolding is_flow
 flow_within search a b h =
-    let two = are_two_types search.policy a b in
-    let reaches = leb search.least (flow_weight (weights_of search.entries) search.policy a b) in
+    let two = are_two_types search.rules.policy a b in
+    let reaches = leb search.least (flow_weight (weights_of search.entries) search.rules a b) in
     let first = and_parts (two && reaches && not (has_bit search.excluded a)) (not (has_bit search.excluded b)) h in
     let second = and_parts (two && reaches) (not (has_bit search.excluded a)) first.0 in
-    two_within search.policy a b (and_parts two reaches second.0).0
+    two_within search.rules.policy a b (and_parts two reaches second.0).0
 
 -- the edges of the graph join nodes, whichever way it is turned
 pub edges_join : (search : FlowSearch) (a b : ℕ) → flow_edge search a b ≡ true → (1 ≤ a) × (a ≤ flow_count search) × (1 ≤ b) × (b ≤ flow_count search)

@@ -7,7 +7,7 @@ use Rattle.pol_commons.specs.declared.PermissionRec.{PermissionRec}
 use Rattle.pol_classes.specs.declared.ClassRec.{ClassRec}
 use Rattle.pol_symbols.specs.declared.Symbols.{Symbols}
 use Rattle.pol_symbols.specs.PolicySymbols.{permissions_of}
-use Rattle.pol_file.specs.declared.Parts.{Parts}
+use Rattle.counted_rules.specs.CountedRules.{Counted}
 use Rattle.perm_map.specs.PermissionMap.{Entry, Weights}
 use Rattle.flow_search.specs.declared.class_weights.PermissionWeight.{PermissionWeight}
 use Rattle.flow_search.specs.declared.reach_bits.ReachBits.{ReachBits}
@@ -61,11 +61,11 @@ pub record HaveReachBits (weights : Weights) (symbols : Symbols) (least : ℕ) (
 
 -- What tells which rules reach a weight.
 pub record Reached : Type 0 where
-  pub policy : Parts
+  pub rules : Counted
   pub entries : List Entry
   pub least : ℕ
 
--- What weighs rules: a policy and the entries of a permission map.
+-- What weighs rules: those of a policy that count, and the entries of a permission map.
 pub record Weighing : Type 0 where
-  pub policy : Parts
+  pub rules : Counted
   pub entries : List Entry

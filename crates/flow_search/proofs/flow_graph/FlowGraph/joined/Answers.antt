@@ -12,9 +12,9 @@ use Rattle.flow_search.proofs.flow_graph.FlowGraph.joined.Goals as goal
 pub returns : goal.returns
 returns c =
     if_ok (λ (set : List Node). IsUnion (bits_of c.in_ok-out.out) (bits_of c.in_ok-into.into) (bits_of set))
-    (λ (set : List Node). AreJoined c.args.self.now.policy (any_edge c.args.self.now c.args.node) (bits_of set))
+    (λ (set : List Node). AreJoined c.args.self.now.rules.policy (any_edge c.args.self.now c.args.node) (bits_of set))
     c.either.result
     (λ set union. rules_join c.args.self.now c.args.node c.self.inside.out c.self.inside.into
-    (subst (λ (s : FlowSearch). AreFlowRules (weights_of s.entries) s.policy s.least s.reverse c.self.inside.out c.self.inside.into) c.self.view_is c.self.invariant.1)
+    (subst (λ (s : FlowSearch). AreFlowRules (weights_of s.entries) s.rules s.least s.reverse c.self.inside.out c.self.inside.into) c.self.view_is c.self.invariant.1)
     (bits_of c.in_ok-out.out) (bits_of c.in_ok-into.into) (bits_of set) c.in_ok-out.ensures c.in_ok-into.ensures union)
     c.either.ensures

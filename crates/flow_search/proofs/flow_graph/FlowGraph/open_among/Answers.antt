@@ -13,5 +13,5 @@ pub returns : goal.returns
 returns c =
     if_ok (λ (set : List Node). IsCommon (bits_of c.args.types.now) (bits_of c.self.inside.open_types) (bits_of set)) (λ (set : List Node). IsOpenPart c.args.self.now (bits_of c.args.types.now) (bits_of set)) c.common.result
     (λ set common. open_part c.args.self.now c.self.inside.open_types (bits_of c.args.types.now) (bits_of set)
-    (subst (λ (s : FlowSearch). bits_of c.self.inside.open_types ≡ types_outside s.policy s.excluded) c.self.view_is c.self.invariant.2) common)
+    (subst (λ (s : FlowSearch). bits_of c.self.inside.open_types ≡ types_outside s.rules.policy s.excluded) c.self.view_is c.self.invariant.2) common)
     c.common.ensures.bits

@@ -5,4 +5,4 @@ use Rattle.flow_search.specs.Flows.{given_by}
 use Rattle.flow_search.proofs.flow_graph.FlowGraph.weight.Given as goal
 
 abbrev pub invariant-loop-number : goal.invariant-loop-number
-invariant-loop-number l = l.weight ≡ greatest (map (given_by (weights_of l.self.entries) l.self.policy l.from l.to) (take l.number-index l.rules))
+invariant-loop-number l = l.weight ≡ greatest (map (given_by (weights_of l.self.entries) l.self.rules.policy l.from l.to) (take l.number-index l.rules))
