@@ -5,12 +5,14 @@ use Rattle.std.specs.List.{Contains, filter, flat_map}
 use Rattle.std.specs.List.Sorted.{IsStrictlyIncreasing}
 use Rattle.std.proofs.lemmas.List.{get_or_default}
 use Rattle.std.proofs.Math.ListN.{length-set}
+use Rattle.std.proofs.lemmas.List.Elements.{Contains-get_or}
 use Rattle.std.proofs.lemmas.Bool.{cases_order, cases_lt, eqb-true, and_parts, and_from, or_cases, or_left, or_right}
 use Rattle.walk_enum.specs.Walks.{walks_along, Goes}
 use Rattle.walk_enum.specs.Inner.Turns.{row_of, Leads}
 use Rattle.walk_enum.specs.Inner.Exploring.{Explores, IsAtEnd}
+use Rattle.walk_enum.specs.Inner.Counting.{AreOrdered}
 use Rattle.walk_enum.specs.Inner.Cutting.{is_none, goes_on, leads_in, Cuts}
-use Rattle.walk_enum.proofs.Elements.{in_filter, from_filter, passes_filter, filter_same, flat_same, flat_kept}
+use Rattle.walk_enum.proofs.Elements.{not_in_nothing, in_filter, from_filter, passes_filter, filter_same, flat_same, flat_kept}
 use Rattle.walk_enum.proofs.Ascending.{Ascends, ascends_filter, increasing_from_ascends}
 use Rattle.walk_enum.proofs.Along.{by_step, goes_join, goes_on_by, goes_from_some, some_from_goes, some_has, has_some, none_is_empty}
 use Rattle.walk_enum.proofs.Exploring.{was_asked, least}
@@ -166,6 +168,32 @@ module _ (next : ℕ → List ℕ) (nodes from to : ℕ) (depths queue : List �
       | inr (i, le, within, is) ↦ subst (λ (n : ℕ). IsStrictlyIncreasing (row_of kept n)) is
           (subst IsStrictlyIncreasing (sym (cuts.done i le within)) (increasing_from_ascends _ (ascends_filter (leads_in next to (slice_index depths to - 1 - slice_index depths (slice_index queue i))) (next (slice_index queue i)) (up (slice_index queue i)))))
     ]
+
+    -- a successor that is kept was found later
+    row_later : (i j c : ℕ) → i < length queue → j < head → Contains (row_of kept (slice_index queue i)) c → slice_index queue j ≡ c → i < j
+    row_later i j c within in_head has at = elim (cuts.none (slice_index queue i)) [
+      | inl empty ↦ not_in_nothing c (subst (λ (l : List ℕ). Contains l c) empty has)
+      | inr (p, le, in_p, is) ↦
+          let a = slice_index queue p in
+          let left = slice_index depths to - 1 - slice_index depths a in
+          let there : Contains (filter (leads_in next to left) (next a)) c = subst (λ (l : List ℕ). Contains l c) (ap (row_of kept) (sym is) ∙ cuts.done p le in_p) has in
+          let goes : Goes next c to left = leads_goes next to left c (passes_filter (leads_in next to left) (next a) c there) in
+          let deep = one_deeper a c (depth_some p in_p) (less_deep p in_p) (from_filter (leads_in next to left) (next a) c there) goes in
+          elim (cases_lt i j) [
+            | inl less ↦ less
+            | inr back ↦ absurd (omega (arith, deep, ap (slice_index depths) at, ap (slice_index depths) is, e.ordered j i back within))
+          ]
+    ]
+
+    -- the nodes that were found stand before their successors that are kept
+    pub rows_ordered : AreOrdered kept queue to
+    rows_ordered = record {
+      listed = λ a. elim (cuts.none a) [ inl empty ↦ inl empty | inr (i, le, in_head, is) ↦ inr (i, omega (arith, in_head, e.within), is) ];
+      later = λ i c within has. elim (cuts.none c) [ inl empty ↦ inl empty | inr (j, le, in_head, is) ↦ inr (j, row_later i j c within in_head has is, omega (arith, in_head, e.within), is) ];
+      ends = elim (cuts.none to) [ inl empty ↦ empty | inr (i, le, in_head, is) ↦ absurd (omega (arith, ap (slice_index depths) is, less_deep i in_head)) ];
+      target = omega (arith, (e.range to (e.listed to found)).1, e.size, cuts.long);
+      within = λ i lt. omega (arith, (e.range (slice_index queue i) (Contains-get_or queue i 0 lt)).1, e.size, cuts.long);
+    }
 
     -- the successors kept of a node, with k + 1 steps left
     row_with : (a k : ℕ) → 1 ≤ slice_index depths a → slice_index depths a + suc k ≡ slice_index depths to → row_of kept a ≡ filter (leads_in next to k) (next a)

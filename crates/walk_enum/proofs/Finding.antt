@@ -6,11 +6,12 @@ use Rattle.std.proofs.lemmas.List.Elements.{All-weaker, All-contains_itself, All
 use Rattle.walk_enum.specs.Walks.{successors_of, walks_along, walks, least_walks, Goes}
 use Rattle.walk_enum.specs.Inner.Turns.{row_of, AreLayers}
 use Rattle.walk_enum.specs.Inner.Exploring.{Explores, IsAtEnd}
+use Rattle.walk_enum.specs.Inner.Counting.{AreOrdered}
 use Rattle.walk_enum.specs.Inner.Cutting.{is_none, IsCut, Cuts}
 use Rattle.walk_enum.proofs.Ascending.{ascends_filter, ascends_range}
 use Rattle.walk_enum.proofs.Along.{first_is, first_none, no_walks, some_from_goes}
 use Rattle.walk_enum.proofs.Exploring.{least, depth_small}
-use Rattle.walk_enum.proofs.Cuts.{walks_same, rows_lead, rows_increase}
+use Rattle.walk_enum.proofs.Cuts.{walks_same, rows_lead, rows_increase, rows_ordered}
 
 module _ (edge : ℕ → ℕ → Bool) (nodes from to : ℕ) (depths queue : List ℕ) (rows : List (List ℕ))
     (e : Explores (successors_of edge nodes) nodes from to depths queue rows (length rows)) where
@@ -55,6 +56,9 @@ module _ (edge : ℕ → ℕ → Bool) (nodes from to : ℕ) (depths queue : Lis
           leads = rows_lead next nodes from to depths queue rows (length rows) e end found kept cuts k from (omega (arith, e.begun)) (omega (arith, e.begun, found)) way;
           short = omega (arith, few, found, depth_small next nodes from to depths queue rows (length rows) e to);
         }
+
+        pub answer_ordered : AreOrdered kept queue to
+        answer_ordered = rows_ordered next nodes from to depths queue rows (length rows) e end found kept cuts
 
         pub answer_walks : walks_along (row_of kept) from to k ≡ least_walks edge nodes from to
         answer_walks = walks_same next nodes from to depths queue rows (length rows) e end found kept cuts k from (omega (arith, e.begun)) (omega (arith, e.begun, found)) ∙ sym answer_least

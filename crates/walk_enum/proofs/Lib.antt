@@ -4,6 +4,8 @@ pub mod Along
 pub mod Rows
 pub mod Listing
 pub mod Turning
+pub mod WalkCounts
+pub mod NumberedWalks
 pub mod Spreading
 pub mod Exploring
 pub mod Cuts

@@ -21,6 +21,8 @@
 #![tactic(auto)]
 
 mod after;
+mod by_number;
+mod counting;
 mod cutting;
 mod explore;
 mod graph;

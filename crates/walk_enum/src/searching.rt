@@ -18,7 +18,7 @@ use std::sync::ledger::Ledger;
 /// linear in the edges of the nodes that are asked, but for bringing the nodes on shortest walks into order; of nodes
 /// with many successors it is linear in the words of 64 nodes. The memory is that of the sets that the graph gives,
 /// which are kept until the search ends, and of a few numbers a node. What stays is a row for every node of the graph,
-/// with its successors on shortest walks, 4 bytes each.
+/// with its successors on shortest walks, 4 bytes each, and the nodes that were found, 4 bytes each.
 pub fn search<G: Graph, L: Ledger>(
     alloc: Global,
     graph: &G,
@@ -42,6 +42,7 @@ pub fn search<G: Graph, L: Ledger>(
     let rows = cut(alloc, &found, to)?;
     Ok(Some(Layers::new(Table {
         rows,
+        order: found.queue,
         from,
         to,
         step_count: (depth - 1) as u32,

@@ -13,6 +13,8 @@ use std::alloc::{AllocError, Global};
 #[derive(Drop)]
 pub struct Table {
     pub rows: Vec<Row>,
+    // nodes, each before its successors
+    pub order: Vec<u32>,
     pub from: u32,
     pub to: u32,
     pub step_count: u32,

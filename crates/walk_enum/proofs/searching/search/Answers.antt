@@ -4,7 +4,7 @@ use Rattle.walk_enum.specs.Walks.{successors_of, walks_along}
 use Rattle.walk_enum.specs.Inner.Turns.{row_of}
 use Rattle.walk_enum.specs.Inner.Exploring.{Explores, IsAtEnd}
 use Rattle.walk_enum.proofs.Exploring.{depth_small}
-use Rattle.walk_enum.proofs.Finding.{queue_fits, depths_few, answer_none, answer_some, answer_layers, answer_walks}
+use Rattle.walk_enum.proofs.Finding.{queue_fits, depths_few, answer_none, answer_some, answer_layers, answer_ordered, answer_walks}
 use Rattle.walk_enum.proofs.searching.search.Goals as goal
 
 pub returns-then-depth-eq0-clause-none : goal.returns-then-depth-eq0-clause-none
@@ -54,8 +54,8 @@ overflow_cast-depth g c =
     let depth : c.number_at-depth.result ≡ slice_index f.depths.items c.args.to = c.number_at-depth.ensures ∙ ap (λ (d : List ℕ). slice_index d c.args.to) c.deref.ensures.value in
     omega (arith, depth, depth_small (successors_of edge nodes) nodes c.args.from c.args.to f.depths.items f.queue.items f.rows.items (length f.rows.items) e c.args.to, c.in_ok-found.ensures.few)
 
-pub new-requires : goal.new-requires
-new-requires g c =
+pub new-requires-clause-layers : goal.new-requires-clause-layers
+new-requires-clause-layers g c =
     let edge = g.G.Graph.edge c.args.graph.now in
     let nodes = g.G.Graph.nodes c.args.graph.now in
     let f = c.in_ok-found.found in
@@ -65,6 +65,17 @@ new-requires g c =
     let some : 1 ≤ slice_index f.depths.items c.args.to = omega (arith, depth, c.if-depth-eq0.false) in
     let k : c.number_at-depth.result - 1 ≡ slice_index f.depths.items c.args.to - 1 = omega (arith, depth) in
     rw k (answer_layers edge nodes c.args.from c.args.to f.depths.items f.queue.items f.rows.items e end some c.in_ok-rows.rows.items c.in_ok-rows.ensures c.in_ok-found.ensures.few)
+
+pub new-requires-clause-ordered : goal.new-requires-clause-ordered
+new-requires-clause-ordered g c =
+    let edge = g.G.Graph.edge c.args.graph.now in
+    let nodes = g.G.Graph.nodes c.args.graph.now in
+    let f = c.in_ok-found.found in
+    let e : Explores (successors_of edge nodes) nodes c.args.from c.args.to f.depths.items f.queue.items f.rows.items (length f.rows.items) = c.in_ok-found.ensures.found in
+    let end : IsAtEnd f.depths.items f.queue.items (length f.rows.items) c.args.to = c.in_ok-found.ensures.end in
+    let depth : c.number_at-depth.result ≡ slice_index f.depths.items c.args.to = c.number_at-depth.ensures ∙ ap (λ (d : List ℕ). slice_index d c.args.to) c.deref.ensures.value in
+    let some : 1 ≤ slice_index f.depths.items c.args.to = omega (arith, depth, c.if-depth-eq0.false) in
+    answer_ordered edge nodes c.args.from c.args.to f.depths.items f.queue.items f.rows.items e end some c.in_ok-rows.rows.items c.in_ok-rows.ensures
 
 pub returns-clause-none : goal.returns-clause-none
 returns-clause-none g c =

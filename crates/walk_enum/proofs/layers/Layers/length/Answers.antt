@@ -10,7 +10,7 @@ use Rattle.walk_enum.proofs.layers.Layers.length.Goals as goal
 pub returns-clause-some : goal.returns-clause-some
 returns-clause-some c =
     let t = c.self.inside.table in
-    let b = begins (row_of t.rows.items) t.from t.to t.step_count c.self.invariant.leads in
+    let b = begins (row_of t.rows.items) t.from t.to t.step_count c.self.invariant.0.leads in
     rw (← c.self.view_is) (omega (arith, ap length b.1))
 
 pub returns-clause-each : goal.returns-clause-each
