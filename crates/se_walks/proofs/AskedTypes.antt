@@ -9,6 +9,7 @@ use Rattle.pol_symbols.specs.declared.Symbols.{Symbols}
 use Rattle.se_items.specs.Paging.{page}
 use Rattle.se_items.specs.Writing.{Sends}
 use Rattle.se_options.specs.Options.{Named, named_view}
+use Rattle.se_options.specs.States.{State}
 use Rattle.se_options.specs.declared.Named.{Named as NamedWord}
 use Rattle.se_items.specs.declared.WriteEnd.{WriteEnd}
 use Rattle.se_outside.specs.Outside.{SinkState}
@@ -17,6 +18,7 @@ use Rattle.se_status.proofs.LeastNumbers.{least-assoc, least-none, one-more}
 use Rattle.std.specs.Option.{option_to_list}
 use Rattle.se_walks.specs.GraphAnswer.{GraphAsks, excluded_in, graph_text, is_edge}
 use Rattle.se_walks.specs.GraphItems.{items_between}
+use Rattle.se_walks.specs.StatedRules.{first_unknown_name}
 use Rattle.se_walks.specs.TypeNames.{ends_named, first_unknown, is_excluded, type_words, unknown_word}
 use Rattle.se_walks.specs.WalkTexts.{EdgeWords}
 use Rattle.se_walks.specs.declared.graph_items.Ends.{Ends}
@@ -56,10 +58,11 @@ pub excluded-are : (symbols own : Symbols) (names given : List NamedWord) (exclu
 excluded-are symbols own names given excluded is same h =
     subst (λ (s : Symbols). AreExcluded s (map named_view names) excluded) is (subst (λ (ns : List NamedWord). AreExcluded symbols (map named_view ns) excluded) same h)
 
--- each word names a type
-pub none-unknown : (policy : Parts) (source : Named) (target : Option Named) (names given : List NamedWord) → given ≡ names
-    → first_unknown policy (type_words source target (map named_view given)) ≡ None → first_unknown policy (type_words source target (map named_view names)) ≡ None
-none-unknown policy source target names given same none = subst (λ (ns : List NamedWord). first_unknown policy (type_words source target (map named_view ns)) ≡ None) same none
+-- each word names a type, or a boolean
+pub none-unknown : (policy : Parts) (source : Named) (target : Option Named) (states : Option (List State)) (names given : List NamedWord) → given ≡ names
+    → first_unknown_name policy (type_words source target (map named_view given)) states ≡ None → first_unknown_name policy (type_words source target (map named_view names)) states ≡ None
+none-unknown policy source target states names given same none =
+    subst (λ (ns : List NamedWord). first_unknown_name policy (type_words source target (map named_view ns)) states ≡ None) same none
 
 -- an edge, or one back in the reverse
 pub either-way : (r p q s t : Bool) → p ≡ s → q ≡ t → (if r then p else q) ≡ (if r then s else t)

@@ -1,5 +1,5 @@
 -- From a walk that is next to the one after it.
-use Rattle.std.proofs.Common.{◌≡◌, ◌≤◌, ◌<◌, ◌+◌, ℕ, zero, suc, Bool, true, false, List, [], ◌∷◌, Some, length, take, drop, slice_get, refl, sym, ◌∙◌, length-drop, ap, add-one, arith, subst}
+use Rattle.std.proofs.Common.{◌≡◌, ◌≤◌, ◌<◌, ◌+◌, ℕ, zero, suc, Bool, true, false, List, [], ◌∷◌, None, Some, length, take, drop, slice_get, refl, sym, ◌∙◌, length-drop, ap, add-one, arith, subst}
 use Rattle.std.specs.Prelude.{if◌then◌else◌}
 use Rattle.std.specs.List.{All, Contains}
 use Rattle.std.proofs.lemmas.List.{drop-drop, drop_all}
@@ -77,3 +77,44 @@ passed-end all left number count le is none =
 -- where there is no further walk none is left
 pub no-walks : (f : ℕ → List ℕ → List ℕ) (more : Bool) (number : ℕ) (listed : List (List ℕ)) → more ≡ false → (if more then numbered f (number + 1) (drop number listed) else []) ≡ []
 no-walks f more number listed none = rw none refl
+
+drop-numbered : (f : ℕ → List ℕ → List ℕ) (n k : ℕ) (xs : List (List ℕ)) → drop k (numbered f n xs) ≡ numbered f (n + k) (drop k xs)
+drop-numbered f n zero xs = let e : n + 0 ≡ n = omega arith in rw e refl
+drop-numbered f n (suc k) [] = refl
+drop-numbered f n (suc k) (x ∷ xs) = let e : n + suc k ≡ n + 1 + k = omega arith in rw e (drop-numbered f (n + 1) k xs)
+
+-- Of the walks from a number on so many were passed over: the walk behind them is next, if there is one.
+pub passed-to : (f : ℕ → List ℕ → List ℕ) (listed : List (List ℕ)) (number count after : ℕ) (old more : Bool) → old ≡ true → after ≡ number + count → (more ≡ false → length listed ≤ after)
+    → (if more then numbered f (after + 1) (drop after listed) else []) ≡ drop count (if old then numbered f (number + 1) (drop number listed) else [])
+passed-to f listed number count after old more is at none =
+    let begin : after + 1 ≡ number + 1 + count = omega (arith, at) in
+    let rest : drop after listed ≡ drop count (drop number listed) = ap (λ n. drop n listed) at ∙ sym (drop-drop count number listed) in
+    rw is (rest-of f more after listed none ∙ ap (λ n. numbered f n (drop after listed)) begin ∙ ap (numbered f (number + 1 + count)) rest ∙ sym (drop-numbered f (number + 1) count (drop number listed)))
+
+-- it is next
+pub passed-on : (f : ℕ → List ℕ → List ℕ) (listed : List (List ℕ)) (number count : ℕ) (more : Bool) → more ≡ true
+    → (if more then numbered f (number + count + 1) (drop (number + count) listed) else []) ≡ drop count (if more then numbered f (number + 1) (drop number listed) else [])
+passed-on f listed number count more is = passed-to f listed number count (number + count) more more is refl (λ none. let e : true ≡ false = sym is ∙ none in absurd (cc e))
+
+-- as many as there are to the end were passed over
+pub passed-all : (f : ℕ → List ℕ → List ℕ) (all : List (List ℕ)) (end number count : ℕ) (old : Bool) → end ≤ number + count
+    → [] ≡ drop count (if old then numbered f (number + 1) (drop number (take end all)) else [])
+passed-all f all end number count false le = sym (drop_all count [] (omega arith))
+passed-all f all end number count true le =
+    let s = short all end in
+    let long = length-drop number (take end all) in
+    let none : drop count (drop number (take end all)) ≡ [] = drop_all count (drop number (take end all)) (omega (arith, s, long, le)) in
+    sym (drop-numbered f (number + 1) count (drop number (take end all)) ∙ ap (numbered f (number + 1 + count)) none)
+
+none-at : (all : List (List ℕ)) (before : ℕ) → slice_get all before ≡ None → length all ≤ before
+none-at [] before none = omega arith
+none-at (first ∷ others) zero none = absurd (cc none)
+none-at (first ∷ others) (suc before) none = let le = none-at others before none in omega (arith, le)
+
+-- there is no walk of a number, and so none is left
+pub passed-far : (f : ℕ → List ℕ → List ℕ) (all : List (List ℕ)) (end number count : ℕ) (old : Bool) → old ≡ true → slice_get all (number + count) ≡ None
+    → [] ≡ drop count (if old then numbered f (number + 1) (drop number (take end all)) else [])
+passed-far f all end number count old is none =
+    let few = none-at all (number + count) none in
+    let s = shorter all end in
+    passed-to f (take end all) number count (number + count) old false is refl (λ e. omega (arith, few, s))

@@ -1,3 +1,4 @@
 pub mod EdgeItems
 pub mod Placed
+pub mod StepTexts
 pub mod WalkItems

@@ -1,4 +1,5 @@
 pub mod TypeNames
+pub mod StatedRules
 pub mod Numbered
 pub mod WalkTexts
 pub mod GraphItems

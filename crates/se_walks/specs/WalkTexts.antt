@@ -29,10 +29,14 @@ edge_item words number from to = words.word ++ codes " " ++ decimal number ++ co
 abbrev pub end_item : EdgeWords → ℕ → Bool → ℕ → ℕ → List ℕ
 end_item words node reverse number end = if reverse then edge_item words number end node else edge_item words number node end
 
+-- the edge of a step
+abbrev pub step_edge : EdgeWords → ℕ → ℕ → List ℕ
+step_edge words from to = edge_text words (codes "      ") from to
+
 -- `   Step I: ` and the edge, for the step after so many
 unfoldable pub step_text : EdgeWords → List ℕ → ℕ → List ℕ
 step_text words walk before =
-    codes "   Step " ++ decimal (before + 1) ++ codes ": " ++ edge_text words (codes "      ") (slice_index walk before) (slice_index walk (before + 1))
+    codes "   Step " ++ decimal (before + 1) ++ codes ": " ++ step_edge words (slice_index walk before) (slice_index walk (before + 1))
 
 -- `Path N: A -> B, steps K`
 unfoldable pub heading_text : EdgeWords → ℕ → List ℕ → List ℕ

@@ -89,7 +89,7 @@ fn plain_value(policy: &Policy<'_>, value: u32) -> Option<u32>
 }
 
 /// The least number of a word, of a source, a target and excluded types, that names no type. It takes no memory.
-pub fn first_unknown(
+pub fn unknown_type(
     policy: &Policy<'_>,
     source: &Named<'_>,
     target: &Option<Named<'_>>,

@@ -9,6 +9,8 @@ ghost use Rattle.walk_enum.specs.Walks.{successors_of, least_walks};
 ghost use Rattle.walk_simple.specs.SimpleWalks.{simple_walks};
 ghost use Rattle.se_walks.specs.GraphItems.{walks_asked};
 ghost use Rattle.se_walks.specs.Inner.Placed.{IsAtFirst, all_walks, next_walk};
+ghost use Rattle.se_walks.specs.Inner.StepTexts.{AreStepTexts};
+ghost use Rattle.se_walks.specs.Inner.WalkItems.{walks_left};
 ghost use Rattle.se_walks.specs.Numbered.{numbered};
 ghost use Rattle.se_walks.specs.WalkTexts.{end_item, walk_item};
 
@@ -17,6 +19,7 @@ use crate::edge_items::EdgeItems;
 use crate::walk_items::WalkItems;
 use crate::walk_kinds::{ShortestWalks, SimpleWalks};
 use crate::walks::Walks;
+use kept_texts::KeptTexts;
 use pol_bitmap::Set;
 use se_items::{Window, WriteEnd, write_pieces};
 use se_outside::Sink;
@@ -125,6 +128,21 @@ fn write_each<T: EdgeTexts, S: Sink>(
     ensures { Sends (S.state out.old) (S.state out.new)
         (concat (page window.from window.limit (numbered (walk_item (T.words texts.now)) 1 (all_walks walks)))) result }
 {
+    let mut items = items_in(alloc, texts, walks, window)?;
+    write_pieces(alloc, &mut items, out)
+}
+
+// The walks that are asked for, of which the first is next.
+fn items_in<'q, T: EdgeTexts>(
+    alloc: Global,
+    texts: &'q T,
+    walks: Walks,
+    window: Window,
+) -> Result<WalkItems<'q, T>, AllocError>
+    requires { slice_get (all_walks walks) 0 ≡ Some (next_walk walks) }
+    ensures text { IfOk result (λ items. concat (walks_left T.words items) ≡ concat (page window.from window.limit (numbered (walk_item (T.words texts.now)) 1 (all_walks walks)))) }
+    ensures kept { IfOk result (λ items. AreStepTexts (T.words items.texts.now) items.kept) }
+{
     let end = window.end();
     let mut items = WalkItems {
         texts,
@@ -132,9 +150,10 @@ fn write_each<T: EdgeTexts, S: Sink>(
         more: 0 < end,
         number: 0,
         end,
+        kept: KeptTexts::none(alloc)?,
     };
-    items.skip(window.from);
-    write_pieces(alloc, &mut items, out)
+    items.skip(alloc, window.from)?;
+    Ok(items)
 }
 
 // The walks from a node to a node, of which the first is next, or `None` where there is no walk.
