@@ -1,4 +1,8 @@
 pub mod UnknownLines
 pub mod NamedTypes
 pub mod WantedTypes
-pub mod Against
+pub mod FileWords
+pub mod AllowedRules
+pub mod AskedMasks
+pub mod FoundRules
+pub mod GivenFiles

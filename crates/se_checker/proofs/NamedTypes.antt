@@ -4,7 +4,6 @@ use Rattle.std.specs.Prelude.{is_some, option_map}
 use Rattle.std.specs.List.{All, find}
 use Rattle.std.proofs.lemmas.Bool.{cases_Bool, eqb-true, or_cases, or_left, false≢true}
 use Rattle.std.proofs.lemmas.List.Elements.{All-cons, All-head, All-tail}
-use Rattle.std.proofs.Math.Bool.{or_assoc}
 use Rattle.pol_cursor.specs.References.{Placed}
 use Rattle.pol_cursor.proofs.BitPlaces.{or_nothing}
 use Rattle.pol_bitmap.specs.declared.Node.{Node}
@@ -86,13 +85,6 @@ member_within bytes policy (name ∷ names) type accepted is = elim (or_cases (v
 -- the types of the first names are found, and those of the names that are left are not
 abbrev pub Finding : Parts → List (List ℕ) → List (List ℕ) → List ℕ → Type 0
 Finding policy all left found = (type : ℕ) → (is_among found type || is_member policy left type) ≡ is_member policy all type
-
-pub finding_more : (policy : Parts) (all left after : List (List ℕ)) (name : List ℕ) (old new : List ℕ) → left ≡ name ∷ after → ((type : ℕ) → is_among new type ≡ (is_among old type || value_holds policy (value_in policy.symbols Types name) type)) → Finding policy all left old → Finding policy all after new
-finding_more policy all left after name old new is added finding type =
-    ap (λ (b : Bool). b || is_member policy after type) (added type)
-    ∙ or_assoc (is_among old type) (value_holds policy (value_in policy.symbols Types name) type) (is_member policy after type)
-    ∙ ap (λ (names : List (List ℕ)). is_among old type || is_member policy names type) (sym is)
-    ∙ finding type
 
 pub all_found : {E : Type 0} (bytes : List ℕ) (policy : Parts) (all left : List (List ℕ)) (found : List ℕ) (result : Result (List Node) E) → accept bytes ≡ Ok policy → left ≡ [] → Finding policy all left found → IfOk result IsSet → IfOk result (λ set. bits_of set ≡ found) → IfOk result (λ set. bits_of set ≡ members policy all)
 unfolding members

@@ -1,3 +1,4 @@
 pub mod KnownNames
 pub mod Members
 pub mod Verdicts
+pub mod Inner

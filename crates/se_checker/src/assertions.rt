@@ -1,130 +1,114 @@
-// Assertions: the allow rules that give what is asked for, to a type that is not exempt.
-ghost use Rattle.std.specs.Prelude.{◌≡◌, ◌<◌, ◌==◌, ◌&&◌, ◌++◌, ℕ, true, [], ◌∷◌, Some, None, IfOk, OnOk, length, option_map, if◌then◌else◌};
-ghost use Rattle.std.specs.Int.{bit_at};
+// The allow rules that give what is asked for, to a type that is not exempt.
+ghost use Rattle.std.specs.Prelude.{◌≡◌, ◌++◌, ℕ, true, Some, None, IfOk, OnOk, length, option_map};
+ghost use Rattle.std.specs.List.{flat_map, range_with_len};
+ghost use Rattle.std.specs.List.Sorted.{IsPermutation};
 ghost use Rattle.pol_bitmap.specs.Nodes.{bits_of};
-ghost use Rattle.pol_commons.specs.Permissions.{mask_has};
 ghost use Rattle.pol_expand.specs.PlainTypes.{is_type_value};
-ghost use Rattle.pol_expand.specs.JoinedTypes.{rule_passes};
 ghost use Rattle.pol_expand.specs.PolicyMap.{IsPolicyMap};
 ghost use Rattle.pol_expand.specs.Inner.StoredEnds.{IsEnd, holds_any};
-ghost use Rattle.pol_read.specs.StoredRules.{stored, stored_rules};
 ghost use Rattle.rule_order.specs.ListedOrder.{AreRules};
 ghost use Rattle.text_rows.specs.TextLines.{fields_in};
 ghost use Rattle.value_groups.specs.Among.{is_among};
-ghost use Rattle.check_list.specs.declared.CheckKey.TheVariants.{Source, Target, ExemptSource, ExemptTarget};
-ghost use Rattle.check_list.specs.Checklists.{given, listed};
-ghost use Rattle.se_checker.specs.Verdicts.{asks_class, asks_mask, asks_part, found_against, found_passes, has_wanted, is_against, is_wanted, rules_against};
+ghost use Rattle.se_checker.specs.Verdicts.{has_wanted, is_wanted, rules_against, rules_asked};
+ghost use Rattle.se_checker.specs.Inner.AllowRules.{AreAllowRules, rules_in};
+ghost use Rattle.se_checker.specs.Inner.AskedBits.{asks_at, has_asked, is_passing, numbers_passing};
 
+use crate::allow_rules::{AllowRule, AllowRules};
+use crate::asked::{Asked, AskedBits, asked_bits, asked_by};
 use crate::named_types::members;
-use check_list::{Check, CheckKey};
+use check_list::Check;
 use pol_bitmap::Set;
 use pol_expand::{TypeMap, types_outside};
-use pol_fields::TableKind;
-use pol_read::{Policy, Rule, RuleKind, RulePart};
-use pol_symbols::Symbols;
-use rule_order::sort_by_rule_order;
+use pol_read::Policy;
+use rule_order::{rules_have_one_order, sort_by_rule_order};
 use std::alloc::{AllocError, Global};
-use text_rows::first_field;
 use value_groups::DenseSet;
 
-/// The numbers of the rules that an assertion finds, in the order in which rules are listed. All rules are gone through once.
+/// The numbers of the rules that an assertion finds, in the order in which rules are listed.
 pub fn rules_against(
     alloc: Global,
     policy: &Policy<'_>,
     types: &TypeMap,
+    rules: &AllowRules,
     check: &Check<'_>,
 ) -> Result<Vec<u32>, AllocError>
-    requires { IsPolicyMap policy.now types.now }
-    ensures { IfOk result (λ numbers. numbers.items ≡ rules_against policy.now check.now) }
+    requires map { IsPolicyMap policy.now types.now }
+    requires rules { AreAllowRules policy.now rules.now }
+    ensures found { IfOk result (λ numbers. numbers.items ≡ rules_against policy.now check.now) }
+    ensures rules { IfOk result (λ numbers. AreRules policy.now numbers.items) }
 {
-    let found = found_against(alloc, policy, types, check)?;
+    rules_have_one_order(policy);
+    let found = rules_asked(alloc, policy, types, rules, &asked_by(check))?;
     sort_by_rule_order(alloc, policy, &found)
 }
 
-// Their numbers, rising.
-fn found_against(
+/// The numbers of the rules that give what is asked for, class by class. Those of the classes that are asked for are gone through once.
+pub fn rules_asked(
     alloc: Global,
     policy: &Policy<'_>,
     types: &TypeMap,
-    check: &Check<'_>,
+    rules: &AllowRules,
+    asked: &Asked<'_>,
 ) -> Result<Vec<u32>, AllocError>
-    requires { IsPolicyMap policy.now types.now }
-    ensures found { IfOk result (λ numbers. numbers.items ≡ found_against policy.now check.now) }
-    ensures rules { IfOk result (λ numbers. AreRules policy.now numbers.items) }
+    requires map { IsPolicyMap policy.now types.now }
+    requires rules { AreAllowRules policy.now rules.now }
+    ensures { IfOk result (λ numbers. IsPermutation numbers.items (rules_asked policy.now asked.now)) }
 {
-    let sources = wanted_ends(
-        alloc,
-        policy,
-        types,
-        check.given(CheckKey::Source),
-        check.listed(CheckKey::ExemptSource),
-    )?;
-    let targets = wanted_ends(
-        alloc,
-        policy,
-        types,
-        check.given(CheckKey::Target),
-        check.listed(CheckKey::ExemptTarget),
-    )?;
-    passing_rules(alloc, policy, check, &sources, &targets)
+    // the policy was accepted, and so the ends of an allow rule are types and attributes, and its class is declared
+    policy.is_accepted();
+    let sources = wanted_ends(alloc, policy, types, asked.source, asked.exempt_source)?;
+    let targets = wanted_ends(alloc, policy, types, asked.target, asked.exempt_target)?;
+    passing_rules(alloc, policy, rules, asked, &sources, &targets)
 }
 
-// Rule by rule, of the stored ends that have a type that is asked for and not exempt.
+// The rules that give what is asked for from some stored ends to others.
 fn passing_rules(
     alloc: Global,
     policy: &Policy<'_>,
-    check: &Check<'_>,
+    rules: &AllowRules,
+    asked: &Asked<'_>,
     sources: &DenseSet,
     targets: &DenseSet,
 ) -> Result<Vec<u32>, AllocError>
-    requires sources { (end : ℕ) → IsEnd policy.now end → is_among sources.now.values end ≡ has_wanted policy.now (given check.now Source) (listed check.now ExemptSource) end }
-    requires targets { (end : ℕ) → IsEnd policy.now end → is_among targets.now.values end ≡ has_wanted policy.now (given check.now Target) (listed check.now ExemptTarget) end }
-    ensures found { IfOk result (λ numbers. numbers.items ≡ found_against policy.now check.now) }
-    ensures rules { IfOk result (λ numbers. AreRules policy.now numbers.items) }
+    requires { AreAllowRules policy.now rules.now }
+    ensures { IfOk result (λ numbers. numbers.items ≡ flat_map (λ place. numbers_passing (asks_at policy.now.symbols asked.now place) sources.now.values targets.now.values (rules_in rules.now place)) (range_with_len 0 (length policy.now.symbols.classes.records))) }
 {
+    let symbols = policy.symbols();
     let mut found = Vec::new(alloc);
-    for number in 0..policy.rule_count() {
-        let passes = is_against(policy, check, sources, targets, number);
-        push_if(&mut found, number, passes)?;
+    for place in 0..symbols.classes.len() {
+        let bits = asked_bits(symbols, asked, &symbols.classes.view(place));
+        push_passing(&mut found, rules.of_class(place), bits, sources, targets)?;
     }
     Ok(found)
 }
 
-// Appends a number where it passes.
-fn push_if(found: &mut Vec<u32>, number: u32, passes: bool) -> Result<(), AllocError>
-    ensures { OnOk result (found.new.items ≡ found.old.items ++ (if passes then number ∷ [] else [])) }
+// Appends the numbers of those of some rules that have what is asked for.
+fn push_passing(
+    found: &mut Vec<u32>,
+    rules: &[AllowRule],
+    bits: AskedBits,
+    sources: &DenseSet,
+    targets: &DenseSet,
+) -> Result<(), AllocError>
+    ensures { OnOk result (found.new.items ≡ found.old.items ++ numbers_passing (has_asked bits) sources.now.values targets.now.values rules.now) }
 {
-    if passes {
-        found.push(number)?;
+    if let AskedBits::Nothing = bits {
+        return Ok(());
+    }
+    for rule in rules {
+        if is_passing(rule, bits, sources, targets) {
+            found.push(rule.number)?;
+        }
     }
     Ok(())
 }
 
-// Whether the rule of a number is one of them.
-fn is_against(
-    policy: &Policy<'_>,
-    check: &Check<'_>,
-    sources: &DenseSet,
-    targets: &DenseSet,
-    number: u32,
-) -> bool
-    requires number { number < length (stored_rules policy.now) }
-    requires sources { (end : ℕ) → IsEnd policy.now end → is_among sources.now.values end ≡ has_wanted policy.now (given check.now Source) (listed check.now ExemptSource) end }
-    requires targets { (end : ℕ) → IsEnd policy.now end → is_among targets.now.values end ≡ has_wanted policy.now (given check.now Target) (listed check.now ExemptTarget) end }
-    ensures { result ≡ rule_passes policy.now (is_against policy.now check.now) number }
+// Whether a rule has what is asked for.
+#[inline(always)]
+fn is_passing(rule: &AllowRule, bits: AskedBits, sources: &DenseSet, targets: &DenseSet) -> bool
+    ensures { result ≡ is_passing (has_asked bits) sources.now.values targets.now.values rule.now }
 {
-    // the policy was accepted, and so the ends of an allow rule are types and attributes
-    policy.is_accepted();
-    let ends = policy.rule_ends(number);
-    has_both(sources, ends.source, targets, ends.target)
-        && asks_rule(policy.symbols(), check, &policy.rule(number))
-}
-
-// Whether two values are there, one in each set.
-fn has_both(sources: &DenseSet, source: u32, targets: &DenseSet, target: u32) -> bool
-    ensures { result ≡ (is_among sources.now.values source && is_among targets.now.values target) }
-{
-    sources.has(source) && targets.has(target)
+    bits.has(rule.mask) && sources.has(rule.source) && targets.has(rule.target)
 }
 
 // The types and attributes that expand to a type that is asked for and not exempt.
@@ -203,92 +187,4 @@ fn ends_with(
     let mut ends = DenseSet::new(alloc, policy.type_count() as usize + 1)?;
     ends.add_set(&touching);
     Ok(ends)
-}
-
-// Whether an allow rule has a class and a permission that a check asks for.
-fn asks_rule(symbols: &Symbols<'_>, check: &Check<'_>, rule: &Rule<'_>) -> bool
-    ensures { result ≡ asks_part symbols.now check.now (stored rule.now).kind (stored rule.now).class (stored rule.now).part }
-{
-    match (rule.kind, &rule.part) {
-        (RuleKind::Allow, RulePart::Perms(mask)) => {
-            asks_class(symbols, check.given(CheckKey::Class), rule.class)
-                && asks_mask(symbols, check.given(CheckKey::Perms), rule.class, *mask)
-        }
-        _ => false,
-    }
-}
-
-// Whether a class is asked for.
-fn asks_class(symbols: &Symbols<'_>, names: Option<&[u8]>, class: u32) -> bool
-    ensures { result ≡ asks_class symbols.now (option_map (λ names. fields_in names.now) names.entry) class }
-{
-    match names {
-        Some(names) => names_class(symbols, names, class),
-        None => true,
-    }
-}
-
-// Whether one of some names is that of a class.
-fn names_class(symbols: &Symbols<'_>, names: &[u8], class: u32) -> bool
-    ensures { result ≡ asks_class symbols.now (Some (fields_in names.now)) class }
-{
-    let mut rest = names;
-    while let Some((name, after)) = first_field(rest) {
-        if is_value(symbols.by_name(TableKind::Classes, name), class) {
-            return true;
-        }
-        rest = after;
-    }
-    false
-}
-
-// Whether a look-up found that value.
-fn is_value(found: Option<u32>, value: u32) -> bool
-    ensures { result ≡ found_passes (λ other. other == value) found }
-{
-    match found {
-        Some(other) => other == value,
-        None => false,
-    }
-}
-
-// Whether a mask of a class has a permission that is asked for.
-fn asks_mask(symbols: &Symbols<'_>, names: Option<&[u8]>, class: u32, mask: u32) -> bool
-    ensures { result ≡ asks_mask symbols.now (option_map (λ names. fields_in names.now) names.entry) class mask }
-{
-    match names {
-        Some(names) => has_named(symbols, names, class, mask),
-        None => true,
-    }
-}
-
-// Whether it has one of some names.
-fn has_named(symbols: &Symbols<'_>, names: &[u8], class: u32, mask: u32) -> bool
-    ensures { result ≡ asks_mask symbols.now (Some (fields_in names.now)) class mask }
-{
-    let mut rest = names;
-    while let Some((name, after)) = first_field(rest) {
-        if has_found(mask, symbols.perm_value(class, name)) {
-            return true;
-        }
-        rest = after;
-    }
-    false
-}
-
-// Whether the bit of a permission is set, where the class has the permission.
-fn has_found(mask: u32, permission: Option<u32>) -> bool
-    ensures { result ≡ found_passes (mask_has mask) permission }
-{
-    match permission {
-        Some(value) => has_bit(mask, value.saturating_sub(1)),
-        None => false,
-    }
-}
-
-// Whether a bit of a mask is set.
-fn has_bit(mask: u32, bit: u32) -> bool
-    ensures { result ≡ (bit_at mask bit == 1) }
-{
-    bit < 32 && (mask >> bit) & 1 == 1
 }

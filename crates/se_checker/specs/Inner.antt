@@ -1,0 +1,4 @@
+pub mod AllowRules
+pub mod AskedBits
+pub mod FileTypes
+pub mod VerdictViews

@@ -1,0 +1,2 @@
+pub mod CheckAnswer
+pub mod Inner
