@@ -2,7 +2,7 @@
 use Rattle.std.specs.Prelude.{ℕ, List, [], ◌∷◌, ◌++◌, codes, flat_map}
 use Prim.Native.String.{String}
 use Rattle.se_help.specs.declared.topic.Topic.{Topic}
-use Rattle.se_help.specs.declared.topic.Topic.TheVariants.{All, Info, Search, Dom, Flow, Make, Version}
+use Rattle.se_help.specs.declared.topic.Topic.TheVariants.{All, Info, Search, Dom, Flow, Convert, Check, Make, Version}
 
 -- lines as they are written, each with a line feed
 abbrev pub lines_text : List String → List ℕ
@@ -22,6 +22,8 @@ general_usage = lines_text
     ∷ "  sesearch       searches the rules of a policy"
     ∷ "  sedta          finds domain transitions"
     ∷ "  seinfoflow     finds information flows, by a permission map"
+    ∷ "  seconvert      writes a policy at another version"
+    ∷ "  sechecker      checks a policy by a list of checks"
     ∷ "  make           makes a policy of so many types, for tests"
     ∷ ""
     ∷ "Options, each of them alone or behind a tool:"
@@ -44,7 +46,8 @@ general_usage = lines_text
     ∷ ""
     ∷ "Exit codes:"
     ∷ "  0  what was asked was written"
-    ∷ "  1  the policy or the map is refused, or a name, number or pattern"
+    ∷ "  1  the policy, the map or the checklist is refused, or a name, number or"
+    ∷ "     pattern; or a version cannot hold the policy"
     ∷ "  2  the words do not fit"
     ∷ "  3  reading or writing failed"
     ∷ "  5  out of memory"
@@ -197,6 +200,9 @@ dom_usage = lines_text
     ∷ "  -A N                   all paths of at most N steps, 1 to 99, that have no"
     ∷ "                           type twice; needs -t, not with -S"
     ∷ "  -r, --reverse          the transitions into the source; not with -t"
+    ∷ "      --bool-state LIST  only the rules that count where booleans are so:"
+    ∷ "                           NAME=on or NAME=off, parted by commas; others are"
+    ∷ "                           as the policy has them. Without it all rules"
     ∷ ""
     ∷ "Output:"
     ∷ "  -l, --limit_trans N    at most N transitions or paths"
@@ -204,7 +210,8 @@ dom_usage = lines_text
     ∷ ""
     ∷ "Exit codes:"
     ∷ "  0  the transitions or paths were written, also where there are none"
-    ∷ "  1  the policy is refused, or a type is unknown or an attribute"
+    ∷ "  1  the policy is refused, a type is unknown or an attribute, or a boolean is"
+    ∷ "     unknown"
     ∷ "  2  the words do not fit"
     ∷ "  3  the policy could not be read, or the output not written"
     ∷ "  5  out of memory"
@@ -212,6 +219,7 @@ dom_usage = lines_text
     ∷ "Examples:"
     ∷ "  setools sedta -p policy.33 -s sshd_t -r"
     ∷ "  setools sedta -p policy.33 -s user_t -t sysadm_t -S"
+    ∷ "  setools sedta -p policy.33 -s sshd_t --bool-state ssh_sysadm_login=on"
     ∷ [])
 
 -- the usage of seinfoflow
@@ -242,6 +250,9 @@ flow_usage = lines_text
     ∷ "                           type twice; needs -t, not with -S"
     ∷ "  -r, --reverse          the flows into the source; not with -t"
     ∷ "  -w, --min_weight W     flows of at least this weight, 1 to 10; without it 3"
+    ∷ "      --bool-state LIST  only the rules that count where booleans are so:"
+    ∷ "                           NAME=on or NAME=off, parted by commas; others are"
+    ∷ "                           as the policy has them. Without it all rules"
     ∷ ""
     ∷ "Output:"
     ∷ "  -l, --limit_flows N    at most N flows or paths"
@@ -249,7 +260,8 @@ flow_usage = lines_text
     ∷ ""
     ∷ "Exit codes:"
     ∷ "  0  the flows or paths were written, also where there are none"
-    ∷ "  1  the policy or the map is refused, or a type is unknown or an attribute"
+    ∷ "  1  the policy or the map is refused, a type is unknown or an attribute, or a"
+    ∷ "     boolean is unknown"
     ∷ "  2  the words do not fit"
     ∷ "  3  the policy or the map could not be read, or the output not written"
     ∷ "  5  out of memory"
@@ -258,6 +270,77 @@ flow_usage = lines_text
     ∷ "  setools seinfoflow -p policy.33 -m perm_map -s shadow_t -w 10"
     ∷ "  setools seinfoflow -p policy.33 -m perm_map -s httpd_t -t shadow_t -S"
     ∷ "  setools seinfoflow -p policy.33 -m perm_map -s httpd_t -t shadow_t -A 3"
+    ∷ [])
+
+-- the usage of seconvert
+unfoldable pub convert_usage : List ℕ
+convert_usage = lines_text
+    ("Usage: setools seconvert POLICY -c VERSION"
+    ∷ ""
+    ∷ "Writes a compiled SELinux policy at another version, as bytes, to standard"
+    ∷ "output. It has the same rules, contexts and other records; what the version"
+    ∷ "cannot hold is refused by name, and nothing is left out."
+    ∷ ""
+    ∷ "Conversion:"
+    ∷ "  -c VERSION             the version, 28 to 34; it has to be given"
+    ∷ ""
+    ∷ "What a version cannot hold:"
+    ∷ "  Extended               below 30: rules on ioctl numbers"
+    ∷ "  ConditionalExtended    below 34: such rules that depend on booleans"
+    ∷ "  Infiniband             below 31: contexts of InfiniBand"
+    ∷ "  TooLong                a policy that would have more than 64 MiB"
+    ∷ ""
+    ∷ "Exit codes:"
+    ∷ "  0  the policy was written"
+    ∷ "  1  the policy is refused, or the version cannot hold it"
+    ∷ "  2  the words do not fit"
+    ∷ "  3  the policy could not be read, or the output not written"
+    ∷ "  5  out of memory"
+    ∷ ""
+    ∷ "Examples:"
+    ∷ "  setools seconvert policy.33 -c 31 >policy.31"
+    ∷ ""
+    ∷ "The manual page seconvert(1) says what to do where a version cannot hold a"
+    ∷ "policy."
+    ∷ [])
+
+-- the usage of sechecker
+unfoldable pub check_usage : List ℕ
+check_usage = lines_text
+    ("Usage: setools sechecker POLICY LIST"
+    ∷ ""
+    ∷ "Checks a compiled SELinux policy by a list of checks, and writes for each one"
+    ∷ "whether it passes, or what it found."
+    ∷ ""
+    ∷ "Files:"
+    ∷ "  POLICY                 the policy"
+    ∷ "  LIST                   the checklist"
+    ∷ ""
+    ∷ "A check is a heading and its options, one a line, with spaces around =:"
+    ∷ "  [NAME]                           begins a check"
+    ∷ "  check_type = assert_te           finds the allow rules of source, target,"
+    ∷ "                                     class and perms, but for exempt_source and"
+    ∷ "                                     exempt_target"
+    ∷ "  check_type = empty_typeattr      finds the types of attr, an attribute, which"
+    ∷ "                                     with missing_ok = true need not be there"
+    ∷ "  check_type = ro_execs            finds the types of files that are executed"
+    ∷ "                                     and written, but for exempt_file,"
+    ∷ "                                     exempt_exec_domain, exempt_write_domain"
+    ∷ "An option may have several values, parted by spaces. # begins a comment. A"
+    ∷ "check passes that finds nothing."
+    ∷ ""
+    ∷ "Exit codes:"
+    ∷ "  0  the checks were made, whether they passed or failed"
+    ∷ "  1  the policy or the checklist is refused"
+    ∷ "  2  the words do not fit"
+    ∷ "  3  a file could not be read, or the output not written"
+    ∷ "  5  out of memory"
+    ∷ ""
+    ∷ "Examples:"
+    ∷ "  setools sechecker policy.33 checks"
+    ∷ "  setools sechecker policy.33 checks | grep -qx 'Failed checks: 0'"
+    ∷ ""
+    ∷ "The manual page sechecker(1) says what each check finds."
     ∷ [])
 
 -- the usage of make
@@ -298,5 +381,7 @@ topic_text Info = info_usage
 topic_text Search = search_usage
 topic_text Dom = dom_usage
 topic_text Flow = flow_usage
+topic_text Convert = convert_usage
+topic_text Check = check_usage
 topic_text Make = make_usage
 topic_text Version = versions

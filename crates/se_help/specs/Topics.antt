@@ -2,7 +2,7 @@
 use Rattle.std.specs.Prelude.{ℕ, List, [], ◌∷◌, codes, ◌||◌, Option, Some, None, if◌then◌else◌}
 use Rattle.se_options.specs.Word.{is_word}
 use Rattle.se_help.specs.declared.topic.Topic.{Topic}
-use Rattle.se_help.specs.declared.topic.Topic.TheVariants.{All, Info, Search, Dom, Flow, Make, Version}
+use Rattle.se_help.specs.declared.topic.Topic.TheVariants.{All, Info, Search, Dom, Flow, Convert, Check, Make, Version}
 
 -- the topic that a word asks for, where that one is how it is used
 abbrev pub asked_by : Topic → Option (List ℕ) → Option Topic
@@ -19,6 +19,8 @@ topic_in (tool ∷ word ∷ []) =
     else (if is_word (codes "sesearch") tool then asked_by Search word
     else (if is_word (codes "sedta") tool then asked_by Dom word
     else (if is_word (codes "seinfoflow") tool then asked_by Flow word
+    else (if is_word (codes "seconvert") tool then asked_by Convert word
+    else (if is_word (codes "sechecker") tool then asked_by Check word
     else (if is_word (codes "make") tool then asked_by Make word
-    else None))))
+    else None))))))
 topic_in (first ∷ second ∷ third ∷ words) = None

@@ -1,6 +1,6 @@
 // The texts of the topics, as they are written.
 ghost use Rattle.std.specs.Prelude.{◌≡◌};
-ghost use Rattle.se_help.specs.Texts.{dom_usage, flow_usage, general_usage, info_usage, make_usage, search_usage, topic_text, versions};
+ghost use Rattle.se_help.specs.Texts.{check_usage, convert_usage, dom_usage, flow_usage, general_usage, info_usage, make_usage, search_usage, topic_text, versions};
 
 use crate::Topic;
 
@@ -14,6 +14,8 @@ pub fn text_of(topic: Topic) -> &'static [u8]
         Topic::Search => search_usage(),
         Topic::Dom => dom_usage(),
         Topic::Flow => flow_usage(),
+        Topic::Convert => convert_usage(),
+        Topic::Check => check_usage(),
         Topic::Make => make_usage(),
         Topic::Version => versions(),
     }
@@ -36,6 +38,8 @@ Tools:
   sesearch       searches the rules of a policy
   sedta          finds domain transitions
   seinfoflow     finds information flows, by a permission map
+  seconvert      writes a policy at another version
+  sechecker      checks a policy by a list of checks
   make           makes a policy of so many types, for tests
 
 Options, each of them alone or behind a tool:
@@ -58,7 +62,8 @@ system is /sys/fs/selinux/policy.
 
 Exit codes:
   0  what was asked was written
-  1  the policy or the map is refused, or a name, number or pattern
+  1  the policy, the map or the checklist is refused, or a name, number or
+     pattern; or a version cannot hold the policy
   2  the words do not fit
   3  reading or writing failed
   5  out of memory
@@ -223,6 +228,9 @@ Search:
   -A N                   all paths of at most N steps, 1 to 99, that have no
                            type twice; needs -t, not with -S
   -r, --reverse          the transitions into the source; not with -t
+      --bool-state LIST  only the rules that count where booleans are so:
+                           NAME=on or NAME=off, parted by commas; others are
+                           as the policy has them. Without it all rules
 
 Output:
   -l, --limit_trans N    at most N transitions or paths
@@ -230,7 +238,8 @@ Output:
 
 Exit codes:
   0  the transitions or paths were written, also where there are none
-  1  the policy is refused, or a type is unknown or an attribute
+  1  the policy is refused, a type is unknown or an attribute, or a boolean is
+     unknown
   2  the words do not fit
   3  the policy could not be read, or the output not written
   5  out of memory
@@ -238,6 +247,7 @@ Exit codes:
 Examples:
   setools sedta -p policy.33 -s sshd_t -r
   setools sedta -p policy.33 -s user_t -t sysadm_t -S
+  setools sedta -p policy.33 -s sshd_t --bool-state ssh_sysadm_login=on
 "
 }
 
@@ -272,6 +282,9 @@ Search:
                            type twice; needs -t, not with -S
   -r, --reverse          the flows into the source; not with -t
   -w, --min_weight W     flows of at least this weight, 1 to 10; without it 3
+      --bool-state LIST  only the rules that count where booleans are so:
+                           NAME=on or NAME=off, parted by commas; others are
+                           as the policy has them. Without it all rules
 
 Output:
   -l, --limit_flows N    at most N flows or paths
@@ -279,7 +292,8 @@ Output:
 
 Exit codes:
   0  the flows or paths were written, also where there are none
-  1  the policy or the map is refused, or a type is unknown or an attribute
+  1  the policy or the map is refused, a type is unknown or an attribute, or a
+     boolean is unknown
   2  the words do not fit
   3  the policy or the map could not be read, or the output not written
   5  out of memory
@@ -288,6 +302,85 @@ Examples:
   setools seinfoflow -p policy.33 -m perm_map -s shadow_t -w 10
   setools seinfoflow -p policy.33 -m perm_map -s httpd_t -t shadow_t -S
   setools seinfoflow -p policy.33 -m perm_map -s httpd_t -t shadow_t -A 3
+"
+}
+
+// How `seconvert` is used.
+#[tactic(auto, unfolding(crate::specs::Texts::convert_usage))]
+fn convert_usage() -> &'static [u8]
+    ensures { result.now ≡ convert_usage }
+{
+    b"\
+Usage: setools seconvert POLICY -c VERSION
+
+Writes a compiled SELinux policy at another version, as bytes, to standard
+output. It has the same rules, contexts and other records; what the version
+cannot hold is refused by name, and nothing is left out.
+
+Conversion:
+  -c VERSION             the version, 28 to 34; it has to be given
+
+What a version cannot hold:
+  Extended               below 30: rules on ioctl numbers
+  ConditionalExtended    below 34: such rules that depend on booleans
+  Infiniband             below 31: contexts of InfiniBand
+  TooLong                a policy that would have more than 64 MiB
+
+Exit codes:
+  0  the policy was written
+  1  the policy is refused, or the version cannot hold it
+  2  the words do not fit
+  3  the policy could not be read, or the output not written
+  5  out of memory
+
+Examples:
+  setools seconvert policy.33 -c 31 >policy.31
+
+The manual page seconvert(1) says what to do where a version cannot hold a
+policy.
+"
+}
+
+// How `sechecker` is used.
+#[tactic(auto, unfolding(crate::specs::Texts::check_usage))]
+fn check_usage() -> &'static [u8]
+    ensures { result.now ≡ check_usage }
+{
+    b"\
+Usage: setools sechecker POLICY LIST
+
+Checks a compiled SELinux policy by a list of checks, and writes for each one
+whether it passes, or what it found.
+
+Files:
+  POLICY                 the policy
+  LIST                   the checklist
+
+A check is a heading and its options, one a line, with spaces around =:
+  [NAME]                           begins a check
+  check_type = assert_te           finds the allow rules of source, target,
+                                     class and perms, but for exempt_source and
+                                     exempt_target
+  check_type = empty_typeattr      finds the types of attr, an attribute, which
+                                     with missing_ok = true need not be there
+  check_type = ro_execs            finds the types of files that are executed
+                                     and written, but for exempt_file,
+                                     exempt_exec_domain, exempt_write_domain
+An option may have several values, parted by spaces. # begins a comment. A
+check passes that finds nothing.
+
+Exit codes:
+  0  the checks were made, whether they passed or failed
+  1  the policy or the checklist is refused
+  2  the words do not fit
+  3  a file could not be read, or the output not written
+  5  out of memory
+
+Examples:
+  setools sechecker policy.33 checks
+  setools sechecker policy.33 checks | grep -qx 'Failed checks: 0'
+
+The manual page sechecker(1) says what each check finds.
 "
 }
 

@@ -13,6 +13,10 @@ pub enum Topic {
     Dom,
     /// How `seinfoflow` is used.
     Flow,
+    /// How `seconvert` is used.
+    Convert,
+    /// How `sechecker` is used.
+    Check,
     /// How `make` is used.
     Make,
     /// The version of the program, and those of the policies that it reads.

@@ -16,6 +16,8 @@ pub fn topic_of(words: &Words) -> Option<Topic>
         [tool, word] if tool.is("sesearch") => asked_by(word, Topic::Search),
         [tool, word] if tool.is("sedta") => asked_by(word, Topic::Dom),
         [tool, word] if tool.is("seinfoflow") => asked_by(word, Topic::Flow),
+        [tool, word] if tool.is("seconvert") => asked_by(word, Topic::Convert),
+        [tool, word] if tool.is("sechecker") => asked_by(word, Topic::Check),
         [tool, word] if tool.is("make") => asked_by(word, Topic::Make),
         _ => None,
     }

@@ -1,8 +1,8 @@
 -- Which word does not fit. A value has to be what its option asks for, also one that a later value replaces.
 use Rattle.std.specs.Prelude.{ℕ, List, [], ◌∷◌, is_some, Bool, true, ◌||◌, Option, Some, None, if◌then◌else◌}
 use Rattle.std.specs.Option.{option_or}
-use Rattle.se_options.specs.Options.{ValueKind, Text, Number, CommaList, CommaListUnless, Takes, Value, Named, Group, Positional, Given, Misfit}
-use Rattle.se_options.specs.Values.{number_within, is_comma_list}
+use Rattle.se_options.specs.Options.{ValueKind, Text, Number, CommaList, CommaListUnless, States, Takes, Value, Named, Group, Positional, Given, Misfit}
+use Rattle.se_options.specs.Values.{number_within, is_comma_list, is_state_list}
 use Rattle.se_options.specs.Given.{is_given}
 
 -- a text is what the value of an option has to be, among the groups of all words
@@ -11,6 +11,7 @@ fits groups Text text = true
 fits groups (Number least most) text = is_some (number_within least most text)
 fits groups CommaList text = is_comma_list text
 fits groups (CommaListUnless option) text = is_comma_list text || is_given option groups
+fits groups States text = is_state_list text
 
 -- the word of the value of an option that takes this, if it does not fit
 abbrev pub value_misfit : List Group → Takes → Named → Option ℕ

@@ -7,7 +7,7 @@ use Rattle.std.specs.List.{position_or_len, before_first, after_first, starts_wi
 use Rattle.std.specs.Prelude.{nat_eq}
 use Rattle.se_options.specs.Word.{begins_with_dash}
 use Rattle.se_options.specs.declared.rows.ValueKind.{ValueKind as ValueKindCode}
-use Rattle.se_options.specs.declared.rows.ValueKind.TheVariants.{Text as TextCode, Number as NumberCode, CommaList as CommaListCode, CommaListUnless as CommaListUnlessCode}
+use Rattle.se_options.specs.declared.rows.ValueKind.TheVariants.{Text as TextCode, Number as NumberCode, CommaList as CommaListCode, CommaListUnless as CommaListUnlessCode, States as StatesCode}
 use Rattle.se_options.specs.declared.rows.Takes.{Takes as TakesCode}
 use Rattle.se_options.specs.declared.rows.Takes.TheVariants.{Nothing as NothingCode, OptionalName as OptionalNameCode, Value as ValueCode}
 use Rattle.se_options.specs.declared.rows.OptionRow.{OptionRow}
@@ -19,13 +19,14 @@ use Rattle.se_options.specs.declared.groups.Group.{Group as GroupCode}
 use Rattle.se_options.specs.declared.groups.Group.TheVariants.{Positional as PositionalCode, Given as GivenCode, Misfit as MisfitCode}
 use Rattle.se_options.specs.declared.cut.Head.{Head as HeadCode}
 
--- What the value of an option has to be: any text; a number from a least to a most; a list that is parted by commas; or such a
--- list, but any text where the option of that name is given.
+-- What the value of an option has to be: any text; a number from a least to a most; a list that is parted by commas; such a list,
+-- but any text where the option of that name is given; or such a list of states of booleans.
 pub data ValueKind : Type 0 where
   Text : ValueKind
   Number : ℕ → ℕ → ValueKind
   CommaList : ValueKind
   CommaListUnless : List ℕ → ValueKind
+  States : ValueKind
 
 -- what an option takes: nothing, a name that may be left out, or a value
 pub data Takes : Type 0 where
@@ -173,6 +174,7 @@ kind_view TextCode = Text
 kind_view (NumberCode least most) = Number least most
 kind_view CommaListCode = CommaList
 kind_view (CommaListUnlessCode option) = CommaListUnless option.now
+kind_view StatesCode = States
 
 abbrev pub takes_view : TakesCode → Takes
 takes_view NothingCode = Nothing

@@ -1,6 +1,6 @@
--- What the text of a value is: a number within a range, or a list.
-use Rattle.std.specs.Prelude.{ℕ, ◌==◌, List, length, Bool, nat_lt, nat_le, ◌&&◌, Option, Some, None, if◌then◌else◌}
-use Rattle.std.specs.List.{list_all, slice_split}
+-- What the text of a value is: a number within a range, a list, or a list of states.
+use Rattle.std.specs.Prelude.{ℕ, ◌==◌, ◌-◌, List, length, take, codes, Bool, is_some, nat_eq, nat_lt, nat_le, ◌&&◌, ◌||◌, Option, Some, None, if◌then◌else◌}
+use Rattle.std.specs.List.{ends_with, list_all, slice_split}
 use Rattle.std.specs.Char.{is_ascii_digit}
 use Rattle.std.specs.Str.Parse.{digits_value}
 
@@ -21,3 +21,16 @@ is_comma byte = byte == 44
 -- a list that is parted by commas has no empty element
 unfoldable pub is_comma_list : List ℕ → Bool
 is_comma_list text = list_all (λ element. nat_lt 0 (length element)) (slice_split is_comma text)
+
+-- what stands before the ending of a text, if it has that and something before it
+unfoldable pub name_before : List ℕ → List ℕ → Option (List ℕ)
+name_before ending text =
+    if ends_with nat_eq text ending && nat_lt (length ending) (length text) then Some (take (length text - length ending) text) else None
+
+-- a state is the name of a boolean, which is not empty, and `=on` or `=off` behind it
+abbrev pub is_state : List ℕ → Bool
+is_state text = is_some (name_before (codes "=on") text) || is_some (name_before (codes "=off") text)
+
+-- each element of the list that is parted by commas is a state
+unfoldable pub is_state_list : List ℕ → Bool
+is_state_list text = list_all is_state (slice_split is_comma text)

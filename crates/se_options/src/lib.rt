@@ -8,6 +8,7 @@ mod given;
 mod groups;
 mod misfits;
 mod rows;
+mod states;
 mod values;
 mod words;
 
@@ -16,5 +17,6 @@ pub use given::{first_positional, given_number, given_value, is_given, last_valu
 pub use groups::{Group, Named};
 pub use misfits::first_misfit;
 pub use rows::{OptionRow, Takes, ValueKind, naming, switch, valued};
+pub use states::{State, given_states};
 pub use values::number_within;
 pub use words::{Word, Words};

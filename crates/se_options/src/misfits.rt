@@ -4,7 +4,7 @@ ghost use Rattle.se_options.specs.Misfits.{first_misfit, fits, misfit_among, mis
 ghost use Rattle.se_options.specs.Options.{group_view, kind_view, named_view, takes_view};
 
 use crate::given::is_given;
-use crate::values::{is_comma_list, number_within};
+use crate::values::{is_comma_list, is_state_list, number_within};
 use crate::{Group, Named, Takes, ValueKind};
 
 /// The number of the first word that does not fit: a group tells so, or the value of its option is not what that has to be.
@@ -60,5 +60,6 @@ fn fits(groups: &[Group<'_>], kind: ValueKind, text: &str) -> bool
         ValueKind::Number { least, most } => number_within(least, most, text).is_some(),
         ValueKind::CommaList => is_comma_list(text),
         ValueKind::CommaListUnless(option) => is_comma_list(text) || is_given(groups, option),
+        ValueKind::States => is_state_list(text),
     }
 }

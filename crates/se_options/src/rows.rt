@@ -14,6 +14,8 @@ pub enum ValueKind {
     CommaList,
     /// Such a list, but any text where the option of that name is given.
     CommaListUnless(&'static str),
+    /// A list of states of booleans, `NAME=on` or `NAME=off`, that is parted by commas.
+    States,
 }
 
 /// What an option takes.

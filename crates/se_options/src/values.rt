@@ -1,9 +1,9 @@
-// What the text of a value is: a number within a range, or a list.
-ghost use Rattle.std.specs.Prelude.{◌≡◌, ◌≤◌, IfSome, true};
+// What the text of a value is: a number within a range, a list, or a list of states.
+ghost use Rattle.std.specs.Prelude.{◌≡◌, ◌≤◌, IfSome, option_map, true};
 ghost use Rattle.std.specs.Char.{is_ascii_digit};
 ghost use Rattle.std.specs.List.{list_all};
 ghost use Rattle.std.specs.Str.Parse.{digits_value};
-ghost use Rattle.se_options.specs.Values.{is_comma_list, is_number, number_within};
+ghost use Rattle.se_options.specs.Values.{is_comma_list, is_number, is_state, is_state_list, name_before, number_within};
 
 /// The number that the text is, if it has 1 to 18 decimal digits and is one from the least to the most.
 #[tactic(auto, unfolding(crate::specs::Values::number_within))]
@@ -56,4 +56,28 @@ pub fn is_comma_list(text: &str) -> bool
     text.as_bytes()
         .split(|byte| *byte == b',')
         .all(|element| !element.is_empty())
+}
+
+// Whether each element of the list that is parted by commas is a state.
+#[tactic(auto, unfolding(crate::specs::Values::is_state_list))]
+pub fn is_state_list(text: &str) -> bool
+    ensures { result ≡ is_state_list text.now }
+{
+    text.split(',').all(is_state)
+}
+
+// Whether the text is a boolean's name with `=on` or `=off` behind it.
+fn is_state(text: &str) -> bool
+    ensures { result ≡ is_state text.now }
+{
+    name_before(text, "=on").is_some() || name_before(text, "=off").is_some()
+}
+
+// What stands before the ending, if that is there, and something before it.
+#[tactic(auto, unfolding(crate::specs::Values::name_before))]
+pub fn name_before<'w>(text: &'w str, ending: &str) -> Option<&'w str>
+    ensures { option_map (λ name. name.now) result ≡ name_before ending.now text.now }
+{
+    let name = text.strip_suffix(ending)?;
+    if name.is_empty() { None } else { Some(name) }
 }

@@ -1,13 +1,11 @@
 -- Groups behind others: which options are given, which words are positional, and that each word fits which did so.
-use Rattle.std.proofs.Common.{◌≡◌, ◌++◌, ◌∷◌, [], ℕ, suc, List, length, Bool, true, false, true≢false, Option, Some, None, inl, inr, sym, ◌∙◌, ap, subst, refl}
-use Rattle.std.specs.Prelude.{bytes_eq, cond, is_some, nat_le, nat_lt, ◌&&◌, ◌||◌, ◌==◌}
-use Rattle.std.specs.Char.{is_ascii_digit}
-use Rattle.std.specs.List.{list_all}
+use Rattle.std.proofs.Common.{◌≡◌, ◌++◌, ◌∷◌, [], ℕ, List, length, Bool, true, false, true≢false, Option, Some, None, inl, inr, sym, ◌∙◌, ap, subst, refl}
+use Rattle.std.specs.Prelude.{cond, is_some, nat_le, nat_lt, ◌&&◌, ◌||◌}
 use Rattle.std.specs.Option.{option_or}
 use Rattle.std.specs.Str.Parse.{digits_value}
 use Rattle.std.proofs.lemmas.Bool.Decides.{eqb_tells}
 use Rattle.se_options.specs.Word.{begins_with_dash}
-use Rattle.se_options.specs.Options.{Group, Given, Misfit, Positional, Named, Takes, Nothing, OptionalName, Value, ValueKind, Text, Number, CommaList, CommaListUnless}
+use Rattle.se_options.specs.Options.{Group, Given, Misfit, Positional, Named, Takes, Nothing, OptionalName, Value, ValueKind, Text, Number, CommaList, CommaListUnless, States}
 use Rattle.se_options.specs.Given.{first_positional, is_given, last_value, positional_in, value_in}
 use Rattle.se_options.specs.Misfits.{fits, misfit_among, misfit_in, value_misfit}
 use Rattle.se_options.specs.Values.{is_comma_list, is_within, number_within}
@@ -45,6 +43,7 @@ fits_more : (first others : List Group) (kind : ValueKind) (text : List ℕ) →
 fits_more first others Text text fit = fit
 fits_more first others (Number least most) text fit = fit
 fits_more first others CommaList text fit = fit
+fits_more first others States text fit = fit
 fits_more first others (CommaListUnless option) text fit = by (is_comma_list text) (is_given option first) (is_given option (first ++ others)) (given_more option first others) fit
   where
     by : (a b c : Bool) → (b ≡ true → c ≡ true) → (a || b) ≡ true → (a || c) ≡ true

@@ -1,27 +1,29 @@
 -- `--from` and `-l` behind the other words ask for just these items.
-use Rattle.std.proofs.Common.{◌≡◌, ◌+◌, ◌++◌, ◌∷◌, [], ℕ, zero, List, length, Bool, true, false, true≢false, Option, Some, None, Result, Ok, Err, option_map, sym, ◌∙◌, ap, subst, refl, arith}
-use Rattle.std.specs.Prelude.{bytes_eq, codes, cond, is_some, unwrap_or, ◌&&◌, ◌||◌}
+use Rattle.std.proofs.Common.{◌≡◌, ◌+◌, ◌++◌, ◌∷◌, [], ℕ, List, length, Bool, true, false, true≢false, Option, Some, None, Result, Ok, Err, option_map, sym, ◌∙◌, ap, subst, refl, arith}
+use Rattle.std.specs.Prelude.{bytes_eq, codes, cond, is_some, ◌&&◌, ◌||◌}
 use Rattle.std.specs.List.{All}
 use Rattle.std.specs.Option.{ok_or, option_flatten, option_or, option_to_list}
 use Rattle.std.proofs.lemmas.List.{append-nil, length-append}
-use Rattle.std.proofs.lemmas.List.Elements.{All-head, All-tail, filter_map-append}
+use Rattle.std.proofs.lemmas.List.Elements.{All-tail, filter_map-append}
 use Rattle.se_items.specs.Paging.{most_items}
 use Rattle.se_options.specs.Word.{begins_with_dash, is_word}
 use Rattle.se_options.specs.Options.{Row, Named, Group, Given, Head, ValueKind, Number, Value, alone_head, cut, groups_of, head, head_of, named, option_head, spelling_of, valued_head, value_of_word}
-use Rattle.se_options.specs.Given.{first_positional, given_value, is_given, last_value, positional_in, positionals}
+use Rattle.se_options.specs.Given.{first_positional, given_value, last_value, positional_in, positionals}
 use Rattle.se_options.specs.Misfits.{first_misfit, misfit_among, misfit_in}
 use Rattle.se_options.specs.Values.{number_within}
 use Rattle.se_options.specs.declared.cut.WordMode.{WordMode}
 use Rattle.se_words.specs.Asked.{asked_by, asked_of}
 use Rattle.se_words.specs.Window.{from_in, from_option, from_words, limit_in, limit_kind, page_words}
-use Rattle.se_words.specs.InfoRequest.{InfoAsks, info_in, info_options}
-use Rattle.se_words.specs.SearchRequest.{SearchAsks, asks_for_rules, criteria_in, limit_option, modes_agree, search_asks, search_by, search_in, search_options}
+use Rattle.se_words.specs.InfoRequest.{info_in, info_options}
+use Rattle.se_words.specs.SearchRequest.{SearchAsks, asks_for_rules, limit_option, modes_agree, search_asks, search_by, search_in, search_options}
 use Rattle.se_words.specs.DomRequest.{DomAsks, dom_asks, dom_by, dom_in, dom_options, limit_trans_option}
 use Rattle.se_words.specs.FlowRequest.{FlowAsks, flow_asks, flow_by, flow_in, flow_options, limit_flows_option, map_option}
+use Rattle.se_words.specs.ConvertRequest.{convert_in, convert_options}
+use Rattle.se_words.specs.CheckRequest.{check_in}
 use Rattle.se_words.specs.MakeRequest.{MakeAsks, make_asked}
 use Rattle.se_words.specs.WalkWords.{options_agree, policy_option, source_option}
-use Rattle.se_words.specs.Request.{Asks, About, Make, Question, Info, Search, Dom, Flow, comes_by_pages, limit_of, of_tool, paged, request_of}
-use Rattle.se_words.proofs.LaterWords.{AreApart, among_append, apart, freer, mode_behind}
+use Rattle.se_words.specs.Request.{Asks, About, Make, Question, Info, Search, Dom, Flow, Convert, Check, comes_by_pages, limit_of, of_tool, paged, request_of}
+use Rattle.se_words.proofs.LaterWords.{among_append, apart, freer, mode_behind}
 use Rattle.se_words.proofs.LaterGroups.{among_more, last_append, number_plain, positional_kept}
 
 -- ---- the groups of a page
@@ -184,7 +186,7 @@ module _ (groups page : List Group) (adds : AddPage page) (from : ℕ) (limit : 
 
   module _ (limit_is : limit_in limit_trans_option.name (groups ++ page) ≡ limit) where
     dom_asks_more : (policy source : Named) → dom_asks policy source (groups ++ page) ≡ record (dom_asks policy source groups) { from = from; limit = limit }
-    dom_asks_more policy source = rw (same (codes "--target") refl, same (codes "--shortest_path") refl, same (codes "-A") refl, same (codes "--reverse") refl, excluded, from_is, limit_is) refl
+    dom_asks_more policy source = rw (same (codes "--target") refl, same (codes "--shortest_path") refl, same (codes "-A") refl, same (codes "--reverse") refl, same (codes "--bool-state") refl, excluded, from_is, limit_is) refl
 
     dom_more : dom_in (groups ++ page) ≡ option_map (dom_page from limit) (dom_in groups)
     dom_more =
@@ -199,7 +201,7 @@ module _ (groups page : List Group) (adds : AddPage page) (from : ℕ) (limit : 
 
   module _ (limit_is : limit_in limit_flows_option.name (groups ++ page) ≡ limit) where
     flow_asks_more : (policy map_file source : Named) → flow_asks policy map_file source (groups ++ page) ≡ record (flow_asks policy map_file source groups) { from = from; limit = limit }
-    flow_asks_more policy map_file source = rw (same (codes "--target") refl, same (codes "--shortest_path") refl, same (codes "-A") refl, same (codes "--min_weight") refl, same (codes "--reverse") refl, excluded, from_is, limit_is) refl
+    flow_asks_more policy map_file source = rw (same (codes "--target") refl, same (codes "--shortest_path") refl, same (codes "-A") refl, same (codes "--min_weight") refl, same (codes "--reverse") refl, same (codes "--bool-state") refl, excluded, from_is, limit_is) refl
 
     flow_more : flow_in (groups ++ page) ≡ option_map (flow_page from limit) (flow_in groups)
     flow_more =
@@ -366,8 +368,12 @@ set_to limit before = Some limit
 -- ---- the words of all tools
 
 -- which tool is asked, and what
-abbrev by_name : Bool → Bool → Bool → Bool → Bool → Result Asks ℕ → Result Asks ℕ → Result Asks ℕ → Result Asks ℕ → Result Asks ℕ → Result Asks ℕ
-by_name a b c d e info search dom flow make = cond a info (cond b search (cond c dom (cond d flow (cond e make (Err 1)))))
+abbrev by_name : Bool → Bool → Bool → Bool → Result Asks ℕ → Result Asks ℕ → Result Asks ℕ → Result Asks ℕ → Result Asks ℕ → Result Asks ℕ
+by_name a b c d info search dom flow whole = cond a info (cond b search (cond c dom (cond d flow whole)))
+
+-- what the other tools are asked
+abbrev by_other : Bool → Bool → Bool → Result Asks ℕ → Result Asks ℕ → Result Asks ℕ → Result Asks ℕ
+by_other e f g convert check make = cond e convert (cond f check (cond g make (Err 1)))
 
 abbrev question_of : Question → Result Asks ℕ → Question
 question_of other (Ok (About question)) = question
@@ -395,7 +401,7 @@ module _ (dash : List ℕ) (others : List (Option (List ℕ))) (from : ℕ) (lim
       → request_of (words ++ Some dash ∷ others) ≡ Ok (About (paged from (limits (limit_of question)) question))
   request_later [] question ends is pages = absurd (true≢false (sym (ap is_about is)))
   request_later (tool ∷ words) question ends is pages =
-      by (is_word (codes "seinfo") tool) (is_word (codes "sesearch") tool) (is_word (codes "sedta") tool) (is_word (codes "seinfoflow") tool) (is_word (codes "make") tool) is
+      by (is_word (codes "seinfo") tool) (is_word (codes "sesearch") tool) (is_word (codes "sedta") tool) (is_word (codes "seinfoflow") tool) is
     where
       more : List (Option (List ℕ))
       more = words ++ Some dash ∷ others
@@ -406,28 +412,40 @@ module _ (dash : List ℕ) (others : List (Option (List ℕ))) (from : ℕ) (lim
       wider : length more ≡ length words + length (Some dash ∷ others)
       wider = length-append words (Some dash ∷ others)
 
-      all : Bool → Bool → Bool → Bool → Bool → List (Option (List ℕ)) → Result Asks ℕ
-      all a b c d e ws = by_name a b c d e (of_tool (λ asks. About (Info asks)) (asked_by info_options 1 info_in ws)) (of_tool (λ asks. About (Search asks)) (asked_by search_options 1 search_in ws))
-          (of_tool (λ asks. About (Dom asks)) (asked_by dom_options (length ws) dom_in ws)) (of_tool (λ asks. About (Flow asks)) (asked_by flow_options (length ws) flow_in ws)) (of_tool (λ asks. Make asks) (make_asked ws))
+      others_of : Bool → Bool → Bool → List (Option (List ℕ)) → Result Asks ℕ
+      others_of e f g ws = by_other e f g (of_tool (λ asks. About (Convert asks)) (asked_by convert_options 1 convert_in ws)) (of_tool (λ asks. About (Check asks)) (asked_by [] 2 check_in ws)) (of_tool (λ asks. Make asks) (make_asked ws))
 
-      not_info : (before : Result InfoAsks ℕ) → of_tool (λ asks. About (Info asks)) before ≡ Ok (About question) → ⊥
-      not_info (Ok asks) is = true≢false (sym pages ∙ ap comes_by_pages (sym (ap (question_of question) is)))
-      not_info (Err n) is = true≢false (sym (ap is_about is))
+      other : List (Option (List ℕ)) → Result Asks ℕ
+      other ws = others_of (is_word (codes "seconvert") tool) (is_word (codes "sechecker") tool) (is_word (codes "make") tool) ws
+
+      all : Bool → Bool → Bool → Bool → List (Option (List ℕ)) → Result Asks ℕ
+      all a b c d ws = by_name a b c d (of_tool (λ asks. About (Info asks)) (asked_by info_options 1 info_in ws)) (of_tool (λ asks. About (Search asks)) (asked_by search_options 1 search_in ws))
+          (of_tool (λ asks. About (Dom asks)) (asked_by dom_options (length ws) dom_in ws)) (of_tool (λ asks. About (Flow asks)) (asked_by flow_options (length ws) flow_in ws)) (other ws)
+
+      -- a tool that lists nothing by pages is not asked
+      not_whole : {A : Type 0} (tool : A → Question) → ((asks : A) → comes_by_pages (tool asks) ≡ false) → (before : Result A ℕ) → of_tool (λ asks. About (tool asks)) before ≡ Ok (About question) → ⊥
+      not_whole tool whole (Ok asks) is = true≢false (sym pages ∙ ap comes_by_pages (sym (ap (question_of question) is)) ∙ whole asks)
+      not_whole tool whole (Err n) is = true≢false (sym (ap is_about is))
 
       not_make : (before : Result MakeAsks ℕ) → of_tool (λ asks. Make asks) before ≡ Ok (About question) → ⊥
       not_make (Ok asks) is = true≢false (sym (ap is_about is))
       not_make (Err n) is = true≢false (sym (ap is_about is))
 
-      by : (a b c d e : Bool) → all a b c d e words ≡ Ok (About question) → all a b c d e more ≡ Ok (About (paged from (limits (limit_of question)) question))
-      by true b c d e is = absurd (not_info (asked_by info_options 1 info_in words) is)
-      by false true c d e is = by_tool (λ asks. Search asks) (λ asks. search_page from (limits asks.limit) asks) (asked_by search_options 1 search_in words) (asked_by search_options 1 search_in more) question (λ asks. refl)
+      not_other : (e f g : Bool) → others_of e f g words ≡ Ok (About question) → ⊥
+      not_other true f g is = not_whole (λ asks. Convert asks) (λ asks. refl) (asked_by convert_options 1 convert_in words) is
+      not_other false true g is = not_whole (λ asks. Check asks) (λ asks. refl) (asked_by [] 2 check_in words) is
+      not_other false false true is = not_make (make_asked words) is
+      not_other false false false is = true≢false (sym (ap is_about is))
+
+      by : (a b c d : Bool) → all a b c d words ≡ Ok (About question) → all a b c d more ≡ Ok (About (paged from (limits (limit_of question)) question))
+      by true b c d is = absurd (not_whole (λ asks. Info asks) (λ asks. refl) (asked_by info_options 1 info_in words) is)
+      by false true c d is = by_tool (λ asks. Search asks) (λ asks. search_page from (limits asks.limit) asks) (asked_by search_options 1 search_in words) (asked_by search_options 1 search_in more) question (λ asks. refl)
           (λ asks. asked_later search_options SearchAsks search_in dash others (λ asks. search_page from (limits asks.limit) asks) search_later 1 0 words asks rest) is
-      by false false true d e is = by_tool (λ asks. Dom asks) (λ asks. dom_page from (limits asks.limit) asks) (asked_by dom_options (length words) dom_in words) (asked_by dom_options (length more) dom_in more) question (λ asks. refl)
+      by false false true d is = by_tool (λ asks. Dom asks) (λ asks. dom_page from (limits asks.limit) asks) (asked_by dom_options (length words) dom_in words) (asked_by dom_options (length more) dom_in more) question (λ asks. refl)
           (λ asks asked. subst (λ (free : ℕ). asked_by dom_options free dom_in more ≡ Ok (dom_page from (limits asks.limit) asks)) (sym wider) (asked_later dom_options DomAsks dom_in dash others (λ asks. dom_page from (limits asks.limit) asks) dom_later (length words) (length (Some dash ∷ others)) words asks rest asked)) is
-      by false false false true e is = by_tool (λ asks. Flow asks) (λ asks. flow_page from (limits asks.limit) asks) (asked_by flow_options (length words) flow_in words) (asked_by flow_options (length more) flow_in more) question (λ asks. refl)
+      by false false false true is = by_tool (λ asks. Flow asks) (λ asks. flow_page from (limits asks.limit) asks) (asked_by flow_options (length words) flow_in words) (asked_by flow_options (length more) flow_in more) question (λ asks. refl)
           (λ asks asked. subst (λ (free : ℕ). asked_by flow_options free flow_in more ≡ Ok (flow_page from (limits asks.limit) asks)) (sym wider) (asked_later flow_options FlowAsks flow_in dash others (λ asks. flow_page from (limits asks.limit) asks) flow_later (length words) (length (Some dash ∷ others)) words asks rest asked)) is
-      by false false false false true is = absurd (not_make (make_asked words) is)
-      by false false false false false is = absurd (true≢false (sym (ap is_about is)))
+      by false false false false is = absurd (not_other (is_word (codes "seconvert") tool) (is_word (codes "sechecker") tool) (is_word (codes "make") tool) is)
 
 -- ---- `--from`, and `--from` with `-l`
 

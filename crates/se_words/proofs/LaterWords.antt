@@ -1,6 +1,6 @@
 -- Words behind others: they are cut as if they stood alone, where none before them is `--` and each before them fits.
-use Rattle.std.proofs.Common.{◌≡◌, ◌≤◌, ◌<◌, ◌+◌, ◌-◌, ◌++◌, ◌∷◌, [], ℕ, zero, suc, List, length, Bool, true, false, true≢false, Option, Some, None, inl, inr, sym, ◌∙◌, ap, subst, refl, append_assoc, arith}
-use Rattle.std.specs.Prelude.{bytes_eq, codes, cond, is_some, nat_lt, not, ◌&&◌, ◌||◌, ◌==◌}
+use Rattle.std.proofs.Common.{◌≡◌, ◌≤◌, ◌<◌, ◌+◌, ◌-◌, ◌++◌, ◌∷◌, [], ℕ, zero, suc, List, length, Bool, true, false, true≢false, Option, Some, None, sym, ◌∙◌, ap, refl, append_assoc, arith}
+use Rattle.std.specs.Prelude.{bytes_eq, codes, cond, is_some, nat_lt, not, ◌&&◌, ◌||◌}
 use Rattle.std.specs.List.{All}
 use Rattle.std.specs.Option.{option_or, option_to_list}
 use Rattle.std.proofs.lemmas.Bool.{lt-ltb, ltb-true}

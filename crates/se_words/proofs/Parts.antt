@@ -1,6 +1,7 @@
 -- Lists and records that are equal part by part.
 use Rattle.std.proofs.Common.{◌≡◌, ◌∷◌, ℕ, List, Bool, Option, refl}
 use Rattle.se_options.specs.Options.{Named}
+use Rattle.se_options.specs.States.{State}
 use Rattle.se_words.specs.DomRequest.{DomAsks}
 use Rattle.se_words.specs.FlowRequest.{FlowAsks}
 use Rattle.rule_criteria.specs.declared.criteria.Criteria.{Criteria}
@@ -18,17 +19,17 @@ pub same-criteria : {kinds kinds' : List Bool} {source source' target target' cl
     → criteria kinds source target class perms xperms default bools ≡ criteria kinds' source' target' class' perms' xperms' default' bools'
 same-criteria a b c d e f g h = rw (a, b, c, d, e, f, g, h) refl
 
-abbrev pub dom : Named → Named → Option Named → Bool → Option ℕ → Bool → List Named → ℕ → Option ℕ → DomAsks
-dom policy source target shortest all reverse excluded from limit =
-    record { policy = policy; source = source; target = target; shortest = shortest; all = all; reverse = reverse; excluded = excluded; from = from; limit = limit }
+abbrev pub dom : Named → Named → Option Named → Bool → Option ℕ → Bool → List Named → Option (List State) → ℕ → Option ℕ → DomAsks
+dom policy source target shortest all reverse excluded states from limit =
+    record { policy = policy; source = source; target = target; shortest = shortest; all = all; reverse = reverse; excluded = excluded; states = states; from = from; limit = limit }
 
-pub same-dom : (policy source : Named) {target target' : Option Named} {shortest shortest' reverse reverse' : Bool} {excluded excluded' : List Named} {from from' : ℕ} {all all' limit limit' : Option ℕ}
-    → target ≡ target' → shortest ≡ shortest' → all ≡ all' → reverse ≡ reverse' → excluded ≡ excluded' → from ≡ from' → limit ≡ limit'
-    → dom policy source target shortest all reverse excluded from limit ≡ dom policy source target' shortest' all' reverse' excluded' from' limit'
-same-dom policy source a b c d e f g = rw (a, b, c, d, e, f, g) refl
+pub same-dom : (policy source : Named) {target target' : Option Named} {shortest shortest' reverse reverse' : Bool} {excluded excluded' : List Named} {states states' : Option (List State)} {from from' : ℕ} {all all' limit limit' : Option ℕ}
+    → target ≡ target' → shortest ≡ shortest' → all ≡ all' → reverse ≡ reverse' → excluded ≡ excluded' → states ≡ states' → from ≡ from' → limit ≡ limit'
+    → dom policy source target shortest all reverse excluded states from limit ≡ dom policy source target' shortest' all' reverse' excluded' states' from' limit'
+same-dom policy source a b c d e f g h = rw (a, b, c, d, e, f, g, h) refl
 
-abbrev pub flow : Named → Named → Named → Option Named → Bool → Option ℕ → ℕ → Bool → List Named → ℕ → Option ℕ → FlowAsks
-flow policy map_file source target shortest all least reverse excluded from limit = record {
+abbrev pub flow : Named → Named → Named → Option Named → Bool → Option ℕ → ℕ → Bool → List Named → Option (List State) → ℕ → Option ℕ → FlowAsks
+flow policy map_file source target shortest all least reverse excluded states from limit = record {
   policy = policy;
   map_file = map_file;
   source = source;
@@ -38,11 +39,12 @@ flow policy map_file source target shortest all least reverse excluded from limi
   least = least;
   reverse = reverse;
   excluded = excluded;
+  states = states;
   from = from;
   limit = limit;
 }
 
-pub same-flow : (policy map_file source : Named) {target target' : Option Named} {shortest shortest' reverse reverse' : Bool} {least least' : ℕ} {excluded excluded' : List Named} {from from' : ℕ} {all all' limit limit' : Option ℕ}
-    → target ≡ target' → shortest ≡ shortest' → all ≡ all' → least ≡ least' → reverse ≡ reverse' → excluded ≡ excluded' → from ≡ from' → limit ≡ limit'
-    → flow policy map_file source target shortest all least reverse excluded from limit ≡ flow policy map_file source target' shortest' all' least' reverse' excluded' from' limit'
-same-flow policy map_file source a b c d e f g h = rw (a, b, c, d, e, f, g, h) refl
+pub same-flow : (policy map_file source : Named) {target target' : Option Named} {shortest shortest' reverse reverse' : Bool} {least least' : ℕ} {excluded excluded' : List Named} {states states' : Option (List State)} {from from' : ℕ} {all all' limit limit' : Option ℕ}
+    → target ≡ target' → shortest ≡ shortest' → all ≡ all' → least ≡ least' → reverse ≡ reverse' → excluded ≡ excluded' → states ≡ states' → from ≡ from' → limit ≡ limit'
+    → flow policy map_file source target shortest all least reverse excluded states from limit ≡ flow policy map_file source target' shortest' all' least' reverse' excluded' states' from' limit'
+same-flow policy map_file source a b c d e f g h i = rw (a, b, c, d, e, f, g, h, i) refl

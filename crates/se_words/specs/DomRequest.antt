@@ -1,9 +1,10 @@
--- What sedta is asked. Its options are those of the manual page sedta(1) of SETools, with `--from`, which is this project's own.
+-- What sedta is asked. Its options are those of the manual page sedta(1) of SETools, with `--bool-state` and `--from`, which are this project's own.
 use Rattle.std.specs.Prelude.{ℕ, List, [], ◌∷◌, codes, map, option_map, Bool, true, Option, Some, None}
 use Rattle.se_options.specs.Options.{Row, Named, Group, valued, named_view}
 use Rattle.se_options.specs.Given.{given_value, is_given, positionals}
+use Rattle.se_options.specs.States.{State, given_states, state_view}
 use Rattle.se_words.specs.Window.{limit_kind, from_option, limit_in, from_in}
-use Rattle.se_words.specs.WalkWords.{policy_option, source_option, target_option, shortest_option, all_option, reverse_option, all_in, options_agree}
+use Rattle.se_words.specs.WalkWords.{policy_option, source_option, target_option, shortest_option, all_option, reverse_option, states_option, all_in, options_agree}
 use Rattle.se_words.specs.declared.dom_request.DomRequest.{DomRequest}
 
 -- the option that limits how many transitions or walks are listed
@@ -12,10 +13,10 @@ limit_trans_option = valued (Some (codes "-l")) (codes "--limit_trans") limit_ki
 
 -- the options of sedta
 unfoldable pub dom_options : List Row
-dom_options = policy_option ∷ source_option ∷ target_option ∷ shortest_option ∷ all_option ∷ reverse_option ∷ limit_trans_option ∷ from_option ∷ []
+dom_options = policy_option ∷ source_option ∷ target_option ∷ shortest_option ∷ all_option ∷ reverse_option ∷ states_option ∷ limit_trans_option ∷ from_option ∷ []
 
 -- what sedta is asked: of the policy of that name, the transitions of a source, or walks of transitions to a target, all shortest ones or
--- all of at most so many steps that have no type twice, around excluded types
+-- all of at most so many steps that have no type twice, around excluded types; where booleans are stated, by the rules that count then
 pub record DomAsks : Type 0 where
   pub policy : Named
   pub source : Named
@@ -24,6 +25,7 @@ pub record DomAsks : Type 0 where
   pub all : Option ℕ
   pub reverse : Bool
   pub excluded : List Named
+  pub states : Option (List State)
   pub from : ℕ
   pub limit : Option ℕ
 
@@ -37,6 +39,7 @@ dom_asks policy source groups = record {
   all = all_in groups;
   reverse = is_given reverse_option.name groups;
   excluded = positionals groups;
+  states = given_states states_option.name groups;
   from = from_in groups;
   limit = limit_in limit_trans_option.name groups;
 }
@@ -60,6 +63,7 @@ dom_view asks = record {
   all = asks.all;
   reverse = asks.reverse;
   excluded = map named_view asks.excluded.items;
+  states = option_map (λ states. map state_view states.items) asks.states;
   from = asks.from;
   limit = asks.limit;
 }

@@ -1,10 +1,11 @@
--- What seinfoflow is asked. Its options are those of the manual page seinfoflow(1) of SETools, with `--from`, which is this project's
--- own.
+-- What seinfoflow is asked. Its options are those of the manual page seinfoflow(1) of SETools, with `--bool-state` and `--from`, which are
+-- this project's own.
 use Rattle.std.specs.Prelude.{ℕ, List, [], ◌∷◌, codes, map, option_map, unwrap_or, Bool, true, Option, Some, None}
 use Rattle.se_options.specs.Options.{Row, ValueKind, Named, Group, Text, Number, valued, named_view}
 use Rattle.se_options.specs.Given.{given_number, given_value, is_given, positionals}
+use Rattle.se_options.specs.States.{State, given_states, state_view}
 use Rattle.se_words.specs.Window.{limit_kind, from_option, limit_in, from_in}
-use Rattle.se_words.specs.WalkWords.{policy_option, source_option, target_option, shortest_option, all_option, reverse_option, all_in, options_agree}
+use Rattle.se_words.specs.WalkWords.{policy_option, source_option, target_option, shortest_option, all_option, reverse_option, states_option, all_in, options_agree}
 use Rattle.se_words.specs.declared.flow_request.FlowRequest.{FlowRequest}
 
 -- the option that names the permission map
@@ -26,14 +27,15 @@ limit_flows_option = valued (Some (codes "-l")) (codes "--limit_flows") limit_ki
 -- the options of seinfoflow
 unfoldable pub flow_options : List Row
 flow_options =
-    policy_option ∷ map_option ∷ source_option ∷ target_option ∷ shortest_option ∷ all_option ∷ weight_option ∷ reverse_option ∷ limit_flows_option ∷ from_option ∷ []
+    policy_option ∷ map_option ∷ source_option ∷ target_option ∷ shortest_option ∷ all_option ∷ weight_option ∷ reverse_option ∷ states_option ∷ limit_flows_option ∷ from_option ∷ []
 
 -- the least weight of a flow that is listed: 3, unless one is given
 abbrev pub least_in : List Group → ℕ
 least_in groups = unwrap_or (given_number 1 10 weight_option.name groups) 3
 
 -- what seinfoflow is asked: of the policy of that name, under the map of that name, the flows of a source of at least a weight, or walks
--- of such flows to a target, all shortest ones or all of at most so many steps that have no type twice, around excluded types
+-- of such flows to a target, all shortest ones or all of at most so many steps that have no type twice, around excluded types; where
+-- booleans are stated, by the rules that count then
 pub record FlowAsks : Type 0 where
   pub policy : Named
   pub map_file : Named
@@ -44,6 +46,7 @@ pub record FlowAsks : Type 0 where
   pub least : ℕ
   pub reverse : Bool
   pub excluded : List Named
+  pub states : Option (List State)
   pub from : ℕ
   pub limit : Option ℕ
 
@@ -59,6 +62,7 @@ flow_asks policy map_file source groups = record {
   least = least_in groups;
   reverse = is_given reverse_option.name groups;
   excluded = positionals groups;
+  states = given_states states_option.name groups;
   from = from_in groups;
   limit = limit_in limit_flows_option.name groups;
 }
@@ -85,6 +89,7 @@ flow_view asks = record {
   least = asks.least;
   reverse = asks.reverse;
   excluded = map named_view asks.excluded.items;
+  states = option_map (λ states. map state_view states.items) asks.states;
   from = asks.from;
   limit = asks.limit;
 }

@@ -5,6 +5,8 @@ pub mod SearchRequest
 pub mod WalkWords
 pub mod DomRequest
 pub mod FlowRequest
+pub mod ConvertRequest
+pub mod CheckRequest
 pub mod MakeRequest
 pub mod Request
 pub mod ProcessWords

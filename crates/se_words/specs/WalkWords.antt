@@ -1,7 +1,7 @@
 -- What the words of sedta and of seinfoflow share: a listing goes out from a source or, reversed, into it; or it has walks from the
 -- source to a target, all shortest ones or all up to a number of steps.
 use Rattle.std.specs.Prelude.{ℕ, List, codes, Bool, true, false, not, Option, None, Some}
-use Rattle.se_options.specs.Options.{Row, ValueKind, Group, Number, Text, switch, valued}
+use Rattle.se_options.specs.Options.{Row, ValueKind, Group, Number, States, Text, switch, valued}
 use Rattle.se_options.specs.Given.{given_number, is_given}
 
 abbrev pub policy_option : Row
@@ -27,7 +27,11 @@ steps_kind = Number 1 99
 abbrev pub all_option : Row
 all_option = valued None (codes "-A") steps_kind
 
--- the most steps that it gives
+-- the option that states booleans, so that only the rules count that do then
+abbrev pub states_option : Row
+states_option = valued None (codes "--bool-state") States
+
+-- the most steps that `-A` gives
 abbrev pub all_in : List Group → Option ℕ
 all_in groups = given_number 1 99 all_option.name groups
 

@@ -3,7 +3,7 @@ ghost use Rattle.std.specs.Prelude.{◌≤◌};
 ghost use Rattle.std.specs.Option.{ForSome};
 
 use se_items::Window;
-use se_options::Named;
+use se_options::{Named, State};
 
 /// What `sedta` is asked of a policy: the transitions of a source, or walks of transitions from it to a
 /// target.
@@ -22,6 +22,9 @@ pub struct DomRequest<'w> {
     pub reverse: bool,
     /// The types at which no transition begins or ends, in the order of words.
     pub excluded: Vec<Named<'w>>,
+    /// Where booleans are stated, only the rules that count in the policy's states, with these in their place: a later one for
+    /// the same boolean in that of an earlier one.
+    pub states: Option<Vec<State<'w>>>,
     /// So many items are left out first.
     pub from: u64,
     /// At most so many items, 1 or more.

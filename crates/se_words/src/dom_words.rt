@@ -8,11 +8,13 @@ ghost use Rattle.se_words.specs.DomRequest.{dom_asks, dom_in, dom_options, dom_v
 use crate::asked::{fitting_groups, missing};
 use crate::walk_words::{
     all_in, all_option, options_agree, policy_option, reverse_option, shortest_option,
-    source_option, target_option,
+    source_option, states_option, target_option,
 };
 use crate::window::{from_in, from_option, limit_in, limit_kind};
 use crate::{DomRequest, WordsError};
-use se_options::{Group, Named, OptionRow, Word, given_value, is_given, positionals, valued};
+use se_options::{
+    Group, Named, OptionRow, Word, given_states, given_value, is_given, positionals, valued,
+};
 use std::alloc::{AllocError, Global};
 
 // What the words after `sedta` ask for. Any number of them may be positional.
@@ -49,6 +51,7 @@ fn dom_asks<'w>(
         all: all_in(groups),
         reverse: is_given(groups, "--reverse"),
         excluded: positionals(alloc, groups)?,
+        states: given_states(alloc, groups, "--bool-state")?,
         from: from_in(groups),
         limit: limit_in(groups, "--limit_trans"),
     })
@@ -56,7 +59,7 @@ fn dom_asks<'w>(
 
 // The options of sedta.
 #[tactic(auto, unfolding(crate::specs::DomRequest::dom_options))]
-fn dom_options() -> [OptionRow; 8]
+fn dom_options() -> [OptionRow; 9]
     ensures { map row_view result ≡ dom_options }
 {
     [
@@ -66,6 +69,7 @@ fn dom_options() -> [OptionRow; 8]
         shortest_option(),
         all_option(),
         reverse_option(),
+        states_option(),
         valued(Some("-l"), "--limit_trans", limit_kind()),
         from_option(),
     ]

@@ -8,13 +8,13 @@ ghost use Rattle.se_words.specs.FlowRequest.{flow_asks, flow_in, flow_options, f
 use crate::asked::{fitting_groups, missing};
 use crate::walk_words::{
     all_in, all_option, options_agree, policy_option, reverse_option, shortest_option,
-    source_option, target_option,
+    source_option, states_option, target_option,
 };
 use crate::window::{from_in, from_option, limit_in, limit_kind};
 use crate::{FlowRequest, WordsError};
 use se_options::{
-    Group, Named, OptionRow, ValueKind, Word, given_number, given_value, is_given, positionals,
-    valued,
+    Group, Named, OptionRow, ValueKind, Word, given_number, given_states, given_value, is_given,
+    positionals, valued,
 };
 use std::alloc::{AllocError, Global};
 
@@ -59,6 +59,7 @@ fn flow_asks<'w>(
         least: least_in(groups),
         reverse: is_given(groups, "--reverse"),
         excluded: positionals(alloc, groups)?,
+        states: given_states(alloc, groups, "--bool-state")?,
         from: from_in(groups),
         limit: limit_in(groups, "--limit_flows"),
     })
@@ -84,8 +85,7 @@ fn weight_kind() -> ValueKind
 }
 
 // The options of seinfoflow.
-#[tactic(auto, unfolding(crate::specs::FlowRequest::flow_options))]
-fn flow_options() -> [OptionRow; 10]
+fn flow_options() -> [OptionRow; 11]
     ensures { map row_view result ≡ flow_options }
 {
     [
@@ -97,6 +97,7 @@ fn flow_options() -> [OptionRow; 10]
         all_option(),
         valued(Some("-w"), "--min_weight", weight_kind()),
         reverse_option(),
+        states_option(),
         valued(Some("-l"), "--limit_flows", limit_kind()),
         from_option(),
     ]

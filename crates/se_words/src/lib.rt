@@ -10,6 +10,10 @@
 #![tactic(auto)]
 
 mod asked;
+mod check_request;
+mod check_words;
+mod convert_request;
+mod convert_words;
 mod dom_request;
 mod dom_words;
 mod flow_request;
@@ -29,6 +33,8 @@ mod walk_words;
 mod window;
 mod words_error;
 
+pub use check_request::CheckRequest;
+pub use convert_request::ConvertRequest;
 pub use dom_request::DomRequest;
 pub use flow_request::FlowRequest;
 pub use info_request::{InfoRequest, Wanted};
@@ -37,6 +43,6 @@ pub use make_request::MakeRequest;
 pub use process_words::words_of_bytes;
 pub use question::Question;
 pub use request::{Request, request_of};
-pub use se_options::{Named, Word, Words};
+pub use se_options::{Named, State, Word, Words};
 pub use search_request::SearchRequest;
 pub use words_error::WordsError;

@@ -1,5 +1,5 @@
 // What is asked about a policy.
-use crate::{DomRequest, FlowRequest, InfoRequest, SearchRequest};
+use crate::{CheckRequest, ConvertRequest, DomRequest, FlowRequest, InfoRequest, SearchRequest};
 
 /// What is asked about a policy, and of which tool: each request but that of `make`.
 #[derive(Clone, Copy)]
@@ -12,6 +12,10 @@ pub enum Question<'r, 'w> {
     Dom(&'r DomRequest<'w>),
     /// `seinfoflow`
     Flow(&'r FlowRequest<'w>),
+    /// `seconvert`
+    Convert(&'r ConvertRequest<'w>),
+    /// `sechecker`
+    Check(&'r CheckRequest<'w>),
 }
 
 impl<'r, 'w> Question<'r, 'w> {
@@ -27,6 +31,8 @@ impl<'r, 'w> Question<'r, 'w> {
             Question::Search(asks) => asks.policy.text,
             Question::Dom(asks) => asks.policy.text,
             Question::Flow(asks) => asks.policy.text,
+            Question::Convert(asks) => asks.policy.text,
+            Question::Check(asks) => asks.policy.text,
         }
     }
 }

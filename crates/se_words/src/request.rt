@@ -1,12 +1,17 @@
 // What the words of a command line ask for.
 ghost use Rattle.se_words.specs.Request.{Understands, request_of};
 
+use crate::check_words::check_request;
+use crate::convert_words::convert_request;
 use crate::dom_words::dom_request;
 use crate::flow_words::flow_request;
 use crate::info_words::info_request;
 use crate::make_words::make_request;
 use crate::search_words::search_request;
-use crate::{DomRequest, FlowRequest, InfoRequest, MakeRequest, SearchRequest, WordsError};
+use crate::{
+    CheckRequest, ConvertRequest, DomRequest, FlowRequest, InfoRequest, MakeRequest, SearchRequest,
+    WordsError,
+};
 use se_options::Words;
 use std::alloc::Global;
 
@@ -21,6 +26,10 @@ pub enum Request<'w> {
     Dom(DomRequest<'w>),
     /// `seinfoflow`
     Flow(FlowRequest<'w>),
+    /// `seconvert`
+    Convert(ConvertRequest<'w>),
+    /// `sechecker`
+    Check(CheckRequest<'w>),
     /// `make`
     Make(MakeRequest),
 }
@@ -36,6 +45,12 @@ pub fn request_of(alloc: Global, words: &Words) -> Result<Request<'_>, WordsErro
         }
         [tool, rest @ ..] if tool.is("sedta") => Ok(Request::Dom(dom_request(alloc, rest)?)),
         [tool, rest @ ..] if tool.is("seinfoflow") => Ok(Request::Flow(flow_request(alloc, rest)?)),
+        [tool, rest @ ..] if tool.is("seconvert") => {
+            Ok(Request::Convert(convert_request(alloc, rest)?))
+        }
+        [tool, rest @ ..] if tool.is("sechecker") => {
+            Ok(Request::Check(check_request(alloc, rest)?))
+        }
         [tool, rest @ ..] if tool.is("make") => Ok(Request::Make(make_request(alloc, rest)?)),
         _ => Err(WordsError::Usage(1)),
     }

@@ -2,7 +2,7 @@
 ghost use Rattle.std.specs.Prelude.{◌≡◌, ◌≤◌, map};
 ghost use Rattle.std.specs.Option.{ForSome};
 ghost use Rattle.se_options.specs.Options.{group_view, kind_view, row_view};
-ghost use Rattle.se_words.specs.WalkWords.{all_in, all_option, options_agree, policy_option, reverse_option, shortest_option, source_option, steps_kind, target_option};
+ghost use Rattle.se_words.specs.WalkWords.{all_in, all_option, options_agree, policy_option, reverse_option, shortest_option, source_option, states_option, steps_kind, target_option};
 
 use se_options::{Group, OptionRow, ValueKind, given_number, is_given, switch, valued};
 
@@ -47,6 +47,12 @@ pub fn reverse_option() -> OptionRow
     ensures { row_view result ≡ reverse_option }
 {
     switch(Some("-r"), "--reverse")
+}
+
+pub fn states_option() -> OptionRow
+    ensures { row_view result ≡ states_option }
+{
+    valued(None, "--bool-state", ValueKind::States)
 }
 
 // The most steps of a walk, where all walks up to that are asked for.
