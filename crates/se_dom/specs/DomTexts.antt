@@ -5,6 +5,7 @@ use Rattle.pol_fields.specs.declared.TableKind.TheVariants.{Types}
 use Rattle.pol_file.specs.declared.Parts.{Parts}
 use Rattle.pol_cursor.specs.References.{name_of}
 use Rattle.pol_symbols.specs.PolicySymbols.{name_in}
+use Rattle.counted_rules.specs.CountedRules.{Counted}
 use Rattle.dom_trans.specs.declared.EntryReason.{EntryReason}
 use Rattle.dom_trans.specs.declared.Reasons.{Reasons}
 use Rattle.dom_trans.specs.ReasonLists.{reasons_between}
@@ -36,10 +37,10 @@ reasons_text policy indent reasons =
     ++ reason_lines policy indent (codes "dyntransition") reasons.dyntransition
     ++ reason_lines policy indent (codes "setcurrent") reasons.setcurrent
 
--- what stands behind the ends of a transition: all rules of it
-unfoldable pub transition_text : Parts → List ℕ → ℕ → ℕ → List ℕ
-transition_text policy indent from to = codes "\n" ++ reasons_text policy indent (reasons_between policy from to)
+-- what stands behind the ends of a transition: all rules of it that count
+unfoldable pub transition_text : Counted → List ℕ → ℕ → ℕ → List ℕ
+transition_text rules indent from to = codes "\n" ++ reasons_text rules.policy indent (reasons_between rules from to)
 
--- how sedta writes the transitions of a policy
-unfoldable pub dom_words : Parts → EdgeWords
-dom_words policy = record { word = codes "Transition"; symbols = policy.symbols; behind = transition_text policy }
+-- how sedta writes the transitions by the rules of a policy that count
+unfoldable pub dom_words : Counted → EdgeWords
+dom_words rules = record { word = codes "Transition"; symbols = rules.policy.symbols; behind = transition_text rules }

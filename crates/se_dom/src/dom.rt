@@ -6,7 +6,7 @@ ghost use Rattle.se_items.specs.Paging.{page};
 ghost use Rattle.se_items.specs.Writing.{Sends};
 ghost use Rattle.se_status.specs.Conclusion.{Concludes, IsPlain};
 ghost use Rattle.se_words.specs.DomRequest.{dom_view};
-ghost use Rattle.se_dom.specs.DomAnswer.{dom_answer, dom_graph};
+ghost use Rattle.se_dom.specs.DomAnswer.{dom_answer, dom_graph, dom_rules};
 ghost use Rattle.se_dom.specs.DomTexts.{dom_words};
 ghost use Rattle.se_walks.specs.GraphAnswer.{excluded_in, graph_text, is_edge};
 ghost use Rattle.se_walks.specs.GraphItems.{AreWithin, items_between};
@@ -19,7 +19,7 @@ use rule_text::RuleTexts;
 use se_items::WriteEnd;
 use se_outside::Sink;
 use se_status::{Status, status_written};
-use se_walks::{Ends, ends_named, excluded_set, first_unknown, write_items};
+use se_walks::{Ends, ends_named, excluded_set, first_unknown, rules_asked, write_items};
 use se_words::DomRequest;
 use std::alloc::Global;
 
@@ -34,7 +34,13 @@ pub fn answer_dom<S: Sink>(
     ensures answers { Concludes (dom_answer (dom_view asks.now) policy.now) (S.state out.old) (S.state out.new) result }
     ensures plain { IsPlain result }
 {
-    match first_unknown(policy, &asks.source, &asks.target, &asks.excluded) {
+    match first_unknown(
+        policy,
+        &asks.source,
+        &asks.target,
+        &asks.states,
+        &asks.excluded,
+    ) {
         Some(word) => Status::UnknownName(word),
         None => status_written(write_answer(alloc, policy, asks, out)),
     }
@@ -48,7 +54,7 @@ fn write_answer<S: Sink>(
     out: &mut S,
 ) -> Result<(), WriteEnd>
     ensures { Sends (S.state out.old) (S.state out.new)
-        (graph_text (dom_words policy.now) (is_transition policy.now) (dom_graph (dom_view asks.now)) policy.now) result }
+        (graph_text (dom_words (dom_rules (dom_view asks.now) policy.now)) (is_transition (dom_rules (dom_view asks.now) policy.now)) (dom_graph (dom_view asks.now)) policy.now) result }
 {
     match ends_named(policy, &asks.source, &asks.target, asks.all, asks.reverse) {
         Some(ends) => write_between(alloc, policy, asks, ends, out),
@@ -56,7 +62,7 @@ fn write_answer<S: Sink>(
     }
 }
 
-// Writes the transitions of a type, or the walks to another.
+// Writes the transitions of a type by the rules that count, or the walks to another.
 #[tactic(auto, using(se_items::proofs::Wrotes::nothing_sent))]
 fn write_between<S: Sink>(
     alloc: Global,
@@ -67,13 +73,14 @@ fn write_between<S: Sink>(
 ) -> Result<(), WriteEnd>
     requires { AreWithin policy.now.symbols.types.nprim ends }
     ensures { Sends (S.state out.old) (S.state out.new)
-        (concat (page asks.now.from asks.now.limit (items_between (dom_words policy.now)
-        (is_edge (is_transition policy.now) (excluded_in (dom_graph (dom_view asks.now)) policy.now) asks.now.reverse) policy.now
+        (concat (page asks.now.from asks.now.limit (items_between (dom_words (dom_rules (dom_view asks.now) policy.now))
+        (is_edge (is_transition (dom_rules (dom_view asks.now) policy.now)) (excluded_in (dom_graph (dom_view asks.now)) policy.now) asks.now.reverse) policy.now
         (excluded_in (dom_graph (dom_view asks.now)) policy.now) ends))) result }
 {
+    let counted = rules_asked(alloc, policy, &asks.states)?;
     let excluded = excluded_set(alloc, policy.symbols(), &asks.excluded)?;
     let types = type_map(alloc, policy)?;
-    let graph = DomGraph::new(alloc, policy, &types, &excluded, asks.reverse)?;
+    let graph = DomGraph::new_under(alloc, counted, &types, &excluded, asks.reverse)?;
     let rules = RuleTexts::new(alloc, graph.policy())?;
     let texts = DomTexts {
         graph: &graph,

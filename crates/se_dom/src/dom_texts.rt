@@ -15,13 +15,13 @@ pub struct DomTexts<'g, 'p> {
     pub graph: &'g DomGraph<'p>,
     /// The texts of the rules of its policy.
     pub rules: &'g RuleTexts<'p, 'p>,
-    ghost same: { rules.now ≡ graph.now.policy },
+    ghost same: { rules.now ≡ graph.now.rules.policy },
 }
 
 impl EdgeTexts for DomTexts<'_, '_> {
     ghost use Rattle.se_dom.specs.DomTexts.{dom_words};
 
-    ghost words = { λ t. dom_words t.graph.now.policy };
+    ghost words = { λ t. dom_words t.graph.now.rules };
 
     #[tactic(auto, unfolding(crate::specs::DomTexts::dom_words))]
     fn word(&self) -> &'static [u8] {
@@ -55,8 +55,8 @@ fn push_transition(
     to: u32,
     buffer: &mut Vec<u8>,
 ) -> Result<(), AllocError>
-    requires { rules.now ≡ graph.now.policy }
-    ensures { OnOk result (buffer.new.items ≡ buffer.old.items ++ transition_text graph.now.policy indent.now from to) }
+    requires { rules.now ≡ graph.now.rules.policy }
+    ensures { OnOk result (buffer.new.items ≡ buffer.old.items ++ transition_text graph.now.rules indent.now from to) }
 {
     let reasons = graph.reasons(*buffer.allocator(), from, to)?;
     buffer.extend_from_slice(b"\n")?;

@@ -18,13 +18,13 @@ use std::alloc::AllocError;
 pub struct FlowTexts<'g, 'p, 'a> {
     pub graph: &'g FlowGraph<'p>,
     pub rules: &'g RuleTexts<'p, 'a>,
-    ghost of_policy: { rules.now ≡ graph.now.policy },
+    ghost of_policy: { rules.now ≡ graph.now.rules.policy },
 }
 
 impl EdgeTexts for FlowTexts<'_, '_, '_> {
     ghost use Rattle.se_flow.specs.FlowTexts.{flow_words};
 
-    ghost words = { λ t. flow_words (weights_of t.graph.now.entries) t.graph.now.policy t.graph.now.least };
+    ghost words = { λ t. flow_words (weights_of t.graph.now.entries) t.graph.now.rules t.graph.now.least };
 
     #[tactic(auto, unfolding(crate::specs::FlowTexts::flow_words))]
     fn word(&self) -> &'static [u8] {
@@ -58,8 +58,8 @@ fn push_flow(
     to: u32,
     buffer: &mut Vec<u8>,
 ) -> Result<(), AllocError>
-    requires { texts.now ≡ graph.now.policy }
-    ensures { OnOk result (buffer.new.items ≡ buffer.old.items ++ flow_text (weights_of graph.now.entries) graph.now.policy graph.now.least indent.now from to) }
+    requires { texts.now ≡ graph.now.rules.policy }
+    ensures { OnOk result (buffer.new.items ≡ buffer.old.items ++ flow_text (weights_of graph.now.entries) graph.now.rules graph.now.least indent.now from to) }
 {
     let rules = graph.rules(*buffer.allocator(), from, to)?;
     buffer.extend_from_slice(b", weight ")?;

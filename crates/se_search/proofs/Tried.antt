@@ -17,7 +17,7 @@ use Rattle.rule_query.specs.Refusals.{first_refused, is_pattern_word}
 use Rattle.rule_query.specs.Resolving.{AllPass, AsksSome, FailsAs, HasBadPattern, IsRefused}
 use Rattle.se_items.proofs.Gains.{gains-none}
 use Rattle.se_status.specs.declared.Status.{Status}
-use Rattle.se_status.specs.declared.Status.TheVariants.{Done, Usage, ReadFault, TooLarge, BadPolicy, BadMap, UnknownName, BadNumber, BadPattern, WriteFault, Memory}
+use Rattle.se_status.specs.declared.Status.TheVariants.{Done, Usage, ReadFault, TooLarge, BadPolicy, BadMap, BadList, CannotHold, UnknownName, BadNumber, BadPattern, WriteFault, Memory}
 use Rattle.se_status.specs.Conclusion.{Concludes, IsWritten, done, refusal}
 use Rattle.se_words.specs.SearchRequest.{SearchAsks}
 use Rattle.se_search.specs.SearchAnswer.{search_answer, search_text, status_for}
@@ -32,6 +32,8 @@ written-until tried past now (ReadFault slot) h read = absurd h
 written-until tried past now (TooLarge slot) h read = absurd h
 written-until tried past now (BadPolicy fault) h read = absurd h
 written-until tried past now (BadMap fault) h read = absurd h
+written-until tried past now (BadList fault) h read = absurd h
+written-until tried past now (CannotHold version unheld) h read = absurd h
 written-until tried past now (UnknownName word) h read = absurd h
 written-until tried past now (BadNumber word) h read = absurd h
 written-until tried past now (BadPattern word kind) h read = absurd h
@@ -68,6 +70,8 @@ written-of-search (ReadFault slot) h = h
 written-of-search (TooLarge slot) h = h
 written-of-search (BadPolicy fault) h = h
 written-of-search (BadMap fault) h = h
+written-of-search (BadList fault) h = h
+written-of-search (CannotHold version unheld) h = h
 written-of-search (UnknownName word) h = tt
 written-of-search (BadNumber word) h = tt
 written-of-search (BadPattern word kind) h = tt

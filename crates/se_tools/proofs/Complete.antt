@@ -1,5 +1,5 @@
 -- A run that meets an answer which is done, where nothing fails.
-use Rattle.std.proofs.Common.{◌≡◌, ◌∙◌, ◌++◌, ◌∷◌, [], ℕ, List, Result, refl, sym, subst, append_assoc}
+use Rattle.std.proofs.Common.{◌≡◌, ◌∙◌, ◌++◌, ◌∷◌, [], ℕ, List, Result, refl, subst, append_assoc}
 use Rattle.std.specs.Io.KnownBytes.{Appends}
 use Rattle.std.specs.List.{All}
 use Rattle.std.proofs.lemmas.List.Elements.{All-head, All-tail}
@@ -9,9 +9,8 @@ use Rattle.se_outside.specs.declared.PatternKind.{PatternKind}
 use Rattle.se_outside.specs.declared.PatternKind.TheVariants as kinds
 use Rattle.se_outside.specs.declared.Slot.{Slot}
 use Rattle.se_search.specs.SearchPatterns.{IsRead, LastIsFaulty}
-use Rattle.se_status.specs.Conclusion.{Answer}
 use Rattle.se_status.specs.declared.Status.{Status}
-use Rattle.se_status.specs.declared.Status.TheVariants.{Done, Usage, ReadFault, TooLarge, BadPolicy, BadMap, UnknownName, BadNumber, BadPattern, WriteFault, Memory}
+use Rattle.se_status.specs.declared.Status.TheVariants.{Done, Usage, ReadFault, TooLarge, BadPolicy, BadMap, BadList, CannotHold, UnknownName, BadNumber, BadPattern, WriteFault, Memory}
 use Rattle.se_words.specs.Request.{Asks}
 use Rattle.se_tools.specs.Answer.{Contents, answer_of, asked_patterns}
 use Rattle.se_tools.specs.Answers.{Answers, Outside, Tells}
@@ -39,6 +38,8 @@ complete request world contents old new (ReadFault slot) answers tells kept unre
 complete request world contents old new (TooLarge slot) answers tells kept unrefused whole read done other = absurd (let e = (answers.meets contents tells).0 in cc (e, done))
 complete request world contents old new (BadPolicy fault) answers tells kept unrefused whole read done other = absurd (let e = (answers.meets contents tells).0 in cc (e, done))
 complete request world contents old new (BadMap fault) answers tells kept unrefused whole read done other = absurd (let e = (answers.meets contents tells).0 in cc (e, done))
+complete request world contents old new (BadList fault) answers tells kept unrefused whole read done other = absurd (let e = (answers.meets contents tells).0 in cc (e, done))
+complete request world contents old new (CannotHold version unheld) answers tells kept unrefused whole read done other = absurd (let e = (answers.meets contents tells).0 in cc (e, done))
 complete request world contents old new (UnknownName word) answers tells kept unrefused whole read done other = absurd (let e = (answers.meets contents tells).0 in cc (e, done))
 complete request world contents old new (BadNumber word) answers tells kept unrefused whole read done other = absurd (let e = (answers.meets contents tells).0 in cc (e, done))
 complete request world contents old new (BadPattern word kind) answers tells kept unrefused whole read done other =

@@ -1,5 +1,5 @@
 -- Two command lines give together what one gives.
-use Rattle.std.proofs.Common.{◌≡◌, ◌+◌, ◌++◌, [], ℕ, List, Bool, true, false, true≢false, Option, Some, None, Result, Ok, Err, sym, ◌∙◌, ap, refl}
+use Rattle.std.proofs.Common.{◌≡◌, ◌+◌, ◌++◌, ℕ, List, Bool, true, false, true≢false, Option, Some, None, Result, Ok, Err, sym, ◌∙◌, ap, refl}
 use Rattle.std.specs.Prelude.{codes, cond, length, nat_lt}
 use Rattle.std.specs.List.{All}
 use Rattle.pol_fields.specs.declared.Fault.{Fault}
@@ -12,7 +12,7 @@ use Rattle.se_outside.specs.declared.Slot.{Slot}
 use Rattle.se_outside.specs.declared.Slot.TheVariants.{Policy, Map}
 use Rattle.se_status.specs.Conclusion.{Answer, refusal}
 use Rattle.se_status.specs.declared.Status.TheVariants.{TooLarge}
-use Rattle.se_words.specs.Request.{About, Question, Info, Search, Dom, Flow, comes_by_pages, limit_of, paged, request_of}
+use Rattle.se_words.specs.Request.{About, Question, Info, Search, Dom, Flow, Convert, Check, comes_by_pages, limit_of, paged, request_of}
 use Rattle.se_words.specs.Window.{from_words, page_words}
 use Rattle.se_words.proofs.LaterPages.{from_behind, page_behind}
 use Rattle.se_search.proofs.Resumed.{answer_then as search_then}
@@ -41,6 +41,8 @@ about_then : (question : Question) (policy : Parts) (contents : Contents) (from 
 about_then (Info asks) policy contents from limit pages = absurd (true≢false (sym pages))
 about_then (Search asks) policy contents from limit pages = search_then (record asks { from = from }) policy limit
 about_then (Dom asks) policy contents from limit pages = dom_then (record asks { from = from }) policy limit
+about_then (Convert asks) policy contents from limit pages = absurd (true≢false (sym pages))
+about_then (Check asks) policy contents from limit pages = absurd (true≢false (sym pages))
 about_then (Flow asks) policy contents from limit pages = file_then Map (contents Map) _ _ _ (λ bytes. flow_then (record asks { from = from }) policy bytes limit)
 
 policy_then : (question : Question) (accepted : Result Parts Fault) (contents : Contents) (from limit : ℕ) → comes_by_pages question ≡ true

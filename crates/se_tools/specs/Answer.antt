@@ -6,12 +6,14 @@ use Rattle.pol_file.specs.Acceptance.{accept}
 use Rattle.pol_file.specs.declared.Parts.{Parts}
 use Rattle.rule_query.specs.GivenCriteria.{Given}
 use Rattle.se_outside.specs.declared.Slot.{Slot}
-use Rattle.se_outside.specs.declared.Slot.TheVariants.{Policy, Map}
-use Rattle.se_words.specs.Request.{Asks, About, Make, Question, Info, Search, Dom, Flow, policy_of}
+use Rattle.se_outside.specs.declared.Slot.TheVariants.{Policy, Map, List as Checklist}
+use Rattle.se_words.specs.Request.{Asks, About, Make, Question, Info, Search, Dom, Flow, Convert, Check, policy_of}
 use Rattle.se_search.specs.SearchAnswer.{search_answer}
 use Rattle.se_search.specs.SearchPatterns.{pattern_words}
 use Rattle.se_dom.specs.DomAnswer.{dom_answer}
 use Rattle.se_flow.specs.FlowAnswer.{flow_answer}
+use Rattle.se_convert.specs.ConvertAnswer.{convert_answer}
+use Rattle.se_verdicts.specs.CheckAnswer.{check_answer}
 use Rattle.se_make.specs.MakeAnswer.{make_answer}
 use Rattle.se_status.specs.declared.Status.TheVariants.{Usage, ReadFault, TooLarge, BadPolicy}
 use Rattle.se_status.specs.Conclusion.{Answer, refusal}
@@ -21,22 +23,26 @@ use Rattle.se_info.specs.InfoAnswer.{info_answer}
 abbrev pub Contents : Type 0
 Contents = Slot → Option (List ℕ)
 
--- the most bytes of a slot's file: 64 MiB of a policy, 4 MiB of a permission map
+-- the most bytes of a slot's file: 64 MiB of a policy, 4 MiB of a permission map or a checklist
 abbrev pub file_limit : Slot → ℕ
 file_limit Policy = MAX_POLICY_BYTES
 file_limit Map = 4194304
+file_limit Checklist = 4194304
 
 -- an answer by the bytes of a slot's file, if it is there and they are not too many
 unfoldable pub by_file : Slot → Option (List ℕ) → (List ℕ → Answer) → Answer
 by_file slot None answer = refusal (ReadFault slot)
 by_file slot (Some bytes) answer = if nat_lt (file_limit slot) (length bytes) then refusal (TooLarge slot) else answer bytes
 
--- The answer about a policy that was accepted, tool by tool. seinfoflow is asked about a permission map too.
+-- The answer about a policy that was accepted, tool by tool. seinfoflow is asked about a permission map too, and sechecker about a
+-- checklist.
 abbrev pub answer_about : Question → Parts → Contents → Answer
 answer_about (Info asks) policy contents = info_answer asks policy
 answer_about (Search asks) policy contents = search_answer asks policy
 answer_about (Dom asks) policy contents = dom_answer asks policy
 answer_about (Flow asks) policy contents = by_file Map (contents Map) (flow_answer asks policy)
+answer_about (Convert asks) policy contents = convert_answer asks.version policy
+answer_about (Check asks) policy contents = by_file Checklist (contents Checklist) (check_answer policy)
 
 -- the answer about a policy, if it was accepted
 abbrev pub policy_answer : Question → Result Parts Fault → Contents → Answer
@@ -54,15 +60,30 @@ abbrev pub map_in : Question → Option (List ℕ)
 map_in (Flow asks) = Some asks.map_file.text
 map_in question = None
 
--- the name under which it asks for the file of a slot
+-- that under which it asks for a checklist
+abbrev pub list_in : Question → Option (List ℕ)
+list_in (Check asks) = Some asks.list.text
+list_in question = None
+
+-- that under which it asks for the file of a slot
 abbrev pub name_in : Question → Slot → Option (List ℕ)
 name_in question Policy = Some (policy_of question).text
 name_in question Map = map_in question
+name_in question Checklist = list_in question
 
 -- the name under which words ask for it, if they do
 abbrev pub asked_name : Result Asks ℕ → Slot → Option (List ℕ)
 asked_name (Ok (About question)) slot = name_in question slot
 asked_name asks slot = None
+
+-- the version at which a question asks for a policy, if it does
+abbrev pub version_in : Question → Option ℕ
+version_in (Convert asks) = Some asks.version
+version_in question = None
+
+abbrev pub asked_version : Result Asks ℕ → Option ℕ
+asked_version (Ok (About question)) = version_in question
+asked_version asks = None
 
 -- the words of a question that are patterns, in their order
 abbrev pub patterns_in : Question → List Given

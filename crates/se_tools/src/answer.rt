@@ -1,21 +1,24 @@
 // The call that all tools go through.
 ghost use Rattle.std.specs.Prelude.{◌≡◌, ◌≤◌, false, length, Ok};
 ghost use Rattle.se_outside.specs.Outside.{NoneAsked};
-ghost use Rattle.se_outside.specs.declared.Slot.TheVariants.{Policy as policy_slot, Map as map_slot};
+ghost use Rattle.se_outside.specs.declared.Slot.TheVariants.{Policy as policy_slot, Map as map_slot, List as list_slot};
 ghost use Rattle.pol_file.specs.Acceptance.{accept};
+ghost use Rattle.se_flow.specs.FlowAnswer.{flow_answer};
 ghost use Rattle.se_help.specs.Topics.{topic_in};
 ghost use Rattle.se_items.specs.Writing.{Said};
 ghost use Rattle.se_status.specs.Message.{message_of};
+ghost use Rattle.se_verdicts.specs.CheckAnswer.{check_answer};
 ghost use Rattle.se_words.specs.FlowRequest.{flow_view};
 ghost use Rattle.se_words.specs.Request.{About as about, question_view, request_of, request_view};
 ghost use Rattle.se_tools.specs.Answer.{file_limit};
-ghost use Rattle.se_tools.specs.Answers.{Answers, MapSettles, Settles, outside};
+ghost use Rattle.se_tools.specs.Answers.{Answers, FileSettles, NoOtherAsked, Settles, outside, unread_status};
 ghost use Rattle.se_tools.specs.Runs.{Runs};
 
 use crate::reading::{ReadEnd, read_whole};
 use pol_cursor::ReadError;
 use pol_fields::limits::MAX_POLICY_BYTES;
 use pol_read::{Policy, read};
+use se_convert::answer_convert;
 use se_dom::answer_dom;
 use se_flow::answer_flow;
 use se_help::{topic_of, write_topic};
@@ -24,11 +27,12 @@ use se_make::answer_make;
 use se_outside::{Files, Patterns, Sink, Slot};
 use se_search::answer_search;
 use se_status::{Status, report};
-use se_words::{FlowRequest, Question, Request, Words, WordsError, request_of};
+use se_verdicts::answer_check;
+use se_words::{CheckRequest, FlowRequest, Question, Request, Words, WordsError, request_of};
 use std::alloc::Global;
 
-// The most bytes of a permission map: 4 MiB.
-const MAP_LIMIT: usize = 4_194_304;
+// The most bytes of a permission map, and of a checklist: 4 MiB.
+const SMALL_FILE_BYTES: usize = 4_194_304;
 
 /// Answers the words: tells what they ask of the program itself, or else reads the files that they name, builds the patterns that they
 /// are, and writes the answer to `out`. The message of the status is written to `err`.
@@ -93,6 +97,10 @@ fn answer_request<F: Files, P: Patterns, S: Sink>(
         Request::Search(asks) => answer_about(alloc, Question::Search(asks), files, patterns, out),
         Request::Dom(asks) => answer_about(alloc, Question::Dom(asks), files, patterns, out),
         Request::Flow(asks) => answer_about(alloc, Question::Flow(asks), files, patterns, out),
+        Request::Convert(asks) => {
+            answer_about(alloc, Question::Convert(asks), files, patterns, out)
+        }
+        Request::Check(asks) => answer_about(alloc, Question::Check(asks), files, patterns, out),
         Request::Make(asks) => answer_make(alloc, asks, out),
     }
 }
@@ -110,19 +118,11 @@ fn answer_about<F: Files, P: Patterns, S: Sink>(
         (outside (F.state files.old) (P.state patterns.old) (S.state out.old))
         (outside (F.state files.new) (P.state patterns.new) (S.state out.new)) result }
 {
-    let bytes = match read_whole(
-        alloc,
-        files,
-        Slot::Policy,
-        question.policy(),
-        MAX_POLICY_BYTES,
-    ) {
-        Ok(bytes) => bytes,
-        Err(ReadEnd::Fault) => return Status::ReadFault(Slot::Policy),
-        Err(ReadEnd::TooLarge) => return Status::TooLarge(Slot::Policy),
-        Err(ReadEnd::Memory) => return Status::Memory,
-    };
-    conclude(alloc, &bytes, question, files, patterns, out)
+    let name = question.policy();
+    match read_whole(alloc, files, Slot::Policy, name, MAX_POLICY_BYTES) {
+        Ok(bytes) => conclude(alloc, &bytes, question, files, patterns, out),
+        Err(end) => unread_status(Slot::Policy, end),
+    }
 }
 
 // Answers a question about the policy with these bytes.
@@ -135,7 +135,7 @@ fn conclude<F: Files, P: Patterns, S: Sink>(
     out: &mut S,
 ) -> Status
     requires few { length bytes.now ≤ file_limit policy_slot }
-    requires map { (F.state files.old map_slot).asked ≡ false }
+    requires others { NoOtherAsked (F.state files.old) }
     ensures { Settles (question_view question.entry) (accept bytes.now) (F.world files.old)
         (outside (F.state files.old) (P.state patterns.old) (S.state out.old))
         (outside (F.state files.new) (P.state patterns.new) (S.state out.new)) result }
@@ -160,7 +160,7 @@ fn answer_policy<F: Files, P: Patterns, S: Sink>(
     patterns: &mut P,
     out: &mut S,
 ) -> Status
-    requires { (F.state files.old map_slot).asked ≡ false }
+    requires { NoOtherAsked (F.state files.old) }
     ensures { Settles (question_view question.entry) (Ok policy.now) (F.world files.old)
         (outside (F.state files.old) (P.state patterns.old) (S.state out.old))
         (outside (F.state files.new) (P.state patterns.new) (S.state out.new)) result }
@@ -170,6 +170,8 @@ fn answer_policy<F: Files, P: Patterns, S: Sink>(
         Question::Search(asks) => answer_search(alloc, policy, asks, patterns, out),
         Question::Dom(asks) => answer_dom(alloc, policy, asks, out),
         Question::Flow(asks) => answer_mapped(alloc, policy, asks, files, out),
+        Question::Convert(asks) => answer_convert(alloc, policy, asks.version, out),
+        Question::Check(asks) => answer_listed(alloc, policy, asks, files, out),
     }
 }
 
@@ -182,14 +184,40 @@ fn answer_mapped<F: Files, S: Sink>(
     out: &mut S,
 ) -> Status
     requires { (F.state files.old map_slot).asked ≡ false }
-    ensures { MapSettles (flow_view asks.now) policy.now
+    ensures { FileSettles map_slot asks.now.map.text.now (flow_answer (flow_view asks.now) policy.now)
         (F.world files.old) (F.state files.old) (F.state files.new) (S.state out.old) (S.state out.new) result }
 {
-    let bytes = match read_whole(alloc, files, Slot::Map, asks.map.text, MAP_LIMIT) {
-        Ok(bytes) => bytes,
-        Err(ReadEnd::Fault) => return Status::ReadFault(Slot::Map),
-        Err(ReadEnd::TooLarge) => return Status::TooLarge(Slot::Map),
-        Err(ReadEnd::Memory) => return Status::Memory,
-    };
-    answer_flow(alloc, policy, &bytes, asks, out)
+    match read_whole(alloc, files, Slot::Map, asks.map.text, SMALL_FILE_BYTES) {
+        Ok(bytes) => answer_flow(alloc, policy, &bytes, asks, out),
+        Err(end) => unread_status(Slot::Map, end),
+    }
+}
+
+// Reads the checklist of a request about checks, and answers it.
+fn answer_listed<F: Files, S: Sink>(
+    alloc: Global,
+    policy: &Policy<'_>,
+    asks: &CheckRequest<'_>,
+    files: &mut F,
+    out: &mut S,
+) -> Status
+    requires { (F.state files.old list_slot).asked ≡ false }
+    ensures { FileSettles list_slot asks.now.list.text.now (check_answer policy.now)
+        (F.world files.old) (F.state files.old) (F.state files.new) (S.state out.old) (S.state out.new) result }
+{
+    match read_whole(alloc, files, Slot::List, asks.list.text, SMALL_FILE_BYTES) {
+        Ok(bytes) => answer_check(alloc, policy, &bytes, out),
+        Err(end) => unread_status(Slot::List, end),
+    }
+}
+
+// How a run ends that did not read the file of a slot whole.
+fn unread_status(slot: Slot, end: ReadEnd) -> Status
+    ensures { result ≡ unread_status slot end }
+{
+    match end {
+        ReadEnd::Fault => Status::ReadFault(slot),
+        ReadEnd::TooLarge => Status::TooLarge(slot),
+        ReadEnd::Memory => Status::Memory,
+    }
 }

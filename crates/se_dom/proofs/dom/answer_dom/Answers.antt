@@ -3,7 +3,7 @@ use Rattle.dom_trans.specs.Transitions.{is_transition}
 use Rattle.se_words.specs.DomRequest.{dom_view}
 use Rattle.se_walks.proofs.AskedTypes.{none-unknown}
 use Rattle.se_walks.proofs.GraphAnswered.{graph_written}
-use Rattle.se_dom.specs.DomAnswer.{dom_answer, dom_graph}
+use Rattle.se_dom.specs.DomAnswer.{dom_answer, dom_graph, dom_rules}
 use Rattle.se_dom.specs.DomTexts.{dom_words}
 use Rattle.se_dom.proofs.dom.answer_dom.Goals as goal
 
@@ -12,6 +12,7 @@ unfolding dom_answer
 returns-in-None-clause-answers g c =
     let asks = dom_view c.args.asks.now in
     let policy = c.args.policy.now in
-    graph_written (dom_words policy) (is_transition policy) (dom_graph asks) policy _ _ _
-    (none-unknown policy asks.source asks.target c.args.asks.now.excluded.items c.deref.result.now c.deref.ensures.value (sym c.first_unknown.ensures ∙ c.in-None.is))
+    let rules = dom_rules asks policy in
+    graph_written (dom_words rules) (is_transition rules) (dom_graph asks) policy _ _ _
+    (none-unknown policy asks.source asks.target asks.states c.args.asks.now.excluded.items c.deref.result.now c.deref.ensures.value (sym c.first_unknown.ensures ∙ c.in-None.is))
     (c.status_written.ensures.concludes _ _ _ c.write_answer.ensures)

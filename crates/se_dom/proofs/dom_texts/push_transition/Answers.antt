@@ -7,6 +7,6 @@ use Rattle.se_dom.proofs.dom_texts.push_transition.Goals as goal
 
 pub push_reasons-requires-clause-rules : goal.push_reasons-requires-clause-rules
 push_reasons-requires-clause-rules c =
-    let policy = c.args.graph.now.policy in
+    let rules = c.args.graph.now.rules in
     subst (λ (p : Parts). AreReasonRules p c.in_ok-reasons.reasons) (sym c.requires)
-    (subst (λ (reasons : Reasons). AreReasonRules policy reasons) (sym c.in_ok-reasons.ensures) (reason-rules policy c.args.from c.args.to))
+    (subst (λ (reasons : Reasons). AreReasonRules rules.policy reasons) (sym c.in_ok-reasons.ensures) (reason-rules rules c.args.from c.args.to))

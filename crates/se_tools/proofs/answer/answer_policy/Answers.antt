@@ -1,8 +1,10 @@
+use Rattle.se_words.specs.CheckRequest.{check_view}
+use Rattle.se_words.specs.ConvertRequest.{convert_view}
 use Rattle.se_words.specs.DomRequest.{dom_view}
 use Rattle.se_words.specs.FlowRequest.{flow_view}
 use Rattle.se_words.specs.InfoRequest.{info_view}
 use Rattle.se_words.specs.SearchRequest.{search_view}
-use Rattle.se_tools.proofs.Settled.{dom-settles, flow-settles, info-settles, search-settles}
+use Rattle.se_tools.proofs.Settled.{check-settles, convert-settles, dom-settles, flow-settles, info-settles, search-settles}
 use Rattle.se_tools.proofs.answer.answer_policy.Goals as goal
 
 pub returns-in-Info : goal.returns-in-Info
@@ -17,3 +19,10 @@ returns-in-Dom g c = rw c.in-Dom.is (dom-settles (dom_view c.in-Dom.asks.now) c.
 
 pub returns-in-Flow : goal.returns-in-Flow
 returns-in-Flow g c = rw c.in-Flow.is (flow-settles (flow_view c.in-Flow.asks.now) c.args.policy.now _ _ _ _ _ _ _ c.answer_mapped.ensures)
+
+pub returns-in-Convert : goal.returns-in-Convert
+returns-in-Convert g c =
+    rw c.in-Convert.is (convert-settles (convert_view c.in-Convert.asks.now) c.args.policy.now _ _ _ _ _ _ c.answer_convert.ensures.answers c.answer_convert.ensures.conversion)
+
+pub returns-in-Check : goal.returns-in-Check
+returns-in-Check g c = rw c.in-Check.is (check-settles (check_view c.in-Check.asks.now) c.args.policy.now _ _ _ _ _ _ _ c.answer_listed.ensures)

@@ -6,4 +6,4 @@ use Rattle.se_tools.proofs.answer.conclude.Goals as goal
 
 pub returns-in-Err-Memory : goal.returns-in-Err-Memory
 returns-in-Err-Memory g c =
-    memory-settles (question_view c.args.question) (accept c.args.bytes.now) _ (outside (g.F.Files.state c.args.files.now) (g.P.Patterns.state c.args.patterns.now) (g.S.Sink.state c.args.out.now)) c.requires.map
+    memory-settles (question_view c.args.question) (accept c.args.bytes.now) _ (outside (g.F.Files.state c.args.files.now) (g.P.Patterns.state c.args.patterns.now) (g.S.Sink.state c.args.out.now)) c.requires.others
