@@ -48,10 +48,14 @@ pub struct Case {
     pub policy: Option<Source>,
     /// The permission map, where the files have one. Its name is `map`.
     pub map: Option<Source>,
+    /// The checklist, where the files have one. Its name is `list`.
+    pub list: Option<Source>,
     pub outside: Outside,
     /// What goes wrong in turn, where the case is run many times. The answer is then that of its last run.
     pub sweep: Option<Sweep>,
     pub wanted: Answer,
+    /// The file that standard output has to be, where the table does not write it.
+    pub wanted_file: Option<Source>,
 }
 
 impl Orders {
@@ -127,9 +131,11 @@ impl Case {
             name: String::from_str(alloc, "pol")?,
             policy: None,
             map: None,
+            list: None,
             outside: Outside::new(),
             sweep: None,
             wanted: Answer::new(alloc),
+            wanted_file: None,
         })
     }
 }

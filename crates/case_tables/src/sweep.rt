@@ -5,7 +5,8 @@
 pub enum Sweep {
     /// The policy ends before each of its bytes.
     Cut,
-    /// Each call of open and read fails: first those of the policy, and then those of the map.
+    /// Each call of open and read fails: first those of the policy, then those of the map, and then those of
+    /// the checklist.
     Files,
     /// Each pattern that is built is refused.
     Patterns,

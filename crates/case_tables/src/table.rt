@@ -15,6 +15,7 @@ enum Key {
     Named,
     Policy,
     Map,
+    List,
     FilesFail,
     FilesMost,
     PatternsFail,
@@ -28,15 +29,17 @@ enum Key {
     Code,
     Out,
     OutPart,
+    OutFile,
     Err,
     ErrPart,
 }
 
-const KEYS: [(&str, Key); 19] = [
+const KEYS: [(&str, Key); 21] = [
     ("words", Key::Words),
     ("named", Key::Named),
     ("policy", Key::Policy),
     ("map", Key::Map),
+    ("list", Key::List),
     ("files-fail", Key::FilesFail),
     ("files-most", Key::FilesMost),
     ("patterns-fail", Key::PatternsFail),
@@ -50,6 +53,7 @@ const KEYS: [(&str, Key); 19] = [
     ("code", Key::Code),
     ("out", Key::Out),
     ("out-part", Key::OutPart),
+    ("out-file", Key::OutFile),
     ("err", Key::Err),
     ("err-part", Key::ErrPart),
 ];
@@ -182,6 +186,8 @@ fn set(alloc: Global, key: Key, value: &str, case: &mut Case) -> Result<(), Caus
         Key::Named => put(name_of(alloc, value), &mut case.name),
         Key::Policy => put_some(source_of(alloc, value), &mut case.policy),
         Key::Map => put_some(source_of(alloc, value), &mut case.map),
+        Key::List => put_some(source_of(alloc, value), &mut case.list),
+        Key::OutFile => put_some(source_of(alloc, value), &mut case.wanted_file),
         Key::Sweep => put_some(sweep_of(value), &mut case.sweep),
         Key::FilesFail => set_fail(value, &mut case.outside.files),
         Key::FilesMost => set_most(value, &mut case.outside.files),

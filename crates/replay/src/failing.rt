@@ -9,6 +9,8 @@ pub enum Failing {
     Policy,
     /// The files', at the map.
     Map,
+    /// The files', at the checklist.
+    List,
     Patterns,
     Out,
     Err,
@@ -18,7 +20,7 @@ impl Failing {
     /// What is told so that a call of it fails.
     pub fn failing(self, outside: &Outside, call: u64) -> Outside {
         match self {
-            Failing::Policy | Failing::Map => Outside {
+            Failing::Policy | Failing::Map | Failing::List => Outside {
                 files: outside.files.failing(call),
                 ..*outside
             },
@@ -42,6 +44,7 @@ impl Failing {
         match self {
             Failing::Policy => least_reads(contents.policy, &case.outside.files),
             Failing::Map => least_reads(contents.map, &case.outside.files),
+            Failing::List => least_reads(contents.list, &case.outside.files),
             Failing::Patterns => 1,
             Failing::Out => case.outside.out.turns(case.wanted.out.len()),
             Failing::Err => case.outside.err.turns(case.wanted.err.len()),
@@ -56,6 +59,9 @@ impl Failing {
                 got.out.is_empty() && ends_with(got, 3, b"setools: policy: read failed\n")
             }
             Failing::Map => got.out.is_empty() && ends_with(got, 3, b"setools: map: read failed\n"),
+            Failing::List => {
+                got.out.is_empty() && ends_with(got, 3, b"setools: checklist: read failed\n")
+            }
             Failing::Patterns => {
                 got.code == 1 && got.out.is_empty() && got.err.ends_with(b": pattern refused\n")
             }

@@ -74,15 +74,26 @@ fn bytes_if(rt: &(impl Files + AllocGlobal), source: &Option<Source>) -> Result<
 fn lines_of(rt: &(impl Files + AllocGlobal), case: &Case) -> Result<Vec<String>> {
     let policy = bytes_if(rt, &case.policy)?;
     let map = bytes_if(rt, &case.map)?;
+    let list = bytes_if(rt, &case.list)?;
     let contents = Contents {
         policy: policy.as_deref(),
         map: map.as_deref(),
+        list: list.as_deref(),
     };
     Ok(case_differences(rt.alloc(), case, contents)?)
 }
 
+// Takes the file that standard output has to be into the answer of the case, if there is one.
+fn take_wanted(rt: &(impl Files + AllocGlobal), case: &mut Case) -> Result<()> {
+    if let Some(out) = bytes_if(rt, &case.wanted_file)? {
+        case.wanted.out = out;
+    }
+    Ok(())
+}
+
 // Tries a case, prints what differs, and answers whether anything does.
-fn differs(rt: &(impl Files + Print + AllocGlobal), table: &str, case: &Case) -> Result<bool> {
+fn differs(rt: &(impl Files + Print + AllocGlobal), table: &str, case: &mut Case) -> Result<bool> {
+    take_wanted(rt, case).context(format_args!("{table}, line {}", case.line))?;
     let lines = lines_of(rt, case).context(format_args!("{table}, line {}", case.line))?;
     for line in &lines {
         println!(rt; "{table}, line {}: {line}", case.line)?;
@@ -99,7 +110,8 @@ fn table_of(rt: &(impl Files + AllocGlobal), table: &str) -> Result<Vec<Case>> {
 // Tries the cases of a table, and counts them.
 fn replay(rt: &(impl Files + Print + AllocGlobal), table: &str, counts: Counts) -> Result<Counts> {
     let mut counts = counts;
-    for case in &table_of(rt, table)? {
+    let mut cases = table_of(rt, table)?;
+    for case in &mut cases {
         counts = counts.and(differs(rt, table, case)?);
     }
     Ok(counts)

@@ -8,11 +8,12 @@ use se_outside::{MemFiles, MemPatterns, MemSink};
 use se_tools::run;
 use std::alloc::{AllocError, Global};
 
-/// What a case's policy and its map hold, where they are there.
+/// What a case's policy, its map and its checklist hold, where they are there.
 #[derive(Clone, Copy)]
 pub struct Contents<'a> {
     pub policy: Option<&'a [u8]>,
     pub map: Option<&'a [u8]>,
+    pub list: Option<&'a [u8]>,
 }
 
 /// What the run of a case gives.
@@ -37,7 +38,7 @@ pub fn play(
     answer_of(alloc, status.code(), &out, &err)
 }
 
-// A policy of that name and a map, where they are there, in files that are told these orders.
+// A policy of that name, a map and a checklist, where they are there, in files that are told these orders.
 fn files_of(
     alloc: Global,
     name: &str,
@@ -49,6 +50,7 @@ fn files_of(
     let mut files = MemFiles::new(alloc);
     add_if(&mut files, name, contents.policy)?;
     add_if(&mut files, "map", contents.map)?;
+    add_if(&mut files, "list", contents.list)?;
     files.fail(orders.fail)?;
     files.most(orders.most);
     Ok(files)

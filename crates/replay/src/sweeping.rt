@@ -42,7 +42,8 @@ fn runs_differences(
         None => run_differences(alloc, case, contents, &case.outside),
         Some(Sweep::Cut) => cut_differences(alloc, case, contents),
         Some(Sweep::Files) => {
-            call_differences(alloc, case, contents, &[Failing::Policy, Failing::Map])
+            let parts = [Failing::Policy, Failing::Map, Failing::List];
+            call_differences(alloc, case, contents, &parts)
         }
         Some(Sweep::Patterns) => call_differences(alloc, case, contents, &[Failing::Patterns]),
         Some(Sweep::Out) => call_differences(alloc, case, contents, &[Failing::Out]),
@@ -72,6 +73,7 @@ fn cut_differences(
         let cut = Contents {
             policy: Some(&policy[..length]),
             map: contents.map,
+            list: contents.list,
         };
         let got = play(alloc, case, cut, &case.outside)?;
         if !is_short(&got) {
