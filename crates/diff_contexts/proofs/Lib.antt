@@ -1,0 +1,2 @@
+pub mod RecordEntries
+pub mod JoinedEntries

@@ -1,0 +1,4 @@
+pub mod SameNames
+pub mod SetChanges
+pub mod PlacedKeys
+pub mod EntryLaws

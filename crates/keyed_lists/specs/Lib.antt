@@ -1,0 +1,3 @@
+pub mod KeyOrder
+pub mod Differences
+pub mod Inner
