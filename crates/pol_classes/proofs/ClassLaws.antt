@@ -38,7 +38,7 @@ head_spelled taken nprim commons =
       };
     })
 
-head_again : (taken : Claims) (nprim : ℕ) (commons : Table CommonRec) → IsReadAgain (head_at taken nprim commons) spell_head HeadFits
+pub head_again : (taken : Claims) (nprim : ℕ) (commons : Table CommonRec) → IsReadAgain (head_at taken nprim commons) spell_head HeadFits
 unfolding head_at common_name_at
 head_again taken nprim commons head fits =
     Again-as

@@ -24,7 +24,7 @@ type_set_spelled =
       fitting = record { types = types-fits; negated = negated-fits; flags = flags-fits };
     })
 
-type_set_again : IsReadAgain type_set_at spell_type_set TypeSetFits
+pub type_set_again : IsReadAgain type_set_at spell_type_set TypeSetFits
 unfolding type_set_at
 type_set_again set fits =
     Again-as
@@ -35,10 +35,10 @@ type_set_again set fits =
     (simp (append_assoc, append-nil))
 
 -- the names of an item and its type set
-abbrev spell_sets : Option (List Node) × Option TypeSet → List ℕ
+abbrev pub spell_sets : Option (List Node) × Option TypeSet → List ℕ
 spell_sets sets = spell_optional spell_bitmap sets.0 ++ spell_optional spell_type_set sets.1
 
-record SetsFit (version kind : ℕ) (sets : Option (List Node) × Option TypeSet) : Type 0 where
+pub record SetsFit (version kind : ℕ) (sets : Option (List Node) × Option TypeSet) : Type 0 where
   pub names : OptionFits (has_names kind) BitmapFits sets.0
   pub type_set : OptionFits (has_type_set version kind) TypeSetFits sets.1
 
@@ -52,7 +52,7 @@ sets_spelled version kind =
       fitting = record { names = names-fits; type_set = type_set-fits };
     })
 
-sets_again : (version kind : ℕ) → IsReadAgain (sets_at version kind) spell_sets (SetsFit version kind)
+pub sets_again : (version kind : ℕ) → IsReadAgain (sets_at version kind) spell_sets (SetsFit version kind)
 unfolding sets_at
 sets_again version kind sets fits =
     Again-as
@@ -74,7 +74,7 @@ module _ (version : ℕ) (xtarget : Bool) where
         fitting = record { kind = kind-fits.0; attr = attr-fits.0; op = op-fits.0; names = sets-fit.names; type_set = sets-fit.type_set };
       })
 
-  item_again : (left values : ℕ) → IsReadAgain (item_at version xtarget left values) spell_item (ItemFits version)
+  pub item_again : (left values : ℕ) → IsReadAgain (item_at version xtarget left values) spell_item (ItemFits version)
   unfolding item_at
   item_again left values item fits =
       Again-as

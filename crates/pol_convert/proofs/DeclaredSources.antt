@@ -41,7 +41,7 @@ no_source declared bit e = rw e refl
 
 -- ---- all of them
 
--- those of a bit and of higher ones rise
+-- the sources of a bit and of higher ones rise
 found_rise : (declared : List Node) (least : ℕ) (bits : List ℕ) → RisesFrom least bits → RisesFrom (least + 1) (found_sources declared bits)
 found_rise declared least [] h = tt
 found_rise declared least (bit ∷ bits) h = go (has_bit declared (bit + 1)) (found_rise declared (bit + 1) bits h.1)

@@ -15,7 +15,7 @@ module _ {K X G : Type 0} (same : K → K → Bool) (key_of : X → K) (make : K
   abbrev pub made_of : List X → K → G
   made_of xs key = make key (row_of xs key)
 
-  -- those of the first n keys are made
+  -- what is made of the first n keys
   abbrev pub AreMade : List X → List K → ℕ → List G → Type 0
   AreMade xs keys n made = made ≡ map (made_of xs) (take n keys)
 

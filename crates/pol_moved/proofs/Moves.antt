@@ -93,7 +93,7 @@ moves-string d n = record {
       rw (short-moved before bytes place n, drop-moved before bytes place) (either-moved (length before) (ltb (length bytes) (place + n)) _ _ _ (place + n) (length before + place + n) (omega arith));
 }
 
--- the same under conditions
+-- numbers and strings under conditions move
 pub moves-number_if : (d : Field) (w : ℕ) (test : ℕ → Option Cause) → Moves (checked d (number d w) test)
 moves-number_if d w test = moves-checked d test (moves-number d w)
 

@@ -42,7 +42,7 @@ each-named {A} named references P each records xs are h = go records (rw are h)
     go [] h = nothing-named
     go (r ∷ rs) h = rw flat_map-cons (each r.place r.value h.0 ⊕ go rs h.1)
 
--- those of no records
+-- the values of no records are named
 pub none-named : {A : Type 0} (named : Named) (references : Placed A → List Reference) (records : List (Placed A)) → values_of records ≡ [] → AreNamed named (references_in references records)
 none-named named references records are = each-named named references (λ x. ⊥) (λ place x never. absurd never) records [] are tt
 

@@ -211,7 +211,7 @@ each-other {S} {T} {A} {B} may step may_other step_other other R each steps (x �
   each-other may step may_other step_other other R each steps xs (step context x) (step_other under (other x)) (steps context under x related) h.1,
 )
 
--- the same items under another context
+-- items under another context
 pub each-under : {S T A : Type 0} (may : ℕ → S → A → Type 0) (step : S → A → S) (may_other : ℕ → T → A → Type 0) (step_other : T → A → T) (R : S → T → Type 0)
     → ((left : ℕ) (context : S) (under : T) (x : A) → R context under → may left context x → may_other left under x) → ((context : S) (under : T) (x : A) → R context under → R (step context x) (step_other under x))
     → (xs : List A) (context : S) (under : T) → R context under → EachUnder may step context xs → EachUnder may_other step_other under xs

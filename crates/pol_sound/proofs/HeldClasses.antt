@@ -5,19 +5,17 @@ use Rattle.std.specs.Str.{bytes_eq}
 use Rattle.std.specs.List.{flat_map, find}
 use Rattle.std.proofs.lemmas.Bool.{cases_Bool}
 use Rattle.std.proofs.lemmas.List.{append-nil, length-map}
-use Rattle.pol_fields.specs.declared.fields.TheConstants.{TABLE_NPRIM, TABLE_NEL, CLASS_LEN, CLASS_LEN2, CLASS_VALUE, CLASS_NPRIM, CLASS_NEL, CLASS_NCONS, CLASS_NAME, CLASS_COMMON, CLASS_NVALID, CLASS_DEFAULT_USER, CLASS_DEFAULT_ROLE, CLASS_DEFAULT_RANGE, CLASS_DEFAULT_TYPE}
+use Rattle.pol_fields.specs.declared.fields.TheConstants.{TABLE_NPRIM, TABLE_NEL, CLASS_COMMON, CLASS_NVALID, CLASS_DEFAULT_USER, CLASS_DEFAULT_ROLE, CLASS_DEFAULT_RANGE, CLASS_DEFAULT_TYPE}
 use Rattle.pol_fields.specs.declared.Cause.TheVariants.{UnknownCommon}
 use Rattle.pol_cursor.specs.Outcome.{Reader, ◌>>=◌, done, checked}
 use Rattle.pol_cursor.specs.Parts.{number, list_of, spell_counted, unless}
 use Rattle.pol_cursor.specs.References.{Placed, values_of}
 use Rattle.pol_cursor.specs.Spelling.{bytes_of}
-use Rattle.pol_cursor.specs.Laws.{IsReadAgain}
-use Rattle.pol_cursor.proofs.Laws.{Again-part, Again-done, Again-as, Again-number, Again-number_if, Again-string_if, records_again, counted_records_again}
+use Rattle.pol_cursor.proofs.Laws.{Again-number, Again-number_if, records_again, counted_records_again}
 use Rattle.pol_symtab.specs.Claims.{Claims}
 use Rattle.pol_symtab.specs.declared.TableContext.{TableContext}
 use Rattle.pol_symtab.specs.declared.TableHead.{TableHead}
 use Rattle.pol_symtab.specs.SymbolTables.{Table, BareTable, TableFits, nprim_test, table_head_at, bare_table_at, spell_table, has_the_name}
-use Rattle.pol_symtab.proofs.SymbolFieldLaws.{Again-symbol_length, Again-symbol_name}
 use Rattle.pol_commons.specs.declared.CommonRec.{CommonRec}
 use Rattle.pol_commons.specs.declared.PermissionRec.{PermissionRec}
 use Rattle.pol_commons.specs.PermissionRecord.{spell_permission}
@@ -31,9 +29,9 @@ use Rattle.pol_classes.specs.declared.ClassRec.{ClassRec}
 use Rattle.pol_classes.specs.declared.ClassContext.{ClassContext}
 use Rattle.pol_classes.specs.ConstraintLists.{constraints_at}
 use Rattle.pol_classes.specs.ClassRecord as read
-use Rattle.pol_classes.specs.ClassRecord.{Head, common_test, default_test, common_name_at, head_at, spell_head, HeadFits, default_at, head_of, spell_class, spell_defaults, ClassFits, with_class}
+use Rattle.pol_classes.specs.ClassRecord.{common_test, default_test, common_name_at, head_at, spell_head, default_at, head_of, spell_class, ClassFits, with_class}
 use Rattle.pol_classes.specs.ClassTables.{class_start, after_class, class_under}
-use Rattle.pol_classes.proofs.ClassLaws.{class_again}
+use Rattle.pol_classes.proofs.ClassLaws.{class_again, head_again}
 use Rattle.pol_versions.specs.Conversion.{constraint_at, class_at}
 use Rattle.pol_moved.proofs.Granted.{GrantsOf, grants-done, grants-then, grants-as, grants-number, grants-number_if, grants-counted}
 use Rattle.pol_moved.proofs.Moves.{MovesTo, moves-done, moves-then, moves-number, moves-number_if, moves-string, moves-checked_as}
@@ -77,22 +75,6 @@ module _ (commons others : Table CommonRec) (same : HaveSameCommons commons othe
 
 -- ---- the head of a class
 
--- its first law
-head-again : (taken : Claims) (nprim : ℕ) (commons : Table CommonRec) → IsReadAgain (head_at taken nprim commons) spell_head HeadFits
-unfolding head_at common_name_at
-head-again taken nprim commons head fits =
-    Again-as
-    (Again-part _ (Again-symbol_length CLASS_LEN (length head.name) fits.len)
-    (Again-part _ (Again-number CLASS_LEN2 4 (length head.common) fits.common_len)
-    (Again-part _ (Again-number_if CLASS_VALUE 4 head.value _ fits.value)
-    (Again-part _ (Again-number_if CLASS_NPRIM 4 head.nprim _ fits.nprim)
-    (Again-part _ (Again-number CLASS_NEL 4 head.nel fits.nel)
-    (Again-part _ (Again-number CLASS_NCONS 4 head.ncons fits.ncons)
-    (Again-part _ (Again-symbol_name CLASS_NAME taken head.name)
-    (Again-part _ (Again-string_if CLASS_COMMON head.common _)
-    (Again-done head)))))))))
-    (simp (append_assoc, append-nil))
-
 moves-head : (taken : Claims) (nprim : ℕ) (commons others : Table CommonRec) → HaveSameCommons commons others → MovesTo (head_at taken nprim commons) (head_at taken nprim others)
 unfolding head_at common_name_at
 moves-head taken nprim commons others same =
@@ -120,8 +102,8 @@ module _ (old version : ℕ) (taken : Claims) (nprim : ℕ) (commons others : Ta
       let constraints_text = flat_map spell_constraint class.constraints ++ trans_text in
       let permissions_text = flat_map spell_permission class.permissions ++ constraints_text in
       let there = stood-as {t = spell_head (head_of class) ++ permissions_text} stood (simp append_assoc) in
-      let head_again = head-again taken nprim commons (head_of class) fits.head in
-      let head = stood-part _ permissions_text head_again there in
+      let head_read = head_again taken nprim commons (head_of class) fits.head in
+      let head = stood-part _ permissions_text head_read there in
       let inherited = inherited_from commons class.common in
       let permissions_again = permissions_again inherited class.permissions fits.permissions in
       let permissions = stood-part _ constraints_text permissions_again head.others in
@@ -132,7 +114,7 @@ module _ (old version : ℕ) (taken : Claims) (nprim : ℕ) (commons others : Ta
       let range = stood-part _ type_text (Again-number_if CLASS_DEFAULT_RANGE 4 class.default_range _ fits.default_range) role.others in
       let type = stood-part _ [] (Again-number_if CLASS_DEFAULT_TYPE 4 class.default_type _ fits.default_type) (stood-last range.others) in
       let count = stood-part _ (flat_map spell_constraint class.validatetrans) (Again-number CLASS_NVALID 4 (length class.validatetrans) fits.validatetrans.count) trans.first in
-      let head_granted = grants-moved_to (moves-head taken nprim commons commons refl) (moves-head taken nprim commons others same) head_again head.first in
+      let head_granted = grants-moved_to (moves-head taken nprim commons commons refl) (moves-head taken nprim commons others same) head_read head.first in
       let head_moved = subst (λ (n : ℕ). GrantsOf (head_at taken nprim others) (record (head_of class) { ncons = n }) (spell_head (record (head_of class) { ncons = n }))) (sym (length-map class.constraints (constraint_at version))) head_granted in
       let permissions_granted = grants-moved (moves-permissions inherited (length class.permissions)) permissions_again permissions.first in
       let permissions_moved = subst (λ (ps : List PermissionRec). GrantsOf (permissions_at ps (length class.permissions)) class.permissions (flat_map spell_permission class.permissions)) (inherited-same commons others same class.common) permissions_granted in

@@ -6,8 +6,7 @@ use Rattle.std.proofs.lemmas.List.{append-nil, length-map}
 use Rattle.pol_fields.specs.declared.fields.TheConstants.{CONSTRAINT_PERMISSIONS, CONSTRAINT_NEXPR, CONSTRAINT_KIND, CONSTRAINT_ATTR, CONSTRAINT_OP, CONSTRAINT_FLAGS}
 use Rattle.pol_cursor.specs.Parts.{number, optional, spell_optional, OptionFits, records_at}
 use Rattle.pol_cursor.specs.Spelling.{bytes_of}
-use Rattle.pol_cursor.specs.Laws.{Again, IsReadAgain}
-use Rattle.pol_cursor.proofs.Laws.{Again-part, Again-done, Again-as, Again-number, Again-number_if, Again-optional}
+use Rattle.pol_cursor.proofs.Laws.{Again-number, Again-number_if, Again-optional}
 use Rattle.pol_bitmap.specs.declared.Node.{Node}
 use Rattle.pol_bitmap.specs.Bitmap.{bitmap_at, spell_bitmap, BitmapFits}
 use Rattle.pol_bitmap.proofs.Laws.{bitmap_again}
@@ -17,7 +16,7 @@ use Rattle.pol_constraints.specs.declared.ConstraintRec.{ConstraintRec}
 use Rattle.pol_constraints.specs.declared.TypeSet.{TypeSet}
 use Rattle.pol_constraints.specs.ConstraintRecord as read
 use Rattle.pol_constraints.specs.ConstraintRecord.{kind_test, attr_test, op_test, has_names, has_type_set, type_set_at, sets_at, values_after_item, items_at, spell_type_set, spell_item, spell_constraint, TypeSetFits, ItemFits, ConstraintFits}
-use Rattle.pol_constraints.proofs.ConstraintLaws.{constraint_again}
+use Rattle.pol_constraints.proofs.ConstraintLaws.{constraint_again, item_again}
 use Rattle.pol_classes.specs.ConstraintLists.{constraints_at}
 use Rattle.pol_versions.specs.Conversion.{type_set_of, item_at, constraint_at}
 use Rattle.pol_moved.proofs.Granted.{GrantsOf, grants-done, grants-then, grants-as, grants-number, grants-number_if, grants-some, grants-none}
@@ -91,38 +90,6 @@ sets-granted old version kind names types names-fit types-fit stood =
     (grants-done (names, new_types) refl)))
     (simp append-nil)
 
--- the first law of items and of their parts
-type_set-again : IsReadAgain type_set_at spell_type_set TypeSetFits
-unfolding type_set_at
-type_set-again set fits =
-    Again-as
-    (Again-part _ (bitmap_again None set.types fits.types)
-    (Again-part _ (bitmap_again None set.negated fits.negated)
-    (Again-part _ (Again-number CONSTRAINT_FLAGS 4 set.flags fits.flags)
-    (Again-done set))))
-    (simp (append_assoc, append-nil))
-
-sets-again : (version kind : ℕ) (names : Option (List Node)) (types : Option TypeSet) → OptionFits (has_names kind) BitmapFits names → OptionFits (has_type_set version kind) TypeSetFits types
-    → Again (sets_at version kind) (names, types) (spell_optional spell_bitmap names ++ spell_optional spell_type_set types)
-unfolding sets_at
-sets-again version kind names types names-fit types-fit =
-    Again-as
-    (Again-part _ (Again-optional (has_names kind) spell_bitmap BitmapFits names (bitmap_again None) names-fit)
-    (Again-part _ (Again-optional (has_type_set version kind) spell_type_set TypeSetFits types type_set-again types-fit)
-    (Again-done (names, types))))
-    (simp append-nil)
-
-item-again : (version : ℕ) (xtarget : Bool) (left values : ℕ) → IsReadAgain (read.item_at version xtarget left values) spell_item (ItemFits version)
-unfolding read.item_at
-item-again version xtarget left values item fits =
-    Again-as
-    (Again-part _ (Again-number_if CONSTRAINT_KIND 4 item.kind _ fits.kind)
-    (Again-part _ (Again-number_if CONSTRAINT_ATTR 4 item.attr _ fits.attr)
-    (Again-part _ (Again-number_if CONSTRAINT_OP 4 item.op _ fits.op)
-    (Again-part _ (sets-again version item.kind item.names item.type_set fits.names fits.type_set)
-    (Again-done item)))))
-    (simp (append_assoc, append-nil))
-
 module _ (old version : ℕ) (xtarget : Bool) where
   item-granted : (left values : ℕ) (item : ConstraintItem) → ItemFits old item → Stood (read.item_at old xtarget left values) item (spell_item item)
       → GrantsOf (read.item_at version xtarget left values) (item_at version item) (spell_item (item_at version item))
@@ -152,7 +119,7 @@ module _ (old version : ℕ) (xtarget : Bool) where
       → GrantsOf (items_at version xtarget (length (map (item_at version) items))) (map (item_at version) items) (flat_map spell_item (map (item_at version) items))
   unfolding items_at
   items-granted items fits stood =
-      let each = stood-list_of (read.item_at old xtarget) values_after_item spell_item (ItemFits old) (item-again old xtarget) items 0 fits stood in
+      let each = stood-list_of (read.item_at old xtarget) values_after_item spell_item (ItemFits old) (item_again old xtarget) items 0 fits stood in
       let granted = each-other (λ left values x. ItemFits old x × Stood (read.item_at old xtarget left values) x (spell_item x)) values_after_item
       (λ left values x. GrantsOf (read.item_at version xtarget left values) x (spell_item x)) values_after_item (item_at version) (λ values under. values ≡ under)
       (λ left values under x same h. subst (λ (v : ℕ). GrantsOf (read.item_at version xtarget left v) (item_at version x) (spell_item (item_at version x))) same (item-granted left values x h.0 h.1))

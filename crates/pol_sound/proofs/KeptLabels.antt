@@ -37,9 +37,9 @@ use Rattle.pol_tree.specs.declared.Tree.{Tree}
 use Rattle.pol_tree.specs.TreeRanges.{TreeFits}
 use Rattle.pol_tree.specs.TreeSpelling.{spell_if, spell_contexts, spell_labels}
 use Rattle.pol_write.proofs.Findings.{FindsAgain, finds-part, finds-done, finds-as}
-use Rattle.pol_write.proofs.ListFindings.{FitsIf, spelled-if}
+use Rattle.pol_write.proofs.ListFindings.{spelled-if}
 use Rattle.pol_write.proofs.PartLaws.{sid-laws, named-laws, port-laws, address-laws, fsuse-laws, ibpkey-laws, ibendport-laws, genfs-laws, rangetrans-laws, typemap-laws}
-use Rattle.pol_write.proofs.FoundParts.{HasContexts, HasLabels, HasNoInfiniband}
+use Rattle.pol_write.proofs.FoundParts.{HasContexts, HasLabels, HasNoInfiniband, fits-if}
 use Rattle.pol_moved.proofs.Granted.{Grants, grants-part, grants-done, grants-as, grants-records, grants-counted}
 use Rattle.pol_moved.proofs.Moves.{Moves, moves-list_of}
 use Rattle.pol_moved.proofs.MovesSymbols.{moves-bitmap}
@@ -50,11 +50,6 @@ use Rattle.pol_sound.proofs.Kept.{kept-through, list-kept, list-granted}
 use Rattle.pol_sound.proofs.MovedTree.{moved_tree}
 
 -- ---- the tables of InfiniBand
-
--- a list that is in the file fits, and one that is not is empty
-fits-if : {A : Type 0} (there : Bool) (fits : List A → Type 0) (xs : List A) → fits xs → (there ≡ false → xs ≡ []) → FitsIf there fits xs
-fits-if true fits xs h none = h
-fits-if false fits xs h none = none refl
 
 -- a table that is in the file or is empty, at both versions
 list_if-kept : {A : Type 0} (was is : Bool) (d : Field) (record_at : Reader A) (spell : A → List ℕ) (fits : A → Type 0) → IsReadAgain record_at spell fits → Moves record_at → (xs : List A) → CountedFits fits xs → (was ≡ false → xs ≡ []) → (is ≡ false → xs ≡ [])

@@ -118,7 +118,7 @@ front-named named xs ys h = record { each = all-append_first (λ r. is_some (nam
 pub back-named : (named : Named) (xs ys : List Reference) → AreNamed named (xs ++ ys) → AreNamed named ys
 back-named named xs ys h = record { each = all-append_second (λ r. is_some (named r.table r.value) ≡ true) xs ys h.each }
 
--- those of the five tables that have some
+-- the references of the five tables that have some are named
 pub record SymbolsNamed (named : Named) (symbols : Symbols) : Type 0 where
   pub roles : AreNamed named (references_in role_references symbols.roles.records)
   pub types : AreNamed named (references_in type_references symbols.types.records)

@@ -101,11 +101,6 @@ shaped-parts tree e =
 
 -- ---- what they say of lists
 
-pub list-empty : {A : Type 0} (there : Bool) (xs : List A) (d : Field) → shape_of_list there xs d ≡ None → there ≡ false → xs ≡ []
-list-empty there [] d e absent = refl
-list-empty true (x ∷ xs) d e absent = absurd (let wrong : true ≡ false = absent in cc)
-list-empty false (x ∷ xs) d e absent = absurd (let right : wrong_if true d ≡ None = e in cc)
-
 -- a list that is empty where it is not in the file
 pub list-shaped : {A : Type 0} (there : Bool) (xs : List A) (d : Field) → (there ≡ false → xs ≡ []) → shape_of_list there xs d ≡ None
 list-shaped there [] d none = refl

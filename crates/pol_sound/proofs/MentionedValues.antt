@@ -49,7 +49,7 @@ mention r = record { table = r.table; value = r.value }
 abbrev pub mentions : List Reference → List Mentioned
 mentions references = map mention references
 
--- the same tables and values, wherever the references stand
+-- references mention equal tables and values, wherever they stand
 pub record SameMentions (a b : List Reference) : Type 0 where
   pub same : mentions a ≡ mentions b
 

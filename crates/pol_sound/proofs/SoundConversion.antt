@@ -29,7 +29,7 @@ use Rattle.pol_tree.specs.TreeSpelling.{spell_front, spell_symbols, spell_rules,
 use Rattle.pol_tree.specs.TreeShape.{shape}
 use Rattle.pol_write.specs.declared.errors.Unsound.{Unsound}
 use Rattle.pol_write.specs.Soundness.{unsound_bytes, unless_shapeless, unsound, IsSound}
-use Rattle.pol_write.proofs.FoundTree.{sound_is_accepted}
+use Rattle.pol_write.proofs.FoundTree.{sound_is_accepted, list-empty}
 use Rattle.pol_write.proofs.SoundTree.{accepted_tree_is_sound}
 use Rattle.pol_write.proofs.FoundParts.{HasSymbols, HasNames, HasRules, HasLabels, HasNoInfiniband}
 use Rattle.pol_versions.specs.Conversion.{cannot, converted, too_long, unless_lost, tree_at, with_names}
@@ -44,7 +44,7 @@ use Rattle.pol_sound.proofs.KeptRules.{rules-there, rules-kept}
 use Rattle.pol_sound.proofs.KeptLabels.{labels-kept}
 use Rattle.pol_sound.proofs.KeptDeclared.{HasParts, PartsNamed, parts-named, declared-kept}
 use Rattle.pol_sound.proofs.KeptFits.{tree-fits}
-use Rattle.pol_sound.proofs.KeptShape.{ShapedParts, shaped-parts, list-empty, list-shaped, tree-shaped}
+use Rattle.pol_sound.proofs.KeptShape.{ShapedParts, shaped-parts, list-shaped, tree-shaped}
 use Rattle.pol_sound.proofs.Room.{HasRoom, has-room}
 use Rattle.pol_sound.proofs.KeptNames.{WereNames, AreNames, names-kept, new_entries, new_groups}
 use Rattle.std.proofs.Common.{inl, inr}
@@ -234,7 +234,7 @@ converted_is_sound tree version sound is holds =
     let new_sound = new-sound tree version (new_tree tree version).nametrans (new_tree tree version).namegroup fits is from room names few in
     subst (λ (t : Tree). IsSound t) (sym same) new_sound
 
--- So is that of a file that is accepted, and its bytes are accepted.
+-- The converted tree of a file that is accepted is sound, and its bytes are accepted.
 pub converted_is_accepted : (bytes : List ℕ) (old : Parts) (version : ℕ) → AreBytes bytes → length bytes ≤ MAX_POLICY_BYTES → accept bytes ≡ Ok old → IsVersion version → cannot (tree_of old) version ≡ None
     → (new : Parts) × (accept (spell (converted (tree_of old) version)) ≡ Ok new) × (tree_of new ≡ converted (tree_of old) version)
 converted_is_accepted bytes old version are few accepted is holds =

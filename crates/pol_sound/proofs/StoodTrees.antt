@@ -1,12 +1,8 @@
 -- Where the parts of a sound tree stand in its bytes.
-use Rattle.std.proofs.Common.{◌≡◌, ℕ, ◌+◌, Bool, true, false, cond, None, List, [], ◌++◌, length, refl, sym, ap, subst, ◌∙◌, arith}
-use Rattle.std.specs.Prelude.{not, slice_index}
+use Rattle.std.proofs.Common.{◌≡◌, ℕ, ◌+◌, List, [], ◌++◌, length, refl, sym, ap, subst, ◌∙◌}
+use Rattle.std.specs.Prelude.{slice_index}
 use Rattle.std.proofs.lemmas.List.{append-nil}
-use Rattle.pol_fields.specs.declared.fields.TheConstants.{NAMETRANS_COUNT, NAMEGROUP_COUNT, IBPKEY_COUNT, IBENDPORT_COUNT, BITMAP_UNIT, END_END}
-use Rattle.pol_fields.specs.declared.Fault.{Fault}
-use Rattle.pol_fields.specs.declared.Field.{Field}
-use Rattle.pol_cursor.specs.Outcome.{Got, Bad}
-use Rattle.pol_cursor.specs.Parts.{end_at}
+use Rattle.pol_fields.specs.declared.fields.TheConstants.{IBPKEY_COUNT, IBENDPORT_COUNT, BITMAP_UNIT, END_END}
 use Rattle.pol_datums.specs.declared.TypeRec.{TypeRec}
 use Rattle.pol_symtab.specs.SymbolTables.{BareTable}
 use Rattle.pol_symbols.specs.declared.Symbols.{Symbols}
@@ -23,13 +19,13 @@ use Rattle.pol_tree.specs.declared.Tree.{Tree}
 use Rattle.pol_tree.specs.PolicyTree.{tree_of}
 use Rattle.pol_tree.specs.TreeRanges.{TreeFits}
 use Rattle.pol_tree.specs.TreeSpelling.{spell_front, spell_symbols, spell_rules, spell_labels}
-use Rattle.pol_tree.specs.OptionalParts.{shape_of_list}
-use Rattle.pol_write.proofs.Findings.{Finds, FindsAgain, finds-part, finds-done, finds-as}
-use Rattle.pol_write.proofs.FoundParts.{HasFront, HasSymbols, HasRules, HasLabels, HasNoInfiniband, HasOneForm, front-found, symbols-found, rules-found, labels-found}
+use Rattle.pol_write.proofs.Findings.{FindsAgain, finds-part, finds-done, finds-as}
+use Rattle.pol_write.proofs.FoundParts.{HasFront, HasSymbols, HasRules, HasLabels, front-found, symbols-found, rules-found, labels-found}
+use Rattle.pol_write.proofs.FoundTree.{HasShape, list-empty, one-form, end-found}
 use Rattle.pol_moved.proofs.Stood.{Stood, stood-last}
 use Rattle.pol_moved.proofs.Stood.{stood-found}
 use Rattle.pol_sound.proofs.KeptDeclared.{HasParts}
-use Rattle.pol_sound.proofs.KeptShape.{ShapedParts, list-empty, rows-same}
+use Rattle.pol_sound.proofs.KeptShape.{ShapedParts, rows-same}
 
 -- ---- what was read of a tree
 
@@ -59,25 +55,8 @@ pub record StoodTree (tree : Tree) : Type 0 where
   pub labels : LabelLists
   pub labels_stood : Stood (label_lists_at tree.version (slice_index tree.nprims 3)) labels (spell_labels tree)
 
-ends-either : (b : Bool) (f : Fault) (n m : ℕ) → n ≡ m → Finds (λ (u : Unit {0}). Unit {0}) m (cond b (Bad f) (Got tt n))
-ends-either true f n m e = tt
-ends-either false f n m e = (tt, e)
-
-end-there : (d : Field) → FindsAgain (end_at d) (λ ended. Unit {0}) []
-unfolding end_at
-end-there d = record { finds = λ before after. ends-either _ _ (length before) (length before + 0) (omega arith) }
-
 -- what the shape of a tree says of its lists
-pub record HasLists (tree : Tree) : Type 0 where
-  pub form : HasOneForm (has_groups tree.version) tree
-  pub infiniband : HasNoInfiniband tree
-  pub rows : length tree.typemap ≡ slice_index tree.nprims 3
-
-one-form : (grouped : Bool) (tree : Tree) → shape_of_list (not grouped) tree.nametrans NAMETRANS_COUNT ≡ None → shape_of_list grouped tree.namegroup NAMEGROUP_COUNT ≡ None → HasOneForm grouped tree
-one-form true tree entries groups = list-empty false tree.nametrans NAMETRANS_COUNT entries refl
-one-form false tree entries groups = list-empty false tree.namegroup NAMEGROUP_COUNT groups refl
-
-pub has-lists : (tree : Tree) → ShapedParts tree → HasLists tree
+pub has-lists : (tree : Tree) → ShapedParts tree → HasShape tree
 has-lists tree parts = record {
   form = one-form (has_groups tree.version) tree parts.nametrans parts.namegroup;
   infiniband = record {
@@ -87,7 +66,7 @@ has-lists tree parts = record {
   rows = rows-same (length tree.typemap) (slice_index tree.nprims 3) BITMAP_UNIT parts.rows;
 }
 
-module _ (tree : Tree) (fits : TreeFits tree) (lists : HasLists tree) where
+module _ (tree : Tree) (fits : TreeFits tree) (lists : HasShape tree) where
   version-was : (front : Front) → HasFront tree front → tree.version ≡ front.header.version
   version-was front has = ap (λ (header : HeaderRec). header.version) (sym has.header)
 
@@ -116,7 +95,7 @@ module _ (tree : Tree) (fits : TreeFits tree) (lists : HasLists tree) where
       finds-part _ (symbols-there front.header.version same) λ symbols has_symbols.
       finds-part _ (rules-found-there front.header.version same) λ rules has_rules.
       finds-part _ (labels-there front.header.version symbols.types.nprim same (types-were symbols has_symbols)) λ labels has_labels.
-      finds-part _ (end-there END_END) λ ended is_ended.
+      finds-part _ (end-found END_END) λ ended is_ended.
       finds-done _ tt)
       (simp append-nil)
 

@@ -191,7 +191,7 @@ pub record HasContexts (tree : Tree) (contexts : Contexts) : Type 0 where
   pub ibendport : values_of contexts.ibendport ≡ tree.ibendport
 
 -- a list that is in the file fits, and one that is not is empty
-fits-if : {A : Type 0} (there : Bool) (fits : List A → Type 0) (xs : List A) → fits xs → (there ≡ false → xs ≡ []) → FitsIf there fits xs
+pub fits-if : {A : Type 0} (there : Bool) (fits : List A → Type 0) (xs : List A) → fits xs → (there ≡ false → xs ≡ []) → FitsIf there fits xs
 fits-if true fits xs h none = h
 fits-if false fits xs h none = none refl
 

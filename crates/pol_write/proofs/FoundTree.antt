@@ -36,7 +36,7 @@ use Rattle.pol_write.proofs.FoundParts.{HasFront, HasSymbols, HasRules, HasLabel
 
 -- ---- no part is wrong
 
-list-empty : {A : Type 0} (there : Bool) (xs : List A) (d : Field) → shape_of_list there xs d ≡ None → there ≡ false → xs ≡ []
+pub list-empty : {A : Type 0} (there : Bool) (xs : List A) (d : Field) → shape_of_list there xs d ≡ None → there ≡ false → xs ≡ []
 list-empty there [] d e absent = refl
 list-empty true (x ∷ xs) d e absent = absurd (let wrong : true ≡ false = absent in cc)
 list-empty false (x ∷ xs) d e absent = absurd (let right : wrong_if true d ≡ None = e in cc)
@@ -49,12 +49,12 @@ same-count m n d e = right (m == n) refl
     right false is = absurd (let wrong : wrong_if (not (m == n)) d ≡ Some d = rw is refl in cc)
 
 -- what the shape of a tree says of its lists
-record HasShape (tree : Tree) : Type 0 where
-  form : HasOneForm (has_groups tree.version) tree
-  infiniband : HasNoInfiniband tree
-  rows : length tree.typemap ≡ slice_index tree.nprims 3
+pub record HasShape (tree : Tree) : Type 0 where
+  pub form : HasOneForm (has_groups tree.version) tree
+  pub infiniband : HasNoInfiniband tree
+  pub rows : length tree.typemap ≡ slice_index tree.nprims 3
 
-one-form : (grouped : Bool) (tree : Tree) → shape_of_list (not grouped) tree.nametrans NAMETRANS_COUNT ≡ None → shape_of_list grouped tree.namegroup NAMEGROUP_COUNT ≡ None → HasOneForm grouped tree
+pub one-form : (grouped : Bool) (tree : Tree) → shape_of_list (not grouped) tree.nametrans NAMETRANS_COUNT ≡ None → shape_of_list grouped tree.namegroup NAMEGROUP_COUNT ≡ None → HasOneForm grouped tree
 one-form true tree entries groups = list-empty false tree.nametrans NAMETRANS_COUNT entries refl
 one-form false tree entries groups = list-empty false tree.namegroup NAMEGROUP_COUNT groups refl
 
@@ -121,7 +121,7 @@ ends-either : (b : Bool) (f : Fault) (n m : ℕ) → n ≡ m → Finds (λ (u : 
 ends-either true f n m e = tt
 ends-either false f n m e = (tt, e)
 
-end-found : (d : Field) → FindsAgain (end_at d) (λ ended. Unit {0}) []
+pub end-found : (d : Field) → FindsAgain (end_at d) (λ ended. Unit {0}) []
 unfolding end_at
 end-found d = record { finds = λ before after. ends-either _ _ (length before) (length before + 0) (omega arith) }
 

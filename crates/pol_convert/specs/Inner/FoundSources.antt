@@ -9,6 +9,6 @@ use Rattle.pol_bitmap.specs.Nodes.{has_bit}
 abbrev pub source_of_bit : List Node → ℕ → Option ℕ
 source_of_bit declared bit = if has_bit declared (bit + 1) then Some (bit + 1) else None
 
--- those of bits
+-- the declared values of some bits
 abbrev pub found_sources : List Node → List ℕ → List ℕ
 found_sources declared bits = flat_map (λ bit. option_to_list (source_of_bit declared bit)) bits
