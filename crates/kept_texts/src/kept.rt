@@ -9,8 +9,8 @@ use std::marker::Model;
 // How many texts are kept at most.
 const SLOTS: usize = 4096;
 
-// How long a text may be that is kept.
-const LONGEST: usize = 8192;
+// How many bytes the texts that are kept have at most, all together.
+const ROOM: usize = 16_777_216;
 
 /// A pair of numbers.
 #[derive(Clone, Copy, PartialEq, Eq)]
@@ -36,12 +36,14 @@ pub struct KeptText {
     pub text: Vec<u8>,
 }
 
-/// Texts of pairs of numbers: 4,096 at most, none of more than 8,192 bytes. A text takes the place of another. Contracts see the slots in
-/// which they are kept.
+/// Texts of pairs of numbers: 4,096 at most, of 16 MiB together. A text takes the place of another. Contracts see the slots in which they
+/// are kept.
 #[derive(Drop)]
 pub struct KeptTexts {
     alloc: Global,
     slots: Vec<Option<KeptText>>,
+    // How many bytes more may be kept.
+    room: usize,
 }
 
 impl Model for KeptTexts {
@@ -61,7 +63,11 @@ impl KeptTexts {
         ensures { (text : ℕ → ℕ → List ℕ) → IfOk result (AreTexts text) }
     {
         let slots = empty_slots(alloc)?;
-        Ok(KeptTexts { alloc, slots })
+        Ok(KeptTexts {
+            alloc,
+            slots,
+            room: ROOM,
+        })
     }
 
     /// The text of a pair, where it is kept.
@@ -72,14 +78,17 @@ impl KeptTexts {
         text_in(&self.slots[pair.slot()], pair)
     }
 
-    /// Keeps the text of a pair, unless it is long.
+    /// Keeps the text of a pair, where there is room for it.
     pub fn keep(&mut self, from: u32, to: u32, text: &[u8]) -> Result<(), AllocError>
         ensures { (text_of : ℕ → ℕ → List ℕ) → text.now ≡ text_of from to → AreTexts text_of self.old → AreTexts text_of self.new }
     {
-        if text.len() > LONGEST {
+        let pair = Pair { from, to };
+        let freed = len_in(&self.slots[pair.slot()]);
+        let room = self.room.saturating_add(freed);
+        if text.len() > room {
             return Ok(());
         }
-        let pair = Pair { from, to };
+        self.room = room - text.len();
         let text = Vec::from_slice(self.alloc, text)?;
         self.slots[pair.slot()] = Some(KeptText { pair, text });
         Ok(())
@@ -96,6 +105,14 @@ fn empty_slots(alloc: Global) -> Result<Vec<Option<KeptText>>, AllocError>
         slots.push(None)?;
     }
     Ok(slots)
+}
+
+// The number of bytes that a slot keeps.
+fn len_in(slot: &Option<KeptText>) -> usize {
+    match slot {
+        Some(kept) => kept.text.len(),
+        None => 0,
+    }
 }
 
 // The text in a slot, where it is that of a pair.

@@ -1,9 +1,9 @@
 -- A walk goes on from its last node.
-use Rattle.std.proofs.Common.{◌≡◌, ◌≢◌, ◌⊎◌, inl, inr, ℕ, zero, suc, ◌+◌, ◌-◌, ◌<◌, ◌≤◌, Bool, true, false, not, ◌==◌, List, [], ◌∷◌, ◌++◌, length, map, take, drop, refl, sym, ap, subst, ◌∙◌, arith, append_assoc, append-nil, length-append, drop-cons, eq-eqb}
+use Rattle.std.proofs.Common.{◌≡◌, ◌≢◌, inl, inr, ℕ, zero, suc, ◌+◌, ◌-◌, ◌<◌, ◌≤◌, Bool, true, false, not, ◌==◌, List, [], ◌∷◌, ◌++◌, length, map, take, drop, refl, sym, ap, subst, ◌∙◌, arith, append_assoc, length-append, drop-cons, eq-eqb}
 use Rattle.std.specs.Prelude.{slice_index}
 use Rattle.std.specs.List.{Contains, list_any, filter}
 use Rattle.walk_enum.proofs.Elements.{not_in_nothing, from_flat, from_map}
-use Rattle.std.proofs.lemmas.List.{take_more, drop_all, take-append-drop, get_or_default}
+use Rattle.std.proofs.lemmas.List.{take_more, drop_all}
 use Rattle.std.proofs.Math.Seq.{get_or-append_seam, take-length}
 use Rattle.walk_enum.specs.Inner.Turns.{Follows, IsLast}
 use Rattle.walk_simple.specs.SimpleWalks.{is_new, simple_along}

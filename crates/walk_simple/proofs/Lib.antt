@@ -4,4 +4,5 @@ pub mod Covering
 pub mod Settling
 pub mod Searching
 pub mod Going
+pub mod Ending
 pub mod Telling

@@ -1,6 +1,6 @@
 -- From one simple walk to the next.
-use Rattle.std.proofs.Common.{◌≡◌, inl, inr, ℕ, zero, suc, ◌+◌, ◌<◌, ◌≤◌, Bool, true, false, cond, ◌==◌, List, [], ◌∷◌, ◌++◌, length, map, drop, refl, sym, ap, subst, ◌∙◌, arith, append_assoc, append-nil}
-use Rattle.std.specs.List.{Contains, filter, flat_map}
+use Rattle.std.proofs.Common.{◌≡◌, inl, inr, ℕ, suc, true, false, ◌==◌, List, [], ◌∷◌, ◌++◌, map, sym, ap, ◌∙◌, append_assoc, append-nil}
+use Rattle.std.specs.List.{Contains}
 use Rattle.std.proofs.lemmas.List.{map-append}
 use Rattle.walk_enum.specs.Inner.Turns.{Follows, IsLast}
 use Rattle.walk_simple.specs.SimpleWalks.{is_new, simple_along}

@@ -1,5 +1,5 @@
 // Rows of nodes, and of numbers of nodes, looked up by a node.
-ghost use Rattle.std.specs.Prelude.{◌≡◌, ◌++◌, ◌∷◌, ℕ, [], Contains, IfOk, length, slice_index};
+ghost use Rattle.std.specs.Prelude.{◌≡◌, ◌++◌, ◌∷◌, ◌↔◌, ℕ, [], Contains, IfOk, IsTrue, drop, length, slice_index};
 ghost use Rattle.std.specs.List.Sorted.{IsStrictlyIncreasing};
 ghost use Rattle.walk_enum.specs.Inner.Turns.{row_of};
 ghost use Rattle.walk_simple.specs.Inner.Tables.{IsBehind};
@@ -64,6 +64,17 @@ pub fn number_at(numbers: &[u32], node: u32) -> u32
     match numbers.get(node as usize) {
         Some(number) => *number,
         None => 0,
+    }
+}
+
+/// Whether a row has a node from a place on.
+pub fn has_from(row: &[u32], first: usize, node: u32) -> bool
+    requires { IsStrictlyIncreasing row.now }
+    ensures { IsTrue result ↔ Contains (drop first row.now) node }
+{
+    match row.binary_search(&node) {
+        Ok(place) => first <= place,
+        Err(_) => false,
     }
 }
 

@@ -91,7 +91,9 @@ impl Simple {
     ///
     /// A node is entered only where the target is near enough to be reached from it in the steps that are left. How long
     /// this takes is left open all the same: where each way from there to the target meets a node that the walk already
-    /// has, that part of the graph is gone through before it is given up.
+    /// has, that part of the graph is gone through before it is given up. At worst the source has one successor, which
+    /// leads to the target and into such a part: where each node of it has three successors in it, the time after the
+    /// first walk grows threefold with each step more.
     pub fn next_walk(&self, walk: &mut SimpleWalk) -> bool
         requires there { Contains self.now.walks walk.old.nodes }
         requires room { self.now.most + 1 ≤ walk.old.room }

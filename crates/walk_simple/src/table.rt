@@ -5,7 +5,7 @@ ghost use Rattle.walk_simple.specs.SimpleWalks.{simple_along};
 ghost use Rattle.walk_simple.specs.Inner.Tables.{IsTable, GoesOn, GoesFrom, walks_over, ways_at};
 
 use crate::path::Path;
-use crate::row::{Row, nodes_at, number_at, place_behind};
+use crate::row::{Row, has_from, nodes_at, number_at, place_behind};
 
 /// The successors of the nodes, a number for each that is no more than its steps to the target, and the target.
 #[derive(Drop)]
@@ -33,6 +33,21 @@ impl Table {
         self.enter(walk, left - 1, 0)
     }
 
+    // Goes on over the target, where it is one of the successors of the last node from a place on: no other is near enough
+    // with one step left.
+    fn close(&self, walk: &mut Path, first: usize) -> bool
+        requires table { IsTable self.now.rows.items self.now.far.items self.now.to }
+        requires some { 0 < length walk.old.nodes }
+        requires room { length walk.old.nodes < walk.old.room }
+        ensures { GoesOn (λ used a. walks_over (row_of self.now.rows.items) self.now.to 0 (drop first (row_of self.now.rows.items a)) used a) walk.old walk.new result }
+    {
+        if !has_from(nodes_at(&self.rows, walk.last()), first, self.to) || walk.has(self.to) {
+            return false;
+        }
+        walk.push(self.to);
+        true
+    }
+
     // Goes on over one of the successors of the last node, from a place on.
     #[cycle(descend)]
     fn enter(&self, walk: &mut Path, left: u32, first: usize) -> bool
@@ -41,6 +56,9 @@ impl Table {
         requires room { length walk.old.nodes + left < walk.old.room }
         ensures { GoesOn (λ used a. walks_over (row_of self.now.rows.items) self.now.to left (drop first (row_of self.now.rows.items a)) used a) walk.old walk.new result }
     {
+        if left == 0 {
+            return self.close(walk, first);
+        }
         let row = nodes_at(&self.rows, walk.last());
         for place in first..row.len() {
             if self.step(walk, left, row[place]) {

@@ -1,5 +1,5 @@
 -- What a search from a node has found in so many steps.
-use Rattle.std.specs.Prelude.{◌≡◌, ◌⊎◌, ◌≤◌, ◌<◌, ◌+◌, ℕ, zero, suc, List, [], ◌∷◌, ◌++◌, length, slice_index, Contains}
+use Rattle.std.specs.Prelude.{◌≡◌, ◌⊎◌, ◌≤◌, ◌<◌, ◌+◌, ℕ, zero, suc, List, [], ◌++◌, length, slice_index, Contains}
 use Rattle.walk_enum.specs.Inner.Turns.{row_of}
 use Rattle.walk_enum.specs.Inner.Exploring.{some_count}
 

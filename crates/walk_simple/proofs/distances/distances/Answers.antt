@@ -1,4 +1,4 @@
-use Rattle.std.proofs.Common.{◌≡◌, ◌+◌, ◌∙◌, ℕ, arith, length}
+use Rattle.std.proofs.Common.{◌+◌, ◌∙◌, arith}
 use Rattle.walk_enum.specs.Inner.Turns.{row_of}
 use Rattle.walk_simple.proofs.Settling.{bounds_more}
 use Rattle.walk_simple.proofs.distances.distances.Goals as goal

@@ -1,8 +1,8 @@
-use Rattle.std.proofs.Common.{◌≡◌, ◌<◌, ◌+◌, [], inl, inr, List, ℕ, arith, sym, subst, ap, ◌∙◌, length}
+use Rattle.std.proofs.Common.{◌≡◌, ◌<◌, [], inl, inr, arith, sym, ◌∙◌, length}
 use Rattle.std.specs.Prelude.{slice_index}
 use Rattle.std.proofs.lemmas.List.{get_or_default}
 use Rattle.walk_enum.specs.Inner.Turns.{row_of}
-use Rattle.walk_simple.proofs.Settling.{SettlesTo, settles_new, settles_old, none_near}
+use Rattle.walk_simple.proofs.Settling.{settles_new, settles_old, none_near}
 use Rattle.walk_simple.proofs.distances.settle.Goals.{then-index-steps+then-has_near, else-index-steps, else-index-steps-via-then-index-steps+else-has_near, else-index-steps-via-else-index-steps}
 use Rattle.walk_simple.proofs.distances.settle.Goals as goal
 

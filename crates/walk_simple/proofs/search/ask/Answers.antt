@@ -1,4 +1,4 @@
-use Rattle.std.proofs.Common.{◌≡◌, ℕ, List, subst, sym, ◌∙◌, rules}
+use Rattle.std.proofs.Common.{subst, ◌∙◌}
 use Rattle.pol_bitmap.specs.Nodes.{bits_of}
 use Rattle.pol_bitmap.specs.Sets.{IsSet}
 use Rattle.pol_bitmap.proofs.BitLists.{bits_increasing}

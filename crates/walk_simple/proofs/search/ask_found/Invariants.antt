@@ -1,4 +1,4 @@
-use Rattle.std.proofs.Common.{◌≡◌, ◌≤◌, ◌+◌, length}
+use Rattle.std.proofs.Common.{◌≡◌, ◌+◌}
 use Rattle.walk_enum.specs.Walks.{successors_of}
 use Rattle.walk_simple.specs.Inner.Searching.{Searches, IsGrown}
 use Rattle.walk_simple.proofs.search.ask_found.Given as goal

@@ -1,6 +1,5 @@
-use Rattle.std.proofs.Common.{◌≡◌, ◌+◌, ◌++◌, ◌∷◌, [], ℕ, List, arith, ap, sym, subst, ◌∙◌, length, set, replicate}
+use Rattle.std.proofs.Common.{◌≡◌, ◌+◌, ◌++◌, ◌∷◌, [], ℕ, List, arith, ap, ◌∙◌, set, replicate}
 use Rattle.walk_enum.specs.Walks.{successors_of}
-use Rattle.walk_simple.specs.Inner.Searching.{Searches, Reaches}
 use Rattle.walk_simple.proofs.Searching.{queue_small, searches_start, reaches_start, reaches_more}
 use Rattle.walk_simple.proofs.search.rows_within.Goals as goal
 

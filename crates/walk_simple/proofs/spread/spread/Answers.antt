@@ -1,7 +1,7 @@
-use Rattle.std.proofs.Common.{◌≡◌, ◌<◌, ◌+◌, ◌∷◌, List, ℕ, suc, arith, sym, subst, ap, ◌∙◌, length, set, get_or, drop, drop-cons, add-one}
+use Rattle.std.proofs.Common.{◌≡◌, ◌<◌, ◌+◌, ◌∷◌, ℕ, arith, sym, ap, ◌∙◌, length, drop, drop-cons, add-one}
 use Rattle.std.specs.Prelude.{slice_index}
 use Rattle.std.proofs.lemmas.List.{get_or_default}
-use Rattle.walk_enum.proofs.Spreading.{SpreadsUpTo, up_to_new, up_to_old, here_within}
+use Rattle.walk_enum.proofs.Spreading.{up_to_new, up_to_old, here_within}
 use Rattle.walk_simple.proofs.spread.spread.Goals.{then-index-eq0+in_ok-push, else-index-eq0}
 use Rattle.walk_simple.proofs.spread.spread.Goals as goal
 

@@ -1,6 +1,4 @@
-use Rattle.std.proofs.Common.{◌≡◌, ◌↔◌, ℕ, List, [], ◌∷◌, sym, subst, ap, ◌∙◌, refl, Some, None, slice_get}
-use Rattle.walk_enum.specs.Inner.Turns.{row_of}
-use Rattle.walk_simple.specs.SimpleWalks.{simple_along}
+use Rattle.std.proofs.Common.{◌≡◌, ℕ, List, [], ◌∷◌, sym, ap, ◌∙◌, refl, Some, slice_get}
 use Rattle.walk_simple.specs.Rooms.{AllWalks}
 use Rattle.walk_simple.proofs.simple.Simple.first_walk.Goals as goal
 

@@ -1,4 +1,4 @@
-use Rattle.std.proofs.Common.{◌≡◌, ℕ, List, [], refl, sym, subst, ap, ◌∙◌, arith}
+use Rattle.std.proofs.Common.{ℕ, List, [], refl, subst, arith}
 use Rattle.std.specs.List.{range_with_len}
 use Rattle.walk_enum.specs.Walks.{successors_of}
 use Rattle.walk_enum.specs.Inner.Turns.{row_of}

@@ -1,9 +1,9 @@
-use Rattle.std.proofs.Common.{◌≡◌, ◌+◌, ◌-◌, ◌<◌, ◌≤◌, suc, ℕ, List, true, false, arith, ap, sym, subst, ◌∙◌, length, drop, take, refl}
+use Rattle.std.proofs.Common.{◌≡◌, ◌+◌, ◌<◌, ℕ, List, arith, ap, sym, subst, ◌∙◌, length, refl}
 use Rattle.std.specs.Prelude.{slice_index}
 use Rattle.std.specs.List.{Contains}
 use Rattle.walk_enum.specs.Inner.Turns.{row_of}
 use Rattle.walk_simple.specs.Inner.Tables.{IsBehind}
-use Rattle.walk_simple.proofs.Going.{Stands, stands, from_end, from_behind, from_turn, cut_is, long_take}
+use Rattle.walk_simple.proofs.Going.{stands, from_end, from_behind, from_turn, long_take}
 use Rattle.walk_simple.proofs.table.Table.+advance.Goals as goal
 
 pub overflow_add-behind : goal.overflow_add-behind
