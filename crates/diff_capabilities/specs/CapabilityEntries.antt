@@ -4,10 +4,10 @@ use Rattle.pol_file.specs.declared.parts.Parts.{Parts}
 use Rattle.info_query.specs.Capabilities.{capability_listing}
 use Rattle.diff_entries.specs.Entries.{Entry}
 
--- that of the capability that is printed with a name: policycap NAME;
+-- the entry of the capability that is printed with a name: policycap NAME;
 unfoldable pub capability_entry : List ℕ → Entry
 capability_entry name = record { key = name ∷ []; parts = []; statement = codes "policycap " ++ name ++ codes ";"; head = codes "policycap " ++ name }
 
--- those of all capabilities of a policy, in the order of their numbers
+-- the entries of all capabilities of a policy, in the order of their numbers
 abbrev pub capability_entries : Parts → List Entry
 capability_entries policy = map capability_entry (capability_listing policy false None)

@@ -29,7 +29,7 @@ impl Model for CapabilityEntries {
 }
 
 impl CapabilityEntries {
-    /// Those of a policy.
+    /// The entries of a policy's capabilities.
     pub fn new(alloc: Global, policy: &Policy<'_>) -> Result<CapabilityEntries, AllocError>
         ensures { IfOk result (λ entries. entries ≡ capability_entries policy.now) }
     {

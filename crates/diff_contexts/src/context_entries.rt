@@ -62,7 +62,7 @@ impl<'p, 'a, R: ComparedEntry, const TABLE: u8> Model for ContextEntries<'p, 'a,
 }
 
 impl<'p, 'a, R: ComparedEntry, const TABLE: u8> ContextEntries<'p, 'a, R, TABLE> {
-    /// Those of these entries, with the names of these symbols.
+    /// The entries of these records, with the names of these symbols.
     pub fn new(
         entries: &'p Records<'a, EntryKind<R, TABLE>>,
         symbols: &'p Symbols<'a>,

@@ -26,7 +26,7 @@ impl<'p, 'a> Model for NodeEntries<'p, 'a> {
 }
 
 impl<'p, 'a> NodeEntries<'p, 'a> {
-    /// Those of both.
+    /// The entries of both kinds of nodes, IPv4 before IPv6.
     pub fn new(
         first: ContextEntries<'p, 'a, NodeRec, OCON_NODE>,
         second: ContextEntries<'p, 'a, Node6Rec, OCON_NODE6>,

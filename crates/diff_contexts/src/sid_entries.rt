@@ -33,7 +33,7 @@ impl<'p, 'a> Model for SidEntries<'p, 'a> {
 }
 
 impl<'p, 'a> SidEntries<'p, 'a> {
-    /// Those of these SIDs, with the names of these symbols.
+    /// The entries of these initial SIDs, with the names of these symbols.
     pub fn new(sids: &'p SidList<'a>, symbols: &'p Symbols<'a>) -> SidEntries<'p, 'a>
         ensures { result ≡ sid_entries symbols.now sids.now }
     {

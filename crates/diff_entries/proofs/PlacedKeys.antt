@@ -36,7 +36,7 @@ module _ {E K : Type 0} (cmp : K → K → Ordering) (key_of : E → K) where
       All-cons (AreWithin first second) (places_of cmp (map key_of first) (map key_of second) key) (map (places_of cmp (map key_of first) (map key_of second)) keys)
       (place_within first key, place_within second key) (each_within first second keys)
 
--- so are those of all keys of the entries of two policies
+-- the places of all keys of the entries of two policies are within their lists
 pub all_within : (first second : List Entry) (all : List Places) → all ≡ paired key_cmp (λ e. e.key) first second → All (AreWithin first second) all
 all_within first second all are = rw are (each_within key_cmp (λ e. e.key) first second (keys_of_both key_cmp (map (λ e. e.key) first) (map (λ e. e.key) second)))
 

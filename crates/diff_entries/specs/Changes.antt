@@ -61,7 +61,7 @@ change_of first second = []
 unfoldable pub change_at : List Part → List Part → ℕ → List ℕ
 change_at first second i = change_of (slice_get first i) (slice_get second i)
 
--- those of all parts, one by one
+-- what all parts of two entries have become, one by one
 abbrev pub changes_text : List Part → List Part → List ℕ
 changes_text first second = flat_map (change_at first second) (range_with_len 0 (length first))
 

@@ -5,7 +5,7 @@ use Rattle.diff_entries.specs.declared.parts.Part.{Part}
 use Rattle.diff_entries.specs.declared.parts.PartValue.{PartValue}
 use Rattle.diff_entries.specs.declared.parts.PartValue.TheVariants.{Names, Form}
 
--- the same names, in the same order
+-- two lists have equal names, in one order
 abbrev pub same_names : List (List ℕ) → List (List ℕ) → Bool
 same_names = pointwise (pointwise ◌==◌)
 
@@ -18,7 +18,7 @@ same_value a b = false
 abbrev pub same_part : Part → Part → Bool
 same_part a b = same_value a.value b.value
 
--- so are the parts of two entries, one by one
+-- the parts of two entries are the same, one by one
 abbrev pub same_parts : List Part → List Part → Bool
 same_parts [] [] = true
 same_parts (a ∷ parts) (b ∷ others) = same_part a b && same_parts parts others

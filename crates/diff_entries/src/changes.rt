@@ -119,8 +119,8 @@ fn push_text_change(buffer: &mut Vec<u8>, first: &Text, second: &Text) -> Result
     buffer.extend_from_slice(b"]")
 }
 
-// Adds the names that one of two sets has alone.
-fn push_set_change(
+/// Adds the names that one of two sets has alone.
+pub fn push_set_change(
     buffer: &mut Vec<u8>,
     first: &NameSet<'_>,
     second: &NameSet<'_>,

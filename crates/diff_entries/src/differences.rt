@@ -42,7 +42,7 @@ impl<E: Entries + Drop> Model for Differences<E> {
 }
 
 impl<E: Entries + Drop> Differences<E> {
-    /// Those from the first entries to the second.
+    /// The differences from the first entries to the second.
     pub fn new(alloc: Global, first: E, second: E) -> Result<Differences<E>, AllocError>
         ensures { IfOk result (λ differences. differences ≡ entry_differences (E.entries first) (E.entries second)) }
     {
@@ -91,7 +91,7 @@ fn paired_keys<E: Entries>(alloc: Global, first: &E, second: &E) -> Result<Vec<P
     pair_up(alloc, first_keys, second_keys)
 }
 
-// Those of these places at which the entries differ.
+// The places of these at which the entries differ.
 fn differing<E: Entries>(
     alloc: Global,
     first: &E,

@@ -20,6 +20,7 @@ mod laws;
 mod names;
 mod parts;
 
+pub use changes::push_set_change;
 pub use differences::Differences;
 pub use entries::Entries;
 pub use keys::{Key, Text};

@@ -76,7 +76,7 @@ fn one_group<'a>(alloc: Global, group: NameSet<'a>) -> Result<FormGroups<'a>, Al
 }
 
 /// The name of a value of a table, and the empty one where it has none.
-pub(crate) fn name_or_none<'a>(symbols: &Symbols<'a>, table: TableKind, value: u32) -> &'a [u8]
+pub fn name_or_none<'a>(symbols: &Symbols<'a>, table: TableKind, value: u32) -> &'a [u8]
     ensures { result.now ≡ name_or_none symbols.now table value }
 {
     match symbols.name_of(table, value) {

@@ -10,4 +10,6 @@ mod contexts;
 mod entry_parts;
 
 pub use contexts::context_part;
-pub use entry_parts::{level_part, names_part, one_part, push_named, range_part, word_part};
+pub use entry_parts::{
+    level_part, name_or_none, names_part, one_part, push_named, range_part, word_part,
+};

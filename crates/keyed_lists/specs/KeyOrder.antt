@@ -22,7 +22,7 @@ abbrev pub keys_in_order : {K : Type 0} → (K → K → Ordering) → List K �
 keys_in_order cmp [] = []
 keys_in_order cmp (key ∷ keys) = with_key cmp key (keys_in_order cmp keys)
 
--- those of two lists
+-- the keys of two lists in order, each once
 abbrev pub keys_of_both : {K : Type 0} → (K → K → Ordering) → List K → List K → List K
 keys_of_both cmp first second = keys_in_order cmp (first ++ second)
 
@@ -30,6 +30,6 @@ keys_of_both cmp first second = keys_in_order cmp (first ++ second)
 abbrev pub place_in : {K : Type 0} → (K → K → Ordering) → List K → K → Option ℕ
 place_in cmp keys key = position_from (λ other. is_eq (cmp other key)) 0 keys
 
--- and in both lists
+-- the first places of a key in two lists
 abbrev pub places_of : {K : Type 0} → (K → K → Ordering) → List K → List K → K → Places
 places_of cmp first second key = record { first = place_in cmp first key; second = place_in cmp second key }

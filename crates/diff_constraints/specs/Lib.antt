@@ -1,0 +1,3 @@
+pub mod StatedConstraints
+pub mod ConstraintDifferences
+pub mod Inner

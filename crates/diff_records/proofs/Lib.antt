@@ -1,0 +1,4 @@
+pub mod NumberedRecords
+pub mod SpacedNames
+pub mod ListedRecords
+pub mod GenfsPlaces

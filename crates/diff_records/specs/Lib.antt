@@ -1,0 +1,6 @@
+pub mod PropertyEntries
+pub mod ClassEntries
+pub mod DefaultEntries
+pub mod LevelEntries
+pub mod BoundsEntries
+pub mod GenfsEntries

@@ -1,0 +1,3 @@
+pub mod ListedNumbers
+pub mod RecordTexts
+pub mod AttributeTypes

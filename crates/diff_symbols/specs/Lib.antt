@@ -1,0 +1,2 @@
+pub mod SymbolEntries
+pub mod TypeEntries

@@ -1,0 +1,13 @@
+pub mod Tests
+pub mod Members
+pub mod Orders
+pub mod Values
+pub mod Rows
+pub mod SetFacts
+pub mod FormFacts
+pub mod UnionSteps
+pub mod CountedFacts
+pub mod LeftFacts
+pub mod RowFacts
+pub mod Classes
+pub mod BlockFacts

@@ -1,0 +1,10 @@
+use Rattle.std.proofs.Common.{◌≡◌, IfSome, take}
+use Rattle.std.specs.List.{filter}
+use Rattle.numbered_rules.specs.Forms.{bits_at}
+use Rattle.numbered_rules.specs.NumberedRules.{has}
+use Rattle.numbered_rules.proofs.row.forms_from.Given as goal
+
+abbrev pub invariant-loop-form : goal.invariant-loop-form
+invariant-loop-form l =
+    (l.found.items ≡ filter (λ form. has (bits_at l.pool form.sources) l.source) (take l.form-index l.forms))
+    × IfSome l.known (λ k. k.has ≡ has (bits_at l.pool k.set) l.source)

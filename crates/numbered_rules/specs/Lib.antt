@@ -1,0 +1,3 @@
+pub mod NumberedRules
+pub mod Forms
+pub mod Inner
