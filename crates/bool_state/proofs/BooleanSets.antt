@@ -21,7 +21,7 @@ same_tests false false f g = refl
 in_set : (values : List ℕ) (q : ℕ) → set.contains (set.from_list {R = nat_cmp} values) q ≡ list_any (nat_eq q) values
 in_set values q = set.contains-from_list nat_cmp_total values q ∙ ap (λ (test : ℕ → Bool). list_any test values) (fun_ext (unsigned_tied q))
 
--- and in that of the bits of nodes
+-- whether a boolean is in the set of the bits of nodes
 pub in_nodes : (on : List Node) → is_in on ≡ set.contains (set.from_list {R = nat_cmp} (bits_of on))
 in_nodes on = fun_ext (λ q. sym (in_set (bits_of on) q))
 

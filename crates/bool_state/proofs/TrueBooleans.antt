@@ -33,7 +33,7 @@ module _ (given : List Given) where
       ap (map (λ (b : Placed BooleanRec). b.value.value)) (filter-append (λ (b : Placed BooleanRec). is_on given b.value) xs ys)
       ∙ map-append (λ (b : Placed BooleanRec). b.value.value) (filter (λ (b : Placed BooleanRec). is_on given b.value) xs) (filter (λ (b : Placed BooleanRec). is_on given b.value) ys)
 
-  -- those so far, and of one more
+  -- the values of the booleans so far, and of one more
   pub values_next : (xs : List (Placed BooleanRec)) (i : ℕ) (x : Placed BooleanRec) (out : List ℕ) → slice_get xs i ≡ Some x → out ≡ values_on given (take i xs) → out ++ values_on given (x ∷ []) ≡ values_on given (take (i + 1) xs)
   values_next xs i x out e h =
       ap (λ (l : List ℕ). l ++ values_on given (x ∷ [])) h ∙ sym (ap (values_on given) (take_then xs i x e) ∙ values_on-append (take i xs) (x ∷ []))

@@ -47,7 +47,7 @@ pub record HasValue (on : Booleans) (items : List ConditionItem) (value : Bool) 
   pub listed : postorder tree ≡ condition_symbols items
   pub truth : value_of (set.contains on) tree ≡ value
 
--- that of the latest of some trees
+-- the value of the latest of some trees
 abbrev pub tree_value : Booleans → List ConditionTree → Bool
 tree_value on [] = false
 tree_value on (t ∷ ts) = value_of (set.contains on) t

@@ -4,7 +4,7 @@ ghost use Rattle.std.specs.Prelude.{◌<◌};
 use crate::answer::Answer;
 use crate::edit::Edit;
 use crate::sweep::Sweep;
-use se_words::Words;
+use se_options::Words;
 use std::alloc::{AllocError, Global};
 
 /// A file of the folder, with edits that are made one after the other.

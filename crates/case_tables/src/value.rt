@@ -6,7 +6,7 @@ use crate::cause::Cause;
 use crate::edit::Edit;
 use crate::sweep::Sweep;
 use crate::text::unescaped;
-use se_words::Words;
+use se_options::Words;
 use std::alloc::Global;
 
 /// A number in decimal digits.

@@ -21,7 +21,7 @@ given_values key (s ∷ ss) = by (eqb (key_number key) (key_number s.key)) (give
     by true rest = refl
     by false rest = rest
 
--- those of the setting that was found
+-- the values of the setting that was found
 pub given_found : (key : CheckKey) (lent settings : List SettingCode) (found : Option SettingCode) → lent ≡ settings → found ≡ find (λ setting. eqb (key_number key) (key_number setting.key)) lent → option_map (λ (s : SettingCode). fields_in s.values.now) found ≡ option_map (λ (s : Setting). s.values) (find (λ setting. eqb (key_number key) (key_number setting.key)) (map setting_of settings))
 given_found key lent settings found same is =
     ap (option_map (λ (s : SettingCode). fields_in s.values.now)) (is ∙ ap (find (λ (s : SettingCode). eqb (key_number key) (key_number s.key))) same) ∙ given_values key settings

@@ -1,4 +1,5 @@
 // A checklist.
+ghost use Rattle.text_rows.specs.declared.limits.TheConstants.{MAX_TEXT_BYTES};
 ghost use Rattle.std.specs.Prelude.{Ok};
 ghost use Rattle.std.specs.List.{fold};
 ghost use Rattle.check_list.specs.Checklists.{after_row, all_ended, nothing};
@@ -49,7 +50,7 @@ impl<'a> CheckList<'a> {
     ///
     /// The last check ends at the line past the last one, blank lines and comments counted.
     pub fn read(alloc: Global, bytes: &'a [u8]) -> Result<CheckList<'a>, ListError>
-        requires { length bytes.now ≤ 4194304 }
+        requires { length bytes.now ≤ MAX_TEXT_BYTES }
         ensures { Answers (list_of bytes.now) result }
     {
         let mut rows = Rows::new(bytes);

@@ -26,7 +26,7 @@ pub values_none : (on : Booleans) → node_values on [] ≡ []
 unfolding node_values
 values_none on = refl
 
--- those so far, and of one more
+-- the values of the nodes so far, and of one more
 pub values_next : (on : Booleans) (nodes : List (Placed CondNodeRec)) (i : ℕ) (condition : Placed ConditionRec) (value : Bool) (out : List Bool) → option_map node_condition (slice_get nodes i) ≡ Some condition → value ≡ condition_value on condition.value.items → out ≡ node_values on (take i nodes) → out ++ value ∷ [] ≡ node_values on (take (i + 1) nodes)
 unfolding node_values
 values_next on nodes i condition value out at is sofar =

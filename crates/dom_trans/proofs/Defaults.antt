@@ -155,7 +155,7 @@ defaults_by_target rules a b numbers found to is = record {
   );
 }
 
--- those are rules
+-- the rules to a domain are rules of the policy
 pub to_are_rules : (rules : Counted) (b : ℕ) (numbers : List ℕ) → numbers ≡ rules_to rules b → AreRules rules.policy numbers
 to_are_rules rules b numbers to = subst (AreRules rules.policy) (sym to) (All-filter (has_default rules.policy b) (λ (n : ℕ). n < length (stored_rules rules.policy)) (default_rules rules) (defaults_are_rules rules))
 

@@ -71,7 +71,7 @@ turned false true false = refl
 turned false false true = refl
 turned false false false = refl
 
--- those from which it starts the domain by default
+-- the entry points from which a process starts the domain by default
 pub points_started : (rules : Counted) (a b : ℕ) (starts executable : List ℕ) → starts ≡ starts_to rules a b → executable ≡ filter (any_joins rules.policy (granting_rules rules file execute) a) starts
     → filter (any_joins rules.policy (granting_rules rules file entrypoint) b) executable ≡ default_points rules a b
 unfolding starts_to default_points

@@ -102,7 +102,7 @@ named_class symbols class name rule e = go (value_in symbols Classes class) e
     go None e = absurd (false≢true e)
     go (Some value) e = of_value value (permission_value_in symbols value name) e
 
--- so is one that sets a default
+-- a rule that sets a default is of the class
 default_class : (class : Option ℕ) (rule : StoredRule) → sets_default class rule ≡ true → is_value class rule.class ≡ true
 default_class class rule e = go rule.kind e
   where

@@ -42,6 +42,6 @@ abbrev pub part_has_default : ℕ → RulePart → Bool
 part_has_default type (Default value) = value == type
 part_has_default type part = false
 
--- so is that of the rule of a number
+-- the default type of the rule of a number is that one
 unfoldable pub has_default : Parts → ℕ → ℕ → Bool
 has_default policy type number = rule_passes policy (λ rule. part_has_default type rule.part) number

@@ -12,7 +12,7 @@ use Rattle.dom_trans.specs.Transitions.{defaults_between, entries, is_standard, 
 abbrev pub grants_between : Counted → ℕ → ℕ → List ℕ → List ℕ → List ℕ
 grants_between rules source target class name = rules_between rules.policy (granting_rules rules class name) source target
 
--- those of an entry type
+-- the reasons of an entry type
 unfoldable pub entry_reason : Counted → ℕ → ℕ → ℕ → EntryReason
 entry_reason rules a b entry = record {
   entry = entry;

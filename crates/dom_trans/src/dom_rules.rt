@@ -25,7 +25,7 @@ use std::marker::Model;
 /// The rules of a policy that transitions rest on, by what they grant. Contracts see which rules count.
 #[derive(Drop)]
 pub struct DomRules<'p> {
-    // Those that count.
+    // The rules that count.
     pub(crate) rules: CountedRules<'p>,
     pub(crate) types: &'p TypeMap,
     // One for each grant, in their order.

@@ -39,7 +39,7 @@ below g xs ys within = by (greatest (map g xs)) refl
 equal : (a b : ℕ) → a ≤ b → b ≤ a → a ≡ b
 equal a b h k = omega arith
 
--- those that give a flow at least a weight, in their order, have the greatest of all, where there are any
+-- the rules that give a flow at least a weight, in their order, have the greatest weight of all, where there are any
 given_greatest : (weights : Weights) (rules : Counted) (least from to number : ℕ) → 1 ≤ least → Contains (in_rule_order rules.policy (filter (gives_least weights rules.policy least from to) (counted_numbers rules))) number → greatest (map (given_by weights rules.policy from to) (in_rule_order rules.policy (filter (gives_least weights rules.policy least from to) (counted_numbers rules)))) ≡ greatest (map (given_by weights rules.policy from to) (counted_numbers rules))
 given_greatest weights rules least from to number some there =
     let g = given_by weights rules.policy from to in

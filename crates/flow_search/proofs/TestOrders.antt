@@ -135,7 +135,7 @@ ahead_tests false false false false true false = refl
 ahead_tests false false false false false true = refl
 ahead_tests false false false false false false = refl
 
--- the same back
+-- the order of the tests of a flow back
 pub back_tests : (tn to same xn xo flow : Bool) → ((to && tn && not same) && ((to && tn && not same) && flow) && not xo && not xn) ≡ ((tn && not xn) && ((not same && (to && not xo)) && flow))
 back_tests true true true true true true = refl
 back_tests true true true true true false = refl

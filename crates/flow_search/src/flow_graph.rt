@@ -37,7 +37,7 @@ pub struct FlowGraph<'p> {
     least: u8,
     // The rules that count and flow from the source to the target at least the weight.
     out: RulesByEnd<'p>,
-    // Those that flow from the target to the source at least the weight.
+    // The rules that flow from the target to the source at least the weight.
     into: RulesByEnd<'p>,
     excluded: Set,
     // The types that may be an end of an edge.

@@ -19,7 +19,7 @@ pub pieces_more : {A B : Type 0} (f : Placed A → List B) (records : List (Plac
     → flat_map f (records_at records (take i numbers)) ++ flat_map f (records_at records (get_or numbers i d ∷ [])) ≡ flat_map f (records_at records (take (i + 1) numbers))
 pieces_more f records numbers i d lt = rw (records_more records numbers i d lt, flat_map-append f (records_at records (take i numbers)) (records_at records (get_or numbers i d ∷ []))) refl
 
--- those that pass a test
+-- the records that pass a test
 pub passing_more : {A : Type 0} (p : Placed A → Bool) (records : List (Placed A)) (numbers : List ℕ) (i d : ℕ) (x : Placed A) → i < length numbers → slice_get records (get_or numbers i d) ≡ Some x
     → filter p (records_at records (take i numbers)) ++ filter p (x ∷ []) ≡ filter p (records_at records (take (i + 1) numbers))
 passing_more p records numbers i d x lt e = rw (records_more records numbers i d lt, filter-append p (records_at records (take i numbers)) (records_at records (get_or numbers i d ∷ []))) (rw e refl)

@@ -55,6 +55,6 @@ entries_of kind class = map (λ constraint. record { class = class; constraint =
 abbrev pub entries_in : ConstraintKind → List (Placed ClassRec) → List ConstraintEntry
 entries_in kind classes = flat_map (entries_of kind) classes
 
--- those of all classes in the order of the classes' names, or of the class that a name finds, if it finds one
+-- the constraints of all classes in the order of the classes' names, or of the class that a name finds, if it finds one
 unfoldable pub constraint_listing : Symbols → ConstraintKind → Option (List ℕ) → Option (List (List ℕ))
 constraint_listing symbols kind name = option_map (λ classes. map (constraint_line symbols kind) (entries_in kind classes)) (classes_listed symbols name)

@@ -62,6 +62,6 @@ entries_of class = map (λ kind. record { class = class; kind = kind }) (filter 
 abbrev pub entries_in : List (Placed ClassRec) → List DefaultEntry
 entries_in classes = flat_map entries_of classes
 
--- those of all classes in the order of the classes' names, or of the class that a name finds, if it finds one
+-- the defaults of all classes in the order of the classes' names, or of the class that a name finds, if it finds one
 unfoldable pub default_listing : Symbols → Option (List ℕ) → Option (List (List ℕ))
 default_listing symbols name = option_map (λ classes. map default_line (entries_in classes)) (classes_listed symbols name)

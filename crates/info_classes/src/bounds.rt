@@ -31,7 +31,7 @@ impl<'p, 'a> Model for BoundsLines<'p, 'a> {
 }
 
 impl<'p, 'a> BoundsLines<'p, 'a> {
-    // Those of all bounded types.
+    // The bounds of all bounded types.
     #[tactic(auto, unfolding(crate::specs::BoundsLines::bounds_listing))]
     fn new(alloc: Global, symbols: &'p Symbols<'a>) -> Result<BoundsLines<'p, 'a>, AllocError>
         ensures { IfOk result (λ lines. lines ≡ bounds_listing symbols.now) }
@@ -80,7 +80,7 @@ fn bounded_types<'a>(alloc: Global, symbols: &Symbols<'a>) -> Result<Vec<TypeVie
     bounded_among(alloc, symbols, &numbers)
 }
 
-// Those of these numbers.
+// The bounded types among the records of these numbers.
 fn bounded_among<'a>(
     alloc: Global,
     symbols: &Symbols<'a>,

@@ -27,7 +27,7 @@ pub struct ConstraintEntry<'a> {
 }
 
 /// The constraints of a kind of the classes of these numbers, in file order within a class.
-pub(crate) fn constraint_entries<'a>(
+pub fn constraint_entries<'a>(
     alloc: Global,
     symbols: &Symbols<'a>,
     kind: ConstraintKind,

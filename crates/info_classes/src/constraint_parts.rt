@@ -22,7 +22,7 @@ use std::alloc::AllocError;
 
 /// Adds the line of a constraint of a kind, whose expression has the text that is given, if one is.
 #[tactic(auto, unfolding(crate::specs::ConstraintLines::constraint_line))]
-pub(crate) fn push_constraint(
+pub fn push_constraint(
     buffer: &mut Vec<u8>,
     symbols: &Symbols<'_>,
     kind: ConstraintKind,
@@ -50,8 +50,8 @@ fn push_mls_word(buffer: &mut Vec<u8>, items: ConstraintItems<'_>) -> Result<(),
     }
 }
 
-// Whether one of these items compares levels.
-fn some_compares_levels(items: ConstraintItems<'_>) -> bool
+/// Whether one of these items compares levels.
+pub fn some_compares_levels(items: ConstraintItems<'_>) -> bool
     ensures { result ≡ list_any compares_levels items.entry }
 {
     for item in items {
@@ -108,9 +108,9 @@ fn push_subject(
     }
 }
 
-// Adds the set of the permissions of a class whose bits are set.
+/// Adds the set of the permissions of a class whose bits are set.
 #[tactic(auto, unfolding(info_lines::specs::PermissionSets::permissions_text))]
-fn push_permissions(
+pub fn push_permissions(
     buffer: &mut Vec<u8>,
     symbols: &Symbols<'_>,
     class: &ClassView<'_>,

@@ -38,7 +38,7 @@ impl<'p, 'a> Model for ConstraintLines<'p, 'a> {
 }
 
 impl<'p, 'a> ConstraintLines<'p, 'a> {
-    // Those of a kind of the classes of these numbers.
+    // The constraints of a kind of the classes of these numbers.
     fn new(
         alloc: Global,
         symbols: &'p Symbols<'a>,
@@ -74,7 +74,7 @@ impl<'p, 'a> EntryText for ConstraintLines<'p, 'a> {
     }
 }
 
-// Those of a kind of the classes of these numbers, one after the other.
+// The constraints of a kind of the classes of these numbers, one after the other.
 fn lines_of_classes<'p, 'a>(
     alloc: Global,
     symbols: &'p Symbols<'a>,

@@ -26,7 +26,7 @@ pub struct DefaultEntry<'a> {
 }
 
 /// The defaults that the classes of these numbers have. Those of a class are in the order user, role, type, range.
-pub(crate) fn default_entries<'a>(
+pub fn default_entries<'a>(
     alloc: Global,
     symbols: &Symbols<'a>,
     numbers: &[u32],

@@ -28,7 +28,7 @@ impl<'a> Model for DefaultLines<'a> {
 }
 
 impl<'a> DefaultLines<'a> {
-    // Those of the classes of these numbers.
+    // The defaults of the classes of these numbers.
     fn new(
         alloc: Global,
         symbols: &Symbols<'a>,
@@ -110,7 +110,7 @@ fn range_words(default: u32) -> &'static [u8]
     }
 }
 
-// Those of the classes of these numbers, one after the other.
+// The defaults of the classes of these numbers, one after the other.
 fn lines_of_classes<'a>(
     alloc: Global,
     symbols: &Symbols<'a>,

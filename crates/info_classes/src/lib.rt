@@ -14,7 +14,8 @@ mod defaults;
 mod expression_texts;
 
 pub use bounds::{BoundsLines, bounds_lines};
-pub use constraint_entry::{ConstraintEntry, ConstraintKind};
+pub use constraint_entry::{ConstraintEntry, ConstraintKind, constraint_entries};
+pub use constraint_parts::{push_constraint, push_permissions, some_compares_levels};
 pub use constraints::{ConstraintLines, constraint_lines};
-pub use default_entry::{DefaultEntry, DefaultKind};
+pub use default_entry::{DefaultEntry, DefaultKind, default_entries};
 pub use defaults::{DefaultLines, default_lines};

@@ -18,6 +18,6 @@ fsuse_line named entry =
 abbrev pub fsuse_listing : Symbols → List (Placed FsUseRec) → List (List ℕ)
 fsuse_listing symbols entries = map (λ entry. fsuse_line (name_in symbols) entry.value) entries
 
--- those of the file systems of the given name
+-- the lines of the file systems of the given name
 abbrev pub fsuse_listing_of : Symbols → Option (List ℕ) → List (Placed FsUseRec) → List (List ℕ)
 fsuse_listing_of symbols name entries = fsuse_listing symbols (of_name (λ entry. entry.value.name) name entries)

@@ -8,7 +8,7 @@ abbrev pub is_asked : Option (List ℕ) → List ℕ → Bool
 is_asked None other = true
 is_asked (Some name) other = bytes_eq other name
 
--- those entries, in the order of the list
+-- the entries that a name asks for, in the order of the list
 abbrev pub of_name : {A : Type 0} → (A → List ℕ) → Option (List ℕ) → List A → List A
 of_name name_of name entries = filter (λ entry. is_asked name (name_of entry)) entries
 

@@ -17,6 +17,6 @@ netif_line named interface =
 abbrev pub netif_listing : Symbols → List (Placed NamedRec) → List (List ℕ)
 netif_listing symbols interfaces = map (λ interface. netif_line (name_in symbols) interface.value) interfaces
 
--- those of the interfaces of the given name
+-- the lines of the interfaces of the given name
 abbrev pub netif_listing_of : Symbols → Option (List ℕ) → List (Placed NamedRec) → List (List ℕ)
 netif_listing_of symbols name interfaces = netif_listing symbols (of_name (λ interface. interface.value.name) name interfaces)

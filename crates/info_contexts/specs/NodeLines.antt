@@ -24,6 +24,6 @@ node6_line named node = codes "nodecon " ++ masked6_text node.address node.mask 
 abbrev pub node_listing : Symbols → List (Placed (AddressRec 4)) → List (List ℕ)
 node_listing symbols nodes = map (λ node. node_line (name_in symbols) node.value) nodes
 
--- the same of IPv6
+-- one line for each entry of IPv6, in file order
 abbrev pub node6_listing : Symbols → List (Placed (AddressRec 16)) → List (List ℕ)
 node6_listing symbols nodes = map (λ node. node6_line (name_in symbols) node.value) nodes

@@ -17,6 +17,6 @@ sid_line true named sid = codes "sid " ++ sid_name sid.sid ++ codes " " ++ conte
 abbrev pub sid_listing : Bool → Symbols → List (Placed SidRec) → List (List ℕ)
 sid_listing expand symbols sids = map (λ sid. sid_line expand (name_in symbols) sid.value) sids
 
--- those of the SIDs that are printed with the given name
+-- the lines of the SIDs that are printed with the given name
 abbrev pub sid_listing_of : Bool → Symbols → Option (List ℕ) → List (Placed SidRec) → List (List ℕ)
 sid_listing_of expand symbols name sids = sid_listing expand symbols (of_name (λ sid. sid_name sid.value.sid) name sids)

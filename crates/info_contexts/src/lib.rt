@@ -24,7 +24,7 @@ mod sid_line;
 mod table_lines;
 
 pub use fsuse_line::FsUseLines;
-pub use genfs_entry::GenfsEntry;
+pub use genfs_entry::{GenfsEntry, genfs_entries};
 pub use genfs_line::GenfsLines;
 pub use ibendport_line::IbEndPortLines;
 pub use ibpkey_line::IbPkeyLines;

@@ -23,7 +23,7 @@ use Rattle.info_symbols.specs.TypeListings.{set_numbers}
 abbrev pub flavour_count : Flavour → List (Placed TypeRec) → ℕ
 flavour_count flavour records = count_by (λ t. is_flavour flavour (flavour_of t.value.properties)) records
 
--- those of a table that are no aliases
+-- how many records of a table are no aliases
 abbrev pub primary_count : {A : Type 0} → (A → Bool) → List (Placed A) → ℕ
 primary_count is_primary records = count_by (λ r. is_primary r.value) records
 

@@ -19,14 +19,14 @@ is_alias_of is_primary value_of value r = not (is_primary r.value) && nat_eq (va
 unfoldable pub aliases_among : {A : Type 0} → (A → List ℕ) → (A → Bool) → (A → ℕ) → List (Placed A) → ℕ → List (List ℕ)
 aliases_among name_of is_primary value_of records value = map (λ r. name_of r.value) (filter (is_alias_of is_primary value_of value) records)
 
--- those of a table, in the order of its list: the other tables have none
+-- the aliases of a value in a table, in the order of its list: the other tables have none
 abbrev pub aliases_in : Symbols → TableKind → ℕ → List (List ℕ)
 aliases_in symbols Types value = aliases_among (λ t. t.name) (λ t. is_primary_type t.properties) (λ t. t.value) symbols.types.records value
 aliases_in symbols Levels value = aliases_among (λ level. level.name) (λ level. is_primary_flag level.isalias) (λ level. level.sens) symbols.levels.records value
 aliases_in symbols Categories value = aliases_among (λ category. category.name) (λ category. is_primary_flag category.isalias) (λ category. category.value) symbols.categories.records value
 aliases_in symbols table value = []
 
--- the same in the order of their bytes
+-- the aliases of a value in a table, in the order of their bytes
 abbrev pub alias_names : Symbols → TableKind → ℕ → List (List ℕ)
 alias_names symbols table value = in_order (aliases_in symbols table value)
 

@@ -23,19 +23,19 @@ types_text (first ∷ types) = codes " " ++ set_text (first ∷ types)
 abbrev pub statement_text : List ℕ → List (List ℕ) → List ℕ
 statement_text name types = codes "attribute " ++ name ++ types_text types ++ codes ";"
 
--- that of a record, with the names of the types that its value expands to
+-- the statement of a record, with the names of the types that its value expands to
 unfoldable pub attribute_statement : Parts → TypeRec → List ℕ
 attribute_statement parts t = statement_text t.name (names_of_values parts.symbols Types (expand parts t.value))
 
--- those of all records, in the order of the table's list
+-- the statements of all records, in the order of the table's list
 abbrev pub statement_lines : Parts → List (List ℕ)
 statement_lines parts = map (λ t. attribute_statement parts t.value) parts.symbols.types.records
 
--- those of the primary records of attributes, in the order of their names
+-- the statements of the primary records of attributes, in the order of their names
 unfoldable pub attribute_statement_listing : Parts → List (List ℕ)
 attribute_statement_listing parts = lines_at (statement_lines parts) (set_numbers parts Attributes)
 
--- that of the attribute that a name finds
+-- the statement of the attribute that a name finds
 unfoldable pub attribute_statement_listing_named : Parts → List ℕ → Option (List (List ℕ))
 attribute_statement_listing_named parts name =
     option_map (λ line. line ∷ []) (option_and_then (slice_get (statement_lines parts)) (number_if_in parts Attributes (number_named parts.symbols Types name)))

@@ -11,6 +11,6 @@ use Rattle.info_symbols.specs.SymbolLines.{symbol_lines}
 abbrev pub lines_at : List (List ℕ) → List ℕ → List (List ℕ)
 lines_at lines numbers = filter_map (slice_get lines) numbers
 
--- those of the records that are listed, where the name finds one or none is given
+-- the lines of the records that are listed, where the name finds one or none is given
 unfoldable pub symbol_listing : Symbols → TableKind → Bool → Option (List ℕ) → Option (List (List ℕ))
 symbol_listing symbols table expand name = option_map (lines_at (symbol_lines symbols table expand)) (numbers_listed symbols table name)

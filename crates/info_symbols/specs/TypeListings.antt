@@ -25,7 +25,7 @@ is_in parts PlainTypes t = is_flavour Plain (flavour_of t.properties)
 is_in parts Attributes t = is_flavour Attribute (flavour_of t.properties)
 is_in parts PermissiveTypes t = is_flavour Plain (flavour_of t.properties) && is_permissive parts t.value
 
--- so is the record of a number
+-- the record of a number is in the set
 abbrev pub found_in : Parts → TypeSet → Option (Placed TypeRec) → Bool
 found_in parts set None = false
 found_in parts set (Some t) = is_in parts set t.value
@@ -69,7 +69,7 @@ searched_set PlainTypes = PlainTypes
 searched_set Attributes = Attributes
 searched_set PermissiveTypes = PlainTypes
 
--- those of all of the set, or of a record that a name finds, where the name is known
+-- the numbers of all of the set, or of the record that a name finds, where the name is known
 unfoldable pub set_numbers_listed : Parts → TypeSet → Option (List ℕ) → Option (List ℕ)
 set_numbers_listed parts set None = Some (set_numbers parts set)
 set_numbers_listed parts set (Some name) =

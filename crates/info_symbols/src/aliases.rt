@@ -55,7 +55,7 @@ impl<'a> NameList<'a> {
 /// The names of the aliases of a table, by the values that they stand for. Contracts see a list for each value from 0 on, up to
 /// the greatest that has an alias, each in the order of the table's list.
 #[derive(Drop)]
-pub(crate) struct Aliases<'a> {
+pub struct Aliases<'a> {
     lists: Vec<NameList<'a>>,
 }
 
@@ -69,7 +69,7 @@ impl<'a> Model for Aliases<'a> {
 
 impl<'a> Aliases<'a> {
     /// The aliases of a table, where they are wanted, in one pass over its records.
-    pub(crate) fn new(
+    pub fn new(
         alloc: Global,
         symbols: &Symbols<'a>,
         table: TableKind,
@@ -129,6 +129,13 @@ impl<'a> Aliases<'a> {
         }
         self.lists[place].as_slice()
     }
+
+    /// The names of the aliases of a value, in the order of their bytes.
+    pub fn names(&self, alloc: Global, value: u32) -> Result<Vec<&'a [u8]>, AllocError>
+        ensures { IfOk result (λ names. map (λ name. name.now) names.items ≡ in_order (slice_index_or self.now value [])) }
+    {
+        sorted_names(alloc, self.of(value))
+    }
 }
 
 // The aliases among the records of a table.
@@ -164,14 +171,14 @@ fn add_record<'a, K: Symbol<'a> + Drop>(
 }
 
 /// Adds what a statement says of the aliases of a value.
-pub(crate) fn push_aliases(
+pub fn push_aliases(
     buffer: &mut Vec<u8>,
     aliases: &Aliases<'_>,
     value: u32,
 ) -> Result<(), AllocError>
     ensures { OnOk result (buffer.new.items ≡ buffer.old.items ++ alias_text (in_order (slice_index_or aliases.now value []))) }
 {
-    let names = sorted_names(*buffer.allocator(), aliases.of(value))?;
+    let names = aliases.names(*buffer.allocator(), value)?;
     push_alias_set(buffer, &names)
 }
 

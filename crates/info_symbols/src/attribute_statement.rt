@@ -87,7 +87,7 @@ fn push_statement(
 {
     let attribute = policy.type_record(number);
     let names = names_with(alloc, policy, types, attribute.value())?;
-    push_text(buffer, attribute.name(), &names)
+    push_attribute_statement(buffer, attribute.name(), &names)
 }
 
 // The names of the types that have an attribute, in the order of their bytes.
@@ -106,8 +106,12 @@ fn names_with<'a>(
     names_of_set(alloc, policy.symbols(), types.pool().get(number))
 }
 
-// Adds the statement of an attribute of that name, whose types have these names.
-fn push_text(buffer: &mut Vec<u8>, name: &[u8], types: &[&[u8]]) -> Result<(), AllocError>
+/// Adds the statement of an attribute of that name, whose types have these names.
+pub fn push_attribute_statement(
+    buffer: &mut Vec<u8>,
+    name: &[u8],
+    types: &[&[u8]],
+) -> Result<(), AllocError>
     ensures { OnOk result (buffer.new.items ≡ buffer.old.items ++ statement_text name.now (map (λ name. name.now) types.now)) }
 {
     buffer.extend_from_slice(b"attribute ")?;

@@ -20,6 +20,12 @@ mod type_sets;
 mod type_texts;
 mod user_text;
 
-pub use attribute_statement::{AttributeLines, attribute_statements, attribute_statements_named};
-pub use table_lines::{SymbolLines, symbol_lines};
+pub use aliases::{Aliases, push_aliases};
+pub use attribute_statement::{
+    AttributeLines, attribute_statements, attribute_statements_named, push_attribute_statement,
+};
+pub use permission_sets::permission_names;
+pub use ranked_types::names_of_set;
+pub use table_lines::{SymbolLines, state_word, symbol_lines};
 pub use type_sets::{TypeLines, TypeSet, set_lines, set_number_named, set_numbers};
+pub use type_texts::attribute_names;

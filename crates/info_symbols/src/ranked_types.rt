@@ -24,7 +24,7 @@ struct RankedType {
 }
 
 /// The names of those types of a set that a primary record declares, in the order of their bytes.
-pub(crate) fn names_of_set<'a>(
+pub fn names_of_set<'a>(
     alloc: Global,
     symbols: &Symbols<'a>,
     set: &Set,

@@ -116,8 +116,8 @@ fn push_boolean(buffer: &mut Vec<u8>, boolean: &BooleanView<'_>) -> Result<(), A
     buffer.extend_from_slice(b";")
 }
 
-// The word of the state of a boolean.
-fn state_word(state: u32) -> &'static [u8]
+/// The word of the state of a boolean.
+pub fn state_word(state: u32) -> &'static [u8]
     ensures { result.now ≡ state_word state }
 {
     if state == 1 { b"true" } else { b"false" }

@@ -230,7 +230,7 @@ fn set_numbers_listed(
 }
 
 /// The lines of a set in the order of the names, plain or expanded (attributes are expanded elsewhere), or where a name is given,
-/// those of the record that it finds. `None` exactly where it finds none. A type that is not permissive is found among the
+/// the lines of the record that it finds. `None` exactly where it finds none. A type that is not permissive is found among the
 /// permissive types, and has no line there.
 #[tactic(auto, using(crate::proofs::Listed::set_listed, crate::proofs::Listed::none_of_set, crate::proofs::Listed::have_type_lines))]
 pub fn set_lines<'p, 'a>(

@@ -37,10 +37,20 @@ pub(crate) fn push_type_statement(
 fn push_attributes(buffer: &mut Vec<u8>, policy: &Policy<'_>, value: u32) -> Result<(), AllocError>
     ensures { OnOk result (buffer.new.items ≡ buffer.old.items ++ attributes_text (attribute_names policy.now value)) }
 {
-    let alloc = *buffer.allocator();
-    let values = attributes_of_type(alloc, policy, value)?;
-    let names = names_of_values(alloc, policy.symbols(), TableKind::Types, values)?;
+    let names = attribute_names(*buffer.allocator(), policy, value)?;
     push_after_commas(buffer, &names)
+}
+
+/// The names of the attributes of a type, in the order of their bytes.
+pub fn attribute_names<'a>(
+    alloc: Global,
+    policy: &Policy<'a>,
+    value: u32,
+) -> Result<Vec<&'a [u8]>, AllocError>
+    ensures { IfOk result (λ names. map (λ name. name.now) names.items ≡ attribute_names policy.now value) }
+{
+    let values = attributes_of_type(alloc, policy, value)?;
+    names_of_values(alloc, policy.symbols(), TableKind::Types, values)
 }
 
 // Adds names, with a comma and a space before each.

@@ -80,7 +80,7 @@ Weights = List ℕ → List ℕ → Option (Direction × ℕ)
 abbrev pub is_for : List ℕ → List ℕ → Entry → Bool
 is_for class permission entry = bytes_eq class entry.class && bytes_eq permission entry.permission
 
--- those of the last entry for the class and permission
+-- the direction and the weight of the last entry for the class and permission
 abbrev pub weights_of : List Entry → Weights
 weights_of entries class permission = option_map (λ entry. (entry.direction, entry.weight)) (find (is_for class permission) (reverse entries))
 

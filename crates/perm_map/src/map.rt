@@ -1,4 +1,5 @@
 // The permission map.
+ghost use Rattle.text_rows.specs.declared.limits.TheConstants.{MAX_TEXT_BYTES};
 ghost use Rattle.std.specs.Prelude.{◌≡◌, ◌≤◌, [], length, OnOk};
 ghost use Rattle.perm_map.specs.PermissionMap.{IsMap, entry_of, map_of, weights_of};
 ghost use Rattle.perm_map.specs.Inner.MapReading.{with_entry};
@@ -70,7 +71,7 @@ impl<'a> PermMap<'a> {
     /// A class with too few lines, and a map with too few classes, lacks one at the line past its last one, blank lines and comments
     /// counted. After the last class the first line with fields is too many.
     pub fn read(alloc: Global, bytes: &'a [u8]) -> Result<PermMap<'a>, MapError>
-        requires { length bytes.now ≤ 4194304 }
+        requires { length bytes.now ≤ MAX_TEXT_BYTES }
         ensures { IsMap (map_of bytes.now) result }
     {
         let mut rows = Rows::new(bytes);

@@ -31,7 +31,7 @@ abbrev pub permission_of_class : Symbols → List ℕ → Option ℕ → Option 
 permission_of_class symbols name None = None
 permission_of_class symbols name (Some class) = option_map (λ value. record { class = class; value = value }) (permission_value_in symbols class name)
 
--- those of a permission of a class, by their names; none where the policy lacks one of them
+-- the values of a permission and its class, by their names; none where the policy lacks one of them
 unfoldable pub permission_named : Symbols → List ℕ → List ℕ → Option Permission
 permission_named symbols class name = permission_of_class symbols name (value_in symbols Classes class)
 

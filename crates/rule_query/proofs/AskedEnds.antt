@@ -90,7 +90,7 @@ with_source criteria = with_all [] (given_as Source criteria.source)
 abbrev with_target : Criteria → List Given
 with_target criteria = with_all (with_source criteria) (given_as Target criteria.target)
 
--- those behind sources and targets are about neither
+-- the criteria behind sources and targets are about neither
 behind_ends : (f : Given → Option Criterion) (criteria : Criteria) → ((aspect : Aspect) (criterion : Criterion) → is_behind aspect ≡ true → f (record { aspect = aspect; criterion = criterion }) ≡ None) → first_of f (in_word_order criteria) ≡ first_of f (with_target criteria)
 unfolding in_word_order
 behind_ends f criteria h =

@@ -83,11 +83,11 @@ module _ (policy : Parts) (first : ℕ) (rules more : List StoredRule) (rule : S
 
 -- ---- those under conditions
 
--- those of a branch of the node that is there
+-- the rules of a branch of the node that is there
 pub branch_there : (nodes : List (Placed CondNodeRec)) (i : ℕ) (branch : Bool) (node : Placed CondNodeRec) → slice_get nodes i ≡ Some node → map (av_rule (Some (record { node = i; branch = branch }))) (branch_rules node branch) ≡ rules_of_branch nodes i branch
 branch_there nodes i branch node e = rw e refl
 
--- those of the nodes from a number on
+-- the rules of the nodes from a number on
 abbrev pub rules_from_node : List (Placed CondNodeRec) → ℕ → List StoredRule
 rules_from_node nodes i = flat_map (rules_of_node nodes) (range_with_len i (length nodes - i))
 
@@ -101,7 +101,7 @@ stand_next policy next after i lt e stand =
     stand_right policy next after (rules_of_node nodes i) (rules_from_node nodes (i + 1)) e
     (stand_same policy next (rules_from_node nodes i) (rules_of_node nodes i ++ rules_from_node nodes (i + 1)) (one_node nodes i lt) stand)
 
--- those of the first of them stand there
+-- the rules of the first of these nodes stand there
 pub stand_here : (policy : Parts) (next i : ℕ) → i < length policy.rules.conditionals → StandFrom policy next (rules_from_node policy.rules.conditionals i) → StandFrom policy next (rules_of_node policy.rules.conditionals i)
 stand_here policy next i lt stand =
     let here = rules_of_node policy.rules.conditionals i in

@@ -120,7 +120,7 @@ module _ (wanted : ℕ → Bool) (from : ℕ) where
   one_before numbers to true first gathers = (omega arith, λ n le lt. absurd (omega (arith, le, lt)), gathers)
   one_before numbers to false first gathers = passed_over numbers to (first refl) gathers
 
--- those that are asked, of so many numbers from one on, are gathered for what only they meet
+-- the numbers that are asked, of so many from one on, are gathered for what only they meet
 gathered : (asked wanted : ℕ → Bool) (count from : ℕ) → ((n : ℕ) → n < from + count → asked n ≡ false → wanted n ≡ false) → Gathers wanted from (filter asked (range_with_len from count)) (from + count)
 gathered asked wanted zero from only = (omega arith, λ n le lt. absurd (omega (arith, le, lt)))
 gathered asked wanted (suc count) from only =

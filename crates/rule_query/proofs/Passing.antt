@@ -39,7 +39,7 @@ one_test policy done given old new alike gains = record {
   targets = rw (gains.added) (asked_more policy target_given targets_of done old given gains.test alike.targets gains.right.targets);
 }
 
--- the same tests in another order
+-- tests in another order pass alike
 pub put_alike : (policy : Parts) (done : List Given) (these those : List Test) → PassAlike policy done these → AreSameTests these those → PassAlike policy done those
 put_alike policy done these those alike same = record {
   tells = λ rule declared. same.pass (rule_test policy.symbols rule) ∙ alike.tells rule declared;

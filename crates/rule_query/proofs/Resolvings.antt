@@ -132,7 +132,7 @@ parts (y ∷ ys) zero d lt = refl
 parts {X} (y ∷ ys) (suc i) d lt = ap (λ (zs : List X). y ∷ zs) (parts ys i d (omega (arith, lt)))
 
 module _ (items : List GivenCriterion) (i : ℕ) (x : GivenCriterion) (lt : i < length items) (is : x ≡ get_or items i x) where
-  -- those before one, the one, and those after it
+  -- the criteria before one, the one, and the criteria after it
   pub split_at : (whole : List Given) → map shown items ≡ whole → whole ≡ map shown (take i items) ++ shown x ∷ map shown (drop (i + 1) items)
   split_at whole e =
       sym e ∙ ap (map shown) (parts items i x lt)
@@ -140,7 +140,7 @@ module _ (items : List GivenCriterion) (i : ℕ) (x : GivenCriterion) (lt : i < 
       ∙ ap (λ (y : GivenCriterion). map shown (take i items) ++ shown y ∷ map shown (drop (suc i) items)) (sym is)
       ∙ ap (λ (n : ℕ). map shown (take i items) ++ shown x ∷ map shown (drop n items)) (sym (add-one i))
 
-  -- those before the next
+  -- the criteria before the next
   pub one_taken : map shown (take (i + 1) items) ≡ map shown (take i items) ++ shown x ∷ []
   one_taken =
       ap (λ (n : ℕ). map shown (take n items)) (add-one i)

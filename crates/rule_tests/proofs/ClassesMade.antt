@@ -23,7 +23,7 @@ pub record IsMade (symbols : Symbols) (names : List (List ℕ)) (classes : List 
   pub at : slice_get classes i ≡ Some bits
   pub right : IsClassBits names (permissions_of symbols class.value) bits
 
--- those of the first n classes
+-- what is made for the first n classes
 pub record AreMade (symbols : Symbols) (names : List (List ℕ)) (n : ℕ) (classes : List ClassBits) : Type 0 where
   pub count : length classes ≡ n
   pub each : (i : ℕ) (class : Placed ClassRec) → i < n → slice_get symbols.classes.records i ≡ Some class → IsMade symbols names classes i class

@@ -77,7 +77,7 @@ no_bits mask = zero_test (bit_and 0 mask) (let h = and_le_l 0 mask in omega (ari
 pub shares_any : (mask : ℕ) (ps : List PermissionRec) → shares_bit mask (bits_behind 0 ps) ≡ list_any (has_permission mask) ps
 shares_any mask ps = behind mask 0 ps ∙ ap (λ (b : Bool). b || list_any (has_permission mask) ps) (no_bits mask)
 
--- those that pass a test, and those of a mask
+-- the permissions that pass a test, and the permissions of a mask
 cross : (p q : Bool) (x : PermissionRec) (mask : ℕ) (test : PermissionRec → Bool) (xs : List PermissionRec) → (test x ≡ p) → (has_permission mask x ≡ q)
     → list_any (has_permission mask) (filter test xs) ≡ list_any test (filter (has_permission mask) xs)
     → list_any (has_permission mask) (cond p (x ∷ filter test xs) (filter test xs)) ≡ list_any test (cond q (x ∷ filter (has_permission mask) xs) (filter (has_permission mask) xs))

@@ -19,6 +19,6 @@ run_text run =
 unfoldable pub runs_text : List ℕ → List ℕ
 runs_text numbers = set_text (map run_text (runs_of numbers))
 
--- those that an extended rule holds
+-- the runs of the numbers that an extended rule holds
 abbrev pub ioctl_text : Numbers → List ℕ
 ioctl_text x = runs_text (numbers_of x)

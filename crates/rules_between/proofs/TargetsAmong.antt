@@ -1,4 +1,4 @@
--- Those of some types that rules join a type to, and how many rules begin at a type.
+-- The types among some that rules join a type to, and how many rules begin at a type.
 use Rattle.std.proofs.Common.{◌≡◌, ℕ, ◌+◌, ◌<◌, ◌≤◌, Bool, true, List, [], ◌∷◌, Result, Ok, Err, IfOk, length, map, refl, sym, ap, subst, ◌∙◌, arith}
 use Rattle.std.specs.Prelude.{not, slice_index}
 use Rattle.std.specs.List.{Contains, filter, flat_map, range_with_len}

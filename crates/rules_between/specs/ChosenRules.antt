@@ -13,7 +13,7 @@ pub record ChosenRules : Type 0 where
 
 -- ---- between types
 
--- those of the rules that join two types, in the order in which rules are listed
+-- the rules that join two types, in the order in which rules are listed
 abbrev pub rules_between : Parts → List ℕ → ℕ → ℕ → List ℕ
 rules_between policy rules source target = in_rule_order policy (filter (joins policy source target) rules)
 

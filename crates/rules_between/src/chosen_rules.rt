@@ -107,7 +107,7 @@ impl<'p> ChosenRules<'p> {
         sort_by_rule_order(alloc, self.policy, &found)
     }
 
-    // Those rules in no order of their own, found from the end that has fewer rules.
+    // The rules that join two types in no order of their own, found from the end that has fewer rules.
     fn joining(&self, alloc: Global, source: u32, target: u32) -> Result<Vec<u32>, AllocError>
         ensures { IfOk result (λ found. IsPermutation found.items (filter (joins self.now.policy source target) self.now.rules)) }
     {

@@ -48,7 +48,7 @@ pub record AreHalved {X : Type 0} (key : X → ℕ) (xs : List X) (end first sto
 
 module _ {X : Type 0} (key : X → ℕ) (xs : List X) (end first stop : ℕ) (low : IsPartitionPoint (λ x. nat_lt (key x) end ≡ true) (λ x. nat_lt (key x) end ≡ false) xs first) (high : IsPartitionPoint (λ x. nat_le (key x) end ≡ true) (λ x. nat_le (key x) end ≡ false) xs stop)
     (first_within : first ≤ length xs) (stop_within : stop ≤ length xs) where
-  -- those below a number end before those that are at most the number do
+  -- the elements below a number end before the elements that are at most the number do
   below_first : (d : X) → first ≤ stop
   below_first d = elim (cases_lt stop first) [
     | inl lt ↦ absurd (omega (arith, ltb-true (key (get_or xs stop d)) end (low.0 stop d (omega arith) lt), leb-false (key (get_or xs stop d)) end (high.1 stop d (omega arith) (omega (arith, lt, first_within)))))

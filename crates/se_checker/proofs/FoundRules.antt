@@ -111,7 +111,7 @@ module _ (bytes : List ℕ) (policy : Parts) (accepted : accept bytes ≡ Ok pol
       ∙ turned (asks_given policy.symbols asked rule.class (allow_mask rule.kind rule.part)) (has_wanted policy asked.source asked.exempt_source rule.source) (has_wanted policy asked.target asked.exempt_target rule.target)
       ∙ ap (passes (is_asked policy asked)) (sym is.at)
 
-  -- those of a class
+  -- the rules of a class
   of_class : (classes : List (List AllowRule)) (place : ℕ) → AreOfClass policy (length (stored_rules policy)) place (rules_in classes place)
       → numbers_passing (asks_at policy.symbols asked place) sources targets (rules_in classes place) ≡ filter gives_asked (filter (λ number. class_place policy number == place) (range_with_len 0 (length (stored_rules policy))))
   of_class classes place are =

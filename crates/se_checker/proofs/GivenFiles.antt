@@ -57,7 +57,7 @@ part_gives_mask : (permission : Permission) (kind : RuleKind) (class : ℕ) (par
 part_gives_mask permission Allow class (Perms mask) = refl
 part_gives_mask permission kind class part = refl
 
--- the same by the look-ups
+-- a mask gives the permission of a name, by the look-ups
 abbrev given_by : Symbols → List ℕ → ℕ → Option ℕ → Option ℕ → Bool
 given_by symbols name class None mask = false
 given_by symbols name class (Some value) None = false
@@ -214,7 +214,7 @@ module _ (bytes : List ℕ) (policy : Parts) (accepted : accept bytes ≡ Ok pol
 
 -- ---- the targets of rules
 
--- that of a rule between types, as it is stored
+-- the target of a rule between types, as it is stored
 pub target_at : (bytes : List ℕ) (policy : Parts) (n : ℕ) (ends : RuleEnds) → accept bytes ≡ Ok policy → is_between_types policy n ≡ true → option_map ends_of (slice_get (stored_rules policy) n) ≡ Some ends → IsEnd policy ends.target × ((type : ℕ) → ends_at policy type n ≡ holds_type policy ends.target type)
 unfolding ends_at
 target_at bytes policy n ends accepted between at =

@@ -55,7 +55,7 @@ attribute_is_some : (o : Option Flavour) → is_flavour Attribute o ≡ true →
 attribute_is_some None e = absurd (false≢true e)
 attribute_is_some (Some f) e = refl
 
--- that of an attribute is the end of a rule, as far as the table goes
+-- the value of an attribute is the end of a rule, as far as the table goes
 pub attribute_is_end : (policy : Parts) (value : ℕ) → IsTypeValue policy.symbols value → has_flavour policy.symbols Attribute value ≡ true → IsEnd policy value
 attribute_is_end policy value within is = record { within = within; declared = attribute_is_some (flavour_in policy.symbols value) is }
 

@@ -58,7 +58,7 @@ asks_mask symbols (Some names) class mask = list_any (λ name. found_passes (mas
 abbrev pub is_wanted : Parts → Option (List (List ℕ)) → List (List ℕ) → ℕ → Bool
 is_wanted policy asked exempt type = asks_type policy asked type && not (is_member policy exempt type)
 
--- so is one of the types that the end of a rule expands to
+-- one of the types that the end of a rule expands to is asked for and not exempt
 abbrev pub has_wanted : Parts → Option (List (List ℕ)) → List (List ℕ) → ℕ → Bool
 has_wanted policy asked exempt end = list_any (is_wanted policy asked exempt) (expand policy end)
 

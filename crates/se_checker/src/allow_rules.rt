@@ -71,7 +71,7 @@ impl Model for AllowRules {
 }
 
 impl AllowRules {
-    /// Those of a policy, all of whose rules are gone through once.
+    /// Gathers the allow rules of a policy, going through all its rules once.
     pub fn of(alloc: Global, policy: &Policy<'_>) -> Result<AllowRules, AllocError>
         ensures { IfOk result (AreAllowRules policy.now) }
     {
@@ -82,7 +82,7 @@ impl AllowRules {
         Ok(AllowRules { classes })
     }
 
-    /// Those of the class of a place.
+    /// The allow rules of the class at a place.
     pub fn of_class(&self, place: u32) -> &[AllowRule]
         requires { place < length self.now }
         ensures { result.now ≡ slice_index_or self.now place [] }

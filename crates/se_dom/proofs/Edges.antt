@@ -1,5 +1,5 @@
 -- The edges of the graph are those that are listed.
-use Rattle.std.proofs.Common.{◌≡◌, ◌∙◌, ℕ, Bool, List, Option, Some, None, ap, refl}
+use Rattle.std.proofs.Common.{◌≡◌, ◌∙◌, ℕ, Bool, List, ap, refl}
 use Rattle.std.proofs.Math.Path.{fun_ext}
 use Rattle.pol_bitmap.specs.declared.Node.{Node}
 use Rattle.pol_bitmap.specs.Nodes.{has_bit}
@@ -7,21 +7,13 @@ use Rattle.pol_file.specs.declared.Parts.{Parts}
 use Rattle.counted_rules.specs.CountedRules.{Counted}
 use Rattle.dom_trans.specs.DomainEdges.{Domains, domain_edge, is_step}
 use Rattle.dom_trans.specs.Transitions.{is_transition}
-use Rattle.se_options.specs.States.{State}
-use Rattle.se_words.specs.DomRequest.{DomAsks}
+use Rattle.se_options.specs.DomRequest.{DomAsks}
 use Rattle.se_walks.specs.GraphAnswer.{excluded_in, is_edge, is_listed}
 use Rattle.se_walks.specs.GraphItems.{items_between}
 use Rattle.se_walks.specs.declared.Ends.{Ends}
 use Rattle.se_walks.proofs.AskedTypes.{AreExcluded, either-way}
-use Rattle.se_walks.specs.StatedRules.{rules_asked}
 use Rattle.se_dom.specs.DomAnswer.{dom_graph}
 use Rattle.se_dom.specs.DomTexts.{dom_words}
-
--- the rules that count are the policy's
-pub asked-policy : (policy : Parts) (states : Option (List State)) → (rules_asked policy states).policy ≡ policy
-unfolding rules_asked
-asked-policy policy None = refl
-asked-policy policy (Some states) = refl
 
 step-is : (asks : DomAsks) (policy : Parts) (rules : Counted) (excluded : List Node) (reverse : Bool) (a b : ℕ) → AreExcluded policy.symbols asks.excluded excluded
     → is_step (record { rules = rules; excluded = excluded; reverse = reverse }) a b ≡ is_listed (is_transition rules) (excluded_in (dom_graph asks) policy) a b

@@ -3,7 +3,7 @@ use Rattle.std.proofs.Common.{◌≡◌, ◌+◌, ◌++◌, ℕ, Some, None}
 use Rattle.pol_file.specs.declared.Parts.{Parts}
 use Rattle.dom_trans.specs.Transitions.{is_transition}
 use Rattle.se_walks.proofs.GraphAnswered.{graph_then}
-use Rattle.se_words.specs.DomRequest.{DomAsks}
+use Rattle.se_options.specs.DomRequest.{DomAsks}
 use Rattle.se_dom.specs.DomAnswer.{dom_answer, dom_graph, dom_rules}
 use Rattle.se_dom.specs.DomTexts.{dom_words}
 

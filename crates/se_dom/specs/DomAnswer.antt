@@ -4,7 +4,7 @@ use Rattle.counted_rules.specs.CountedRules.{Counted}
 use Rattle.dom_trans.specs.Transitions.{is_transition}
 use Rattle.se_status.specs.Conclusion.{Answer}
 use Rattle.se_walks.specs.GraphAnswer.{GraphAsks, graph_answer, rules_in}
-use Rattle.se_words.specs.DomRequest.{DomAsks}
+use Rattle.se_options.specs.DomRequest.{DomAsks}
 use Rattle.se_dom.specs.DomTexts.{dom_words}
 
 -- what is asked of the graph. Types that are excluded are no ends of a transition; entry types may be excluded.

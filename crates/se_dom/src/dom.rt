@@ -5,7 +5,7 @@ ghost use Rattle.dom_trans.specs.Transitions.{is_transition};
 ghost use Rattle.se_items.specs.Paging.{page};
 ghost use Rattle.se_items.specs.Writing.{Sends};
 ghost use Rattle.se_status.specs.Conclusion.{Concludes, IsPlain};
-ghost use Rattle.se_words.specs.DomRequest.{dom_view};
+ghost use Rattle.se_options.specs.DomRequest.{dom_view};
 ghost use Rattle.se_dom.specs.DomAnswer.{dom_answer, dom_graph, dom_rules};
 ghost use Rattle.se_dom.specs.DomTexts.{dom_words};
 ghost use Rattle.se_walks.specs.GraphAnswer.{excluded_in, graph_text, is_edge};
@@ -17,10 +17,10 @@ use pol_expand::type_map;
 use pol_read::Policy;
 use rule_text::RuleTexts;
 use se_items::WriteEnd;
+use se_options::DomRequest;
 use se_outside::Sink;
 use se_status::{Status, status_written};
 use se_walks::{Ends, ends_named, excluded_set, first_unknown, rules_asked, write_items};
-use se_words::DomRequest;
 use std::alloc::Global;
 
 /// Answers what sedta is asked of a policy.

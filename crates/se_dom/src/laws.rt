@@ -2,7 +2,7 @@
 
 ghost use Rattle.std.specs.Prelude.{◌≡◌, ◌+◌, ◌++◌, ℕ, Some, None};
 ghost use Rattle.pol_file.specs.declared.Parts.{Parts};
-ghost use Rattle.se_words.specs.DomRequest.{DomAsks};
+ghost use Rattle.se_options.specs.DomRequest.{DomAsks};
 ghost use Rattle.se_dom.specs.DomAnswer.{dom_answer};
 
 /// Some transitions of a source, and then those after them, are the transitions from the first of them on; and so are the walks to a

@@ -1,5 +1,5 @@
 -- What is answered of a map that was read, by the rules that count.
-use Rattle.std.proofs.Common.{◌≡◌, ◌∙◌, ℕ, List, Option, Some, None, Result, Ok, refl, sym, ap, subst}
+use Rattle.std.proofs.Common.{◌≡◌, ◌∙◌, ℕ, List, Result, Ok, sym, ap, subst}
 use Rattle.pol_file.specs.declared.Parts.{Parts}
 use Rattle.counted_rules.specs.CountedRules.{Counted}
 use Rattle.perm_map.specs.declared.MapFault.{MapFault}
@@ -7,10 +7,9 @@ use Rattle.perm_map.specs.PermissionMap.{Entry, Weights, map_of, weights_of}
 use Rattle.se_outside.specs.Outside.{SinkState}
 use Rattle.se_status.specs.declared.Status.{Status}
 use Rattle.se_status.specs.Conclusion.{Concludes}
-use Rattle.se_options.specs.States.{State}
 use Rattle.se_walks.specs.GraphAnswer.{graph_answer, graph_text}
-use Rattle.se_walks.specs.StatedRules.{rules_asked}
-use Rattle.se_words.specs.FlowRequest.{FlowAsks}
+use Rattle.se_walks.proofs.AskedRules.{policy-asked}
+use Rattle.se_options.specs.FlowRequest.{FlowAsks}
 use Rattle.se_flow.specs.FlowAnswer.{flow_answer, flow_graph, is_flow_of, mapped_answer, rules_of}
 use Rattle.se_flow.specs.FlowTexts.{flow_words}
 
@@ -21,12 +20,6 @@ map-answered asks policy bytes kept entries old new status is same concludes =
     let P : Weights → Type 0 = λ weights. Concludes (graph_answer (flow_words weights (rules_of asks policy) asks.least) (is_flow_of asks (rules_of asks policy) weights) (flow_graph asks) policy) old new status in
     let R : Result (List Entry) MapFault → Type 0 = λ read. Concludes (mapped_answer asks policy read) old new status in
     subst R (sym is) (subst P same concludes)
-
--- the rules that count are those of the policy
-policy-asked : (policy : Parts) (states : Option (List State)) → (rules_asked policy states).policy ≡ policy
-unfolding rules_asked
-policy-asked policy None = refl
-policy-asked policy (Some states) = refl
 
 -- what is written by them is what is answered
 pub text-asked : (asks : FlowAsks) (policy : Parts) (weights : Weights) (rules : Counted) → rules ≡ rules_of asks policy

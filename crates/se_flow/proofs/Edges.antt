@@ -10,7 +10,7 @@ use Rattle.perm_map.specs.PermissionMap.{Entry, Weights, weights_of}
 use Rattle.pol_expand.specs.PlainTypes.{are_two_types}
 use Rattle.flow_search.specs.Flows.{flow_weight}
 use Rattle.flow_search.specs.FlowEdges.{FlowSearch, flow_edge, is_flow}
-use Rattle.se_words.specs.FlowRequest.{FlowAsks}
+use Rattle.se_options.specs.FlowRequest.{FlowAsks}
 use Rattle.se_walks.specs.GraphAnswer.{excluded_in, is_edge, is_listed}
 use Rattle.se_walks.specs.GraphItems.{items_between}
 use Rattle.se_walks.specs.TypeNames.{is_excluded}

@@ -4,7 +4,7 @@ use Rattle.pol_file.specs.declared.Parts.{Parts}
 use Rattle.perm_map.specs.declared.MapFault.{MapFault}
 use Rattle.perm_map.specs.PermissionMap.{Entry, map_of, weights_of}
 use Rattle.se_walks.proofs.GraphAnswered.{graph_then}
-use Rattle.se_words.specs.FlowRequest.{FlowAsks}
+use Rattle.se_options.specs.FlowRequest.{FlowAsks}
 use Rattle.se_flow.specs.FlowAnswer.{flow_answer, flow_graph, is_flow_of, mapped_answer, rules_of}
 use Rattle.se_flow.specs.FlowTexts.{flow_words}
 

@@ -9,7 +9,7 @@ use Rattle.se_status.specs.declared.Status.{Status}
 use Rattle.se_status.specs.declared.Status.TheVariants.{Done, BadMap, UnknownName, WriteFault, Memory}
 use Rattle.se_status.specs.Conclusion.{Answer, refusal}
 use Rattle.se_walks.specs.GraphAnswer.{GraphAsks, graph_answer, rules_in}
-use Rattle.se_words.specs.FlowRequest.{FlowAsks}
+use Rattle.se_options.specs.FlowRequest.{FlowAsks}
 use Rattle.se_flow.specs.FlowTexts.{flow_words}
 
 -- a flow of at least the weight that is asked for, by the rules that count

@@ -1,11 +1,12 @@
 // The answer of seinfoflow about a policy and a permission map.
+ghost use Rattle.text_rows.specs.declared.limits.TheConstants.{MAX_TEXT_BYTES};
 ghost use Rattle.std.specs.Prelude.{◌≤◌, length};
 ghost use Rattle.std.specs.List.{concat};
 ghost use Rattle.se_items.specs.Paging.{page};
 ghost use Rattle.se_items.specs.Writing.{Sends};
 ghost use Rattle.se_status.specs.Conclusion.{Concludes};
 ghost use Rattle.perm_map.specs.PermissionMap.{weights_of};
-ghost use Rattle.se_words.specs.FlowRequest.{flow_view};
+ghost use Rattle.se_options.specs.FlowRequest.{flow_view};
 ghost use Rattle.se_flow.specs.FlowAnswer.{IsOfMap, flow_answer, flow_graph, is_flow_of, rules_of};
 ghost use Rattle.se_flow.specs.FlowTexts.{flow_words};
 ghost use Rattle.se_walks.specs.GraphAnswer.{excluded_in, graph_text, is_edge};
@@ -19,10 +20,10 @@ use pol_expand::type_map;
 use pol_read::Policy;
 use rule_text::RuleTexts;
 use se_items::WriteEnd;
+use se_options::FlowRequest;
 use se_outside::Sink;
 use se_status::{Status, status_written};
 use se_walks::{Ends, ends_named, excluded_set, first_unknown, rules_asked, write_items};
-use se_words::FlowRequest;
 use std::alloc::Global;
 
 /// Answers what seinfoflow is asked of a policy and the permission map with these bytes.
@@ -34,7 +35,7 @@ pub fn answer_flow<S: Sink>(
     asks: &FlowRequest<'_>,
     out: &mut S,
 ) -> Status
-    requires { length bytes.now ≤ 4194304 }
+    requires { length bytes.now ≤ MAX_TEXT_BYTES }
     ensures answers { Concludes (flow_answer (flow_view asks.now) policy.now bytes.now) (S.state out.old) (S.state out.new) result }
     ensures about { IsOfMap result }
 {

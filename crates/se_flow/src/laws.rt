@@ -2,7 +2,7 @@
 
 ghost use Rattle.std.specs.Prelude.{◌≡◌, ◌+◌, ◌++◌, ℕ, List, Some, None};
 ghost use Rattle.pol_file.specs.declared.Parts.{Parts};
-ghost use Rattle.se_words.specs.FlowRequest.{FlowAsks};
+ghost use Rattle.se_options.specs.FlowRequest.{FlowAsks};
 ghost use Rattle.se_flow.specs.FlowAnswer.{flow_answer};
 
 /// Some flows of a source, and then those after them, are the flows from the first of them on; and so are the walks to a target.

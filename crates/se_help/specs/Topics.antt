@@ -1,6 +1,6 @@
 -- What the words of a command line ask of the program itself.
 use Rattle.std.specs.Prelude.{ℕ, List, [], ◌∷◌, codes, ◌||◌, Option, Some, None, if◌then◌else◌}
-use Rattle.se_options.specs.Word.{is_word}
+use Rattle.se_words.specs.Word.{is_word}
 use Rattle.se_help.specs.declared.topic.Topic.{Topic}
 use Rattle.se_help.specs.declared.topic.Topic.TheVariants.{All, Info, Search, Dom, Flow, Convert, Check, Make, Version}
 

@@ -1,10 +1,10 @@
 // The topic that words ask for.
 ghost use Rattle.std.specs.Prelude.{◌≡◌};
-ghost use Rattle.se_options.specs.Word.{text_of};
+ghost use Rattle.se_words.specs.Word.{text_of};
 ghost use Rattle.se_help.specs.Topics.{asked_by, topic_in};
 
 use crate::Topic;
-use se_options::{Word, Words};
+use se_words::{Word, Words};
 
 /// The topic that the words ask for, if they do.
 pub fn topic_of(words: &Words) -> Option<Topic>

@@ -7,8 +7,8 @@ use Rattle.info_summary.specs.Summary.{summary_lines}
 use Rattle.se_info.specs.ListingText.{line_text, listing_text}
 use Rattle.se_status.specs.Conclusion.{Answer, text_unless}
 use Rattle.se_status.specs.LeastWord.{least_number}
-use Rattle.se_options.specs.Options.{Named}
-use Rattle.se_words.specs.InfoRequest.{InfoAsks, Wanted}
+use Rattle.se_words.specs.Options.{Named}
+use Rattle.se_options.specs.InfoRequest.{InfoAsks, Wanted}
 
 -- the lines that are wanted, unless their name is unknown
 abbrev pub wanted_lines : Parts → Bool → Wanted → Option (List (List ℕ))

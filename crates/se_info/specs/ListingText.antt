@@ -15,7 +15,7 @@ line_text indent line = indent ++ line ++ codes "\n"
 unfoldable pub heading_text : List ℕ → ℕ → List ℕ
 heading_text title count = codes "\n" ++ title ++ codes ": " ++ decimal count ++ codes "\n"
 
--- the same, and nothing in a flat listing
+-- the heading, and nothing in a flat listing
 abbrev pub front_text : Bool → List ℕ → ℕ → List ℕ
 front_text true title count = []
 front_text false title count = heading_text title count

@@ -1,7 +1,7 @@
 // The answer of seinfo about a policy.
 ghost use Rattle.std.specs.Prelude.{◌≡◌, [], flat_map, map};
 ghost use Rattle.info_summary.specs.Summary.{summary_lines};
-ghost use Rattle.se_words.specs.InfoRequest.{info_view, wanted_view};
+ghost use Rattle.se_options.specs.InfoRequest.{info_view, wanted_view};
 ghost use Rattle.se_info.specs.InfoAnswer.{info_answer, info_text, wanted_text};
 ghost use Rattle.se_info.specs.ListingText.{listing_text, line_text};
 ghost use Rattle.se_status.specs.Conclusion.{Concludes, IsPlain};
@@ -13,9 +13,9 @@ use info_query::lines_of;
 use info_summary::summary;
 use pol_read::Policy;
 use se_items::WriteEnd;
+use se_options::{InfoRequest, Wanted};
 use se_outside::Sink;
 use se_status::{Status, status_written};
-use se_words::{InfoRequest, Wanted};
 use std::alloc::Global;
 
 /// Answers what seinfo is asked of a policy.

@@ -1,12 +1,12 @@
 // Names that a policy does not have.
 ghost use Rattle.std.specs.Prelude.{◌≡◌, Bool, map};
-ghost use Rattle.se_words.specs.InfoRequest.{wanted_view};
+ghost use Rattle.se_options.specs.InfoRequest.{wanted_view};
 ghost use Rattle.se_info.specs.InfoAnswer.{first_unknown, unknown_in};
 
 use info_query::name_is_known;
 use pol_read::Policy;
+use se_options::Wanted;
 use se_status::least;
-use se_words::Wanted;
 
 /// The least number of a word with a name that is unknown, whatever lines are wanted. It takes no memory.
 pub fn first_unknown(policy: &Policy<'_>, listings: &[Wanted]) -> Option<u64>

@@ -16,7 +16,7 @@ pub record Wrote {T E : Type 0} (old new : SinkState) (text : List ℕ) (result 
   pub part : OnErr result (GainsPart old.written new.written text)
   pub failed : OnErr result (Rose old.faults new.faults)
 
--- The same of a text whose making takes memory. The count rose where a write failed.
+-- A text whose making takes memory was written whole at Ok. Else a front of it was, and the count of faults rose where a write failed.
 pub record Sends {T : Type 0} (old new : SinkState) (text : List ℕ) (result : Result T WriteEnd) : Type 0 where
   pub later : old.faults ≤ new.faults
   pub whole : OnOk result (Appends old.written new.written text)
@@ -35,7 +35,8 @@ pub record Emits {T : Type 0} (old new : SinkState) (had has text : List ℕ) (r
   pub part : OnErr result (GainsPart old.written new.written (had ++ text))
   pub failed : IsErrOf result Fault → Rose old.faults new.faults
 
--- The same of a text whose making takes no memory. The count rose where a write failed.
+-- A text whose making takes no memory went through the buffer at Ok. Else the sink gained a front of what the buffer had and the
+-- text, and the count of faults rose.
 pub record Puts {T E : Type 0} (old new : SinkState) (had has text : List ℕ) (result : Result T E) : Type 0 where
   pub later : old.faults ≤ new.faults
   pub whole : OnOk result (Moves old.written new.written had has text)

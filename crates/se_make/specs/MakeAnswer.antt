@@ -9,7 +9,7 @@ use Rattle.info_summary.specs.Summary.{summary_lines}
 use Rattle.info_summary.specs.SummaryLines.{count_line}
 use Rattle.se_info.specs.ListingText.{line_text}
 use Rattle.se_status.specs.Conclusion.{Answer, done}
-use Rattle.se_words.specs.MakeRequest.{MakeAsks}
+use Rattle.se_options.specs.MakeRequest.{MakeAsks}
 use Rattle.se_make.specs.Singles.{singles_of}
 
 -- the line of how many rules between single types there are
@@ -20,7 +20,7 @@ singles_line policy = count_line (codes "Singles") (length (singles_of policy))
 unfoldable pub counts_text : Parts → List ℕ
 counts_text policy = flat_map (line_text []) (summary_lines policy) ++ line_text [] (singles_line policy)
 
--- The same of bytes that are read. Those of a policy that is made are accepted.
+-- The summary of a policy that is read. The bytes of a policy that is made are accepted.
 abbrev pub read_text : Result Parts Fault → List ℕ
 read_text (Ok policy) = counts_text policy
 read_text (Err fault) = []

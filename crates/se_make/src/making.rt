@@ -6,7 +6,7 @@ ghost use Rattle.pol_make.specs.Made.{Allowed, made};
 ghost use Rattle.se_items.specs.Writing.{Sends};
 ghost use Rattle.se_info.specs.ListingText.{line_text};
 ghost use Rattle.se_status.specs.Conclusion.{Concludes, IsWritten};
-ghost use Rattle.se_words.specs.MakeRequest.{make_view};
+ghost use Rattle.se_options.specs.MakeRequest.{make_view};
 ghost use Rattle.se_make.specs.MakeAnswer.{counts_text, make_answer, make_text, read_text, singles_line};
 
 use crate::singles::count_singles;
@@ -16,9 +16,9 @@ use pol_read::{Policy, read};
 use pol_texts::push_decimal;
 use se_info::write_summary;
 use se_items::{WriteEnd, write_all};
+use se_options::MakeRequest;
 use se_outside::Sink;
 use se_status::{Status, status_written};
-use se_words::MakeRequest;
 use std::alloc::{AllocError, Global};
 
 /// Answers what make is asked.

@@ -1,5 +1,5 @@
-pub mod Cuts
-pub mod Endings
-pub mod Lasts
-pub mod Numbers
-pub mod Texts
+pub mod Ended
+pub mod Parts
+pub mod LaterWords
+pub mod LaterGroups
+pub mod LaterPages

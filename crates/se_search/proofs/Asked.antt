@@ -2,7 +2,7 @@
 use Rattle.std.proofs.Common.{◌≡◌, true, false, ap}
 use Rattle.std.specs.Prelude.{if◌then◌else◌}
 use Rattle.pol_file.specs.declared.Parts.{Parts}
-use Rattle.se_words.specs.SearchRequest.{SearchAsks}
+use Rattle.se_options.specs.SearchRequest.{SearchAsks}
 use Rattle.se_search.specs.SearchAnswer.{rules_text, search_text, singles_text}
 
 pub singles-asked : (asks : SearchAsks) (policy : Parts) → asks.singles ≡ true → search_text asks policy ≡ singles_text asks policy

@@ -10,7 +10,7 @@ use Rattle.rule_criteria.specs.declared.Criteria.{Criteria}
 use Rattle.std.proofs.lemmas.List.{take-take}
 use Rattle.se_items.specs.Paging.{end_of, most_items, page}
 use Rattle.se_items.proofs.Pages.{page-end, page-map}
-use Rattle.se_words.specs.SearchRequest.{SearchAsks}
+use Rattle.se_options.specs.SearchRequest.{SearchAsks}
 use Rattle.se_search.specs.SearchAnswer.{found_rules, rule_line, rules_text}
 use Rattle.std.proofs.lemmas.List.Elements.{All-head, All-nil, All-tail}
 use Rattle.rule_order.proofs.OrderedRules.{all-rules, ordered-rules}

@@ -6,7 +6,7 @@ use Rattle.rule_query.specs.GivenCriteria.{in_word_order}
 use Rattle.rule_query.specs.Refusals.{RefusedWord, first_refused}
 use Rattle.rule_singles.specs.FoundSingles.{singles_listed}
 use Rattle.se_items.proofs.Resuming.{texts_then}
-use Rattle.se_words.specs.SearchRequest.{SearchAsks}
+use Rattle.se_options.specs.SearchRequest.{SearchAsks}
 use Rattle.se_search.specs.SearchAnswer.{found_rules, lines_unless, rule_line, rules_text, search_answer, search_text, single_line, singles_text}
 
 by-singles : (singles : Bool) (a b c d e f : List ℕ) → a ++ c ≡ e → b ++ d ≡ f → (if singles then a else b) ++ (if singles then c else d) ≡ (if singles then e else f)

@@ -10,7 +10,7 @@ use Rattle.rule_criteria.specs.declared.Criteria.{Criteria}
 use Rattle.rule_order.specs.ListedOrder.{AreRules}
 use Rattle.rule_singles.specs.FoundSingles.{ends_found, ends_of_rule}
 use Rattle.se_items.specs.Paging.{page}
-use Rattle.se_words.specs.SearchRequest.{SearchAsks}
+use Rattle.se_options.specs.SearchRequest.{SearchAsks}
 use Rattle.se_search.specs.SearchAnswer.{found_rules, single_line, singles_text}
 use Rattle.se_search.specs.Inner.SingleLines.{AreOfRules}
 

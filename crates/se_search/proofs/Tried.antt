@@ -19,7 +19,7 @@ use Rattle.se_items.proofs.Gains.{gains-none}
 use Rattle.se_status.specs.declared.Status.{Status}
 use Rattle.se_status.specs.declared.Status.TheVariants.{Done, Usage, ReadFault, TooLarge, BadPolicy, BadMap, BadList, CannotHold, UnknownName, BadNumber, BadPattern, WriteFault, Memory}
 use Rattle.se_status.specs.Conclusion.{Concludes, IsWritten, done, refusal}
-use Rattle.se_words.specs.SearchRequest.{SearchAsks}
+use Rattle.se_options.specs.SearchRequest.{SearchAsks}
 use Rattle.se_search.specs.SearchAnswer.{search_answer, search_text, status_for}
 use Rattle.se_search.specs.SearchPatterns.{ComesAfter, ComesBefore, IsRead, IsOfSearch, TriedUntil, TriesPatterns, pattern_words, status_of}
 use Rattle.se_search.proofs.WordsRise.{Rises, after-rises, before-rises, order-rises}

@@ -16,7 +16,7 @@ use Rattle.se_items.specs.Paging.{page}
 use Rattle.se_status.specs.declared.Status.{Status}
 use Rattle.se_status.specs.declared.Status.TheVariants.{UnknownName, BadNumber}
 use Rattle.se_status.specs.Conclusion.{Answer, done, refusal}
-use Rattle.se_words.specs.SearchRequest.{SearchAsks}
+use Rattle.se_options.specs.SearchRequest.{SearchAsks}
 
 -- the line of the rule of a number
 unfoldable pub rule_line : Parts → ℕ → List ℕ

@@ -39,16 +39,16 @@ pub record LastIsFaulty (tried : List Given) (past now word : ℕ) (kind : Patte
 
 -- Of the words that are patterns some were tried, and the others were not. By the status:
 abbrev pub TriedUntil : List Given → List Given → ℕ → ℕ → Status → Type 0
--- all were, and are patterns
+-- all were tried, and are patterns
 TriedUntil tried others past now Done = (others ≡ []) × All IsRead tried
 TriedUntil tried others past now WriteFault = (others ≡ []) × All IsRead tried
--- those before the word that is refused were, and none behind it, and they are patterns
+-- the words before the one that is refused were tried, and none behind it, and they are patterns
 TriedUntil tried others past now (UnknownName word) = All IsRead tried × All (ComesBefore word) tried × All (ComesAfter word) others
 TriedUntil tried others past now (BadNumber word) = All IsRead tried × All (ComesBefore word) tried × All (ComesAfter word) others
--- and it was the last, if it is one of them
+-- the word that is refused was tried last, if it is one of them
 TriedUntil tried others past now (BadPattern word kind) = LastIsFaulty tried past now word kind × All (ComesAfter word) others
 TriedUntil tried others past now Memory = ⊤
--- none was
+-- none was tried
 TriedUntil tried others past now status = tried ≡ []
 
 -- What was asked of the object that builds patterns: the texts of the first words that are patterns.

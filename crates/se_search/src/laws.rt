@@ -2,7 +2,7 @@
 
 ghost use Rattle.std.specs.Prelude.{◌≡◌, ◌+◌, ◌++◌, ℕ, Some, None};
 ghost use Rattle.pol_file.specs.declared.Parts.{Parts};
-ghost use Rattle.se_words.specs.SearchRequest.{SearchAsks};
+ghost use Rattle.se_options.specs.SearchRequest.{SearchAsks};
 ghost use Rattle.se_search.specs.SearchAnswer.{search_answer};
 
 /// Some lines of a search, and then those after them, are the lines from the first of them on: lines of rules as lines of rules between

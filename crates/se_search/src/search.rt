@@ -2,7 +2,7 @@
 ghost use Rattle.std.specs.Prelude.{◌≡◌, IfOk, map};
 ghost use Rattle.rule_query.specs.Queries.{IsQueryOf};
 ghost use Rattle.se_status.specs.Conclusion.{Concludes, IsWritten, done};
-ghost use Rattle.se_words.specs.SearchRequest.{search_view};
+ghost use Rattle.se_options.specs.SearchRequest.{search_view};
 ghost use Rattle.se_items.specs.Writing.{Sends};
 ghost use Rattle.rule_singles.specs.FoundSingles.{ends_of_rule};
 ghost use Rattle.se_search.specs.SearchAnswer.{found_rules, rules_text, search_answer, search_text, singles_text};
@@ -17,9 +17,9 @@ use rule_query::{Query, QueryError, resolve};
 use rule_singles::SingleRules;
 use rule_text::RuleTexts;
 use se_items::{WriteEnd, write_pieces};
+use se_options::SearchRequest;
 use se_outside::{Patterns, Sink};
 use se_status::{Status, status_written};
-use se_words::SearchRequest;
 use std::alloc::{AllocError, Global};
 
 /// Answers what sesearch is asked of a policy.

@@ -10,7 +10,7 @@ use Rattle.se_outside.specs.Outside.{IsAsked, NoneAsked, Rose, SinkState, SlotSt
 use Rattle.se_outside.specs.Patterns.{PatternsState}
 use Rattle.se_outside.specs.declared.Slot.{Slot}
 use Rattle.se_outside.specs.declared.Slot.TheVariants.{Policy, Map, List as Checklist}
-use Rattle.se_words.specs.Request.{About, Asks, Question, policy_of}
+use Rattle.se_options.specs.Request.{About, Asks, Question, policy_of}
 use Rattle.se_items.specs.Writing.{GainsPart}
 use Rattle.se_items.proofs.Gains.{gains-none}
 use Rattle.se_search.specs.SearchPatterns.{TriedUntil, TriesPatterns}

@@ -11,7 +11,7 @@ use Rattle.se_outside.specs.declared.Slot.{Slot}
 use Rattle.se_search.specs.SearchPatterns.{IsRead, LastIsFaulty}
 use Rattle.se_status.specs.declared.Status.{Status}
 use Rattle.se_status.specs.declared.Status.TheVariants.{Done, Usage, ReadFault, TooLarge, BadPolicy, BadMap, BadList, CannotHold, UnknownName, BadNumber, BadPattern, WriteFault, Memory}
-use Rattle.se_words.specs.Request.{Asks}
+use Rattle.se_options.specs.Request.{Asks}
 use Rattle.se_tools.specs.Answer.{Contents, answer_of, asked_patterns}
 use Rattle.se_tools.specs.Answers.{Answers, Outside, Tells}
 

@@ -6,15 +6,15 @@ use Rattle.pol_fields.specs.declared.Fault.{Fault}
 use Rattle.pol_file.specs.Acceptance.{accept}
 use Rattle.pol_file.specs.declared.Parts.{Parts}
 use Rattle.se_items.specs.Paging.{most_items}
-use Rattle.se_options.specs.Values.{number_within}
-use Rattle.se_options.specs.Word.{is_word}
+use Rattle.se_words.specs.Values.{number_within}
+use Rattle.se_words.specs.Word.{is_word}
 use Rattle.se_outside.specs.declared.Slot.{Slot}
 use Rattle.se_outside.specs.declared.Slot.TheVariants.{Policy, Map}
 use Rattle.se_status.specs.Conclusion.{Answer, refusal}
 use Rattle.se_status.specs.declared.Status.TheVariants.{TooLarge}
-use Rattle.se_words.specs.Request.{About, Question, Info, Search, Dom, Flow, Convert, Check, comes_by_pages, limit_of, paged, request_of}
-use Rattle.se_words.specs.Window.{from_words, page_words}
-use Rattle.se_words.proofs.LaterPages.{from_behind, page_behind}
+use Rattle.se_options.specs.Request.{About, Question, Info, Search, Dom, Flow, Convert, Check, comes_by_pages, limit_of, paged, request_of}
+use Rattle.se_options.specs.Window.{from_words, page_words}
+use Rattle.se_options.proofs.LaterPages.{from_behind, page_behind}
 use Rattle.se_search.proofs.Resumed.{answer_then as search_then}
 use Rattle.se_dom.proofs.Resumed.{answer_then as dom_then}
 use Rattle.se_flow.proofs.Resumed.{answer_then as flow_then}
@@ -24,7 +24,7 @@ use Rattle.se_tools.specs.Answer.{Contents, answer_about, answer_of, by_file, fi
 abbrev GoesOn : Answer → Answer → Answer → Type 0
 GoesOn front rest whole = front.text ++ rest.text ≡ whole.text
 
--- that of a file, whatever is there
+-- the answer about a file goes on, whatever is there
 file_then : (slot : Slot) (file : Option (List ℕ)) (front rest whole : List ℕ → Answer) → ((bytes : List ℕ) → GoesOn (front bytes) (rest bytes) (whole bytes))
     → GoesOn (by_file slot file front) (by_file slot file rest) (by_file slot file whole)
 unfolding by_file

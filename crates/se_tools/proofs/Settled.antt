@@ -10,14 +10,14 @@ use Rattle.se_outside.specs.Outside.{IsAsked, NoneAsked, SinkState, SlotState, W
 use Rattle.se_outside.specs.Patterns.{PatternsState}
 use Rattle.se_outside.specs.declared.Slot.{Slot}
 use Rattle.se_outside.specs.declared.Slot.TheVariants.{Policy, Map, List as Checklist}
-use Rattle.se_words.specs.InfoRequest.{InfoAsks}
-use Rattle.se_words.specs.SearchRequest.{SearchAsks}
-use Rattle.se_words.specs.DomRequest.{DomAsks}
-use Rattle.se_words.specs.FlowRequest.{FlowAsks}
-use Rattle.se_words.specs.ConvertRequest.{ConvertAsks}
-use Rattle.se_words.specs.CheckRequest.{CheckAsks}
-use Rattle.se_words.specs.MakeRequest.{MakeAsks}
-use Rattle.se_words.specs.Request.{About, Check, Convert, Dom, Flow, Info, Make, Question, Search}
+use Rattle.se_options.specs.InfoRequest.{InfoAsks}
+use Rattle.se_options.specs.SearchRequest.{SearchAsks}
+use Rattle.se_options.specs.DomRequest.{DomAsks}
+use Rattle.se_options.specs.FlowRequest.{FlowAsks}
+use Rattle.se_options.specs.ConvertRequest.{ConvertAsks}
+use Rattle.se_options.specs.CheckRequest.{CheckAsks}
+use Rattle.se_options.specs.MakeRequest.{MakeAsks}
+use Rattle.se_options.specs.Request.{About, Check, Convert, Dom, Flow, Info, Make, Question, Search}
 use Rattle.se_items.proofs.Gains.{gains-none}
 use Rattle.se_search.specs.SearchAnswer.{search_answer}
 use Rattle.se_search.specs.SearchPatterns.{IsOfSearch, TriedUntil, TriesPatterns, pattern_words}

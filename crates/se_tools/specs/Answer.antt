@@ -1,13 +1,14 @@
 -- The answer of the program to the words about the contents of the files.
 use Rattle.std.specs.Prelude.{ℕ, List, [], length, Option, Some, None, Result, Ok, Err, nat_lt, if◌then◌else◌}
 use Rattle.pol_fields.specs.declared.limits.TheConstants.{MAX_POLICY_BYTES}
+use Rattle.text_rows.specs.declared.limits.TheConstants.{MAX_TEXT_BYTES}
 use Rattle.pol_fields.specs.declared.Fault.{Fault}
 use Rattle.pol_file.specs.Acceptance.{accept}
 use Rattle.pol_file.specs.declared.Parts.{Parts}
 use Rattle.rule_query.specs.GivenCriteria.{Given}
 use Rattle.se_outside.specs.declared.Slot.{Slot}
 use Rattle.se_outside.specs.declared.Slot.TheVariants.{Policy, Map, List as Checklist}
-use Rattle.se_words.specs.Request.{Asks, About, Make, Question, Info, Search, Dom, Flow, Convert, Check, policy_of}
+use Rattle.se_options.specs.Request.{Asks, About, Make, Question, Info, Search, Dom, Flow, Convert, Check, policy_of}
 use Rattle.se_search.specs.SearchAnswer.{search_answer}
 use Rattle.se_search.specs.SearchPatterns.{pattern_words}
 use Rattle.se_dom.specs.DomAnswer.{dom_answer}
@@ -26,8 +27,8 @@ Contents = Slot → Option (List ℕ)
 -- the most bytes of a slot's file: 64 MiB of a policy, 4 MiB of a permission map or a checklist
 abbrev pub file_limit : Slot → ℕ
 file_limit Policy = MAX_POLICY_BYTES
-file_limit Map = 4194304
-file_limit Checklist = 4194304
+file_limit Map = MAX_TEXT_BYTES
+file_limit Checklist = MAX_TEXT_BYTES
 
 -- an answer by the bytes of a slot's file, if it is there and they are not too many
 unfoldable pub by_file : Slot → Option (List ℕ) → (List ℕ → Answer) → Answer

@@ -7,7 +7,7 @@ use Rattle.se_outside.specs.Outside.{Rose, SinkState, SlotState, World, told, Is
 use Rattle.se_outside.specs.Patterns.{PatternsState}
 use Rattle.se_outside.specs.declared.Slot.{Slot}
 use Rattle.se_outside.specs.declared.Slot.TheVariants.{Policy, Map, List as Checklist}
-use Rattle.se_words.specs.Request.{About, Asks, Question}
+use Rattle.se_options.specs.Request.{About, Asks, Question}
 use Rattle.se_search.specs.SearchPatterns.{TriesPatterns}
 use Rattle.se_status.specs.declared.Status.{Status}
 use Rattle.se_status.specs.declared.Status.TheVariants.{Done, Usage, ReadFault, TooLarge, BadPolicy, BadMap, BadList, CannotHold, UnknownName, WriteFault, Memory}

@@ -2,7 +2,7 @@
 use Rattle.std.specs.Prelude.{◌≡◌, ℕ, Option, Some, None, Result}
 use Rattle.se_outside.specs.Outside.{World}
 use Rattle.se_outside.specs.declared.Slot.{Slot}
-use Rattle.se_words.specs.Request.{Asks}
+use Rattle.se_options.specs.Request.{Asks}
 use Rattle.se_help.specs.declared.Topic.{Topic}
 use Rattle.se_help.specs.Texts.{topic_text}
 use Rattle.se_status.specs.declared.Status.{Status}

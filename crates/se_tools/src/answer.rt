@@ -8,8 +8,8 @@ ghost use Rattle.se_help.specs.Topics.{topic_in};
 ghost use Rattle.se_items.specs.Writing.{Said};
 ghost use Rattle.se_status.specs.Message.{message_of};
 ghost use Rattle.se_verdicts.specs.CheckAnswer.{check_answer};
-ghost use Rattle.se_words.specs.FlowRequest.{flow_view};
-ghost use Rattle.se_words.specs.Request.{About as about, question_view, request_of, request_view};
+ghost use Rattle.se_options.specs.FlowRequest.{flow_view};
+ghost use Rattle.se_options.specs.Request.{About as about, question_view, request_of, request_view};
 ghost use Rattle.se_tools.specs.Answer.{file_limit};
 ghost use Rattle.se_tools.specs.Answers.{Answers, FileSettles, NoOtherAsked, Settles, outside, unread_status};
 ghost use Rattle.se_tools.specs.Runs.{Runs};
@@ -24,15 +24,13 @@ use se_flow::answer_flow;
 use se_help::{topic_of, write_topic};
 use se_info::answer_info;
 use se_make::answer_make;
+use se_options::{CheckRequest, FlowRequest, Question, Request, Words, WordsError, request_of};
 use se_outside::{Files, Patterns, Sink, Slot};
 use se_search::answer_search;
 use se_status::{Status, report};
 use se_verdicts::answer_check;
-use se_words::{CheckRequest, FlowRequest, Question, Request, Words, WordsError, request_of};
 use std::alloc::Global;
-
-// The most bytes of a permission map, and of a checklist: 4 MiB.
-const SMALL_FILE_BYTES: usize = 4_194_304;
+use text_rows::MAX_TEXT_BYTES;
 
 /// Answers the words: tells what they ask of the program itself, or else reads the files that they name, builds the patterns that they
 /// are, and writes the answer to `out`. The message of the status is written to `err`.
@@ -187,7 +185,7 @@ fn answer_mapped<F: Files, S: Sink>(
     ensures { FileSettles map_slot asks.now.map.text.now (flow_answer (flow_view asks.now) policy.now)
         (F.world files.old) (F.state files.old) (F.state files.new) (S.state out.old) (S.state out.new) result }
 {
-    match read_whole(alloc, files, Slot::Map, asks.map.text, SMALL_FILE_BYTES) {
+    match read_whole(alloc, files, Slot::Map, asks.map.text, MAX_TEXT_BYTES) {
         Ok(bytes) => answer_flow(alloc, policy, &bytes, asks, out),
         Err(end) => unread_status(Slot::Map, end),
     }
@@ -205,7 +203,7 @@ fn answer_listed<F: Files, S: Sink>(
     ensures { FileSettles list_slot asks.now.list.text.now (check_answer policy.now)
         (F.world files.old) (F.state files.old) (F.state files.new) (S.state out.old) (S.state out.new) result }
 {
-    match read_whole(alloc, files, Slot::List, asks.list.text, SMALL_FILE_BYTES) {
+    match read_whole(alloc, files, Slot::List, asks.list.text, MAX_TEXT_BYTES) {
         Ok(bytes) => answer_check(alloc, policy, &bytes, out),
         Err(end) => unread_status(Slot::List, end),
     }

@@ -3,15 +3,15 @@
 ghost use Rattle.std.specs.Prelude.{◌≡◌, ◌+◌, ◌++◌, ℕ, List, Option, Some, None, Result, Ok, All, true, false, codes};
 ghost use Rattle.std.specs.Io.KnownBytes.{Appends};
 ghost use Rattle.se_items.specs.Paging.{most_items};
-ghost use Rattle.se_options.specs.Values.{number_within};
-ghost use Rattle.se_options.specs.Word.{is_word};
+ghost use Rattle.se_words.specs.Values.{number_within};
+ghost use Rattle.se_words.specs.Word.{is_word};
 ghost use Rattle.se_outside.specs.Outside.{Rose, World};
 ghost use Rattle.se_outside.specs.declared.Slot.{Slot};
 ghost use Rattle.se_search.specs.SearchPatterns.{IsRead};
 ghost use Rattle.se_status.specs.declared.Status.{Status};
 ghost use Rattle.se_status.specs.declared.Status.TheVariants.{Done, Memory};
-ghost use Rattle.se_words.specs.Request.{About, Asks, Question, comes_by_pages, limit_of, request_of};
-ghost use Rattle.se_words.specs.Window.{from_words, page_words};
+ghost use Rattle.se_options.specs.Request.{About, Asks, Question, comes_by_pages, limit_of, request_of};
+ghost use Rattle.se_options.specs.Window.{from_words, page_words};
 ghost use Rattle.se_tools.specs.Answer.{Contents, answer_of, asked_patterns};
 ghost use Rattle.se_tools.specs.Answers.{Answers, Outside, Tells};
 

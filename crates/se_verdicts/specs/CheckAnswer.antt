@@ -52,7 +52,7 @@ total_line failed = codes "Failed checks: " ++ decimal failed ++ codes "\n"
 abbrev pub lines_of_check : Parts → Check → List (List ℕ)
 lines_of_check policy check = check_line check (length (texts_of_check policy check)) ∷ map found_line (texts_of_check policy check)
 
--- those of all checks, and the line that counts the failed ones
+-- the lines of all checks, and the line that counts the failed ones
 abbrev pub lines_of_checks : Parts → List Check → List (List ℕ)
 lines_of_checks policy checks = flat_map (lines_of_check policy) checks ++ total_line (length (filter (fails policy) checks)) ∷ []
 

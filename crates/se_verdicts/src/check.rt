@@ -1,4 +1,5 @@
 // The answer of sechecker about a policy and a checklist.
+ghost use Rattle.text_rows.specs.declared.limits.TheConstants.{MAX_TEXT_BYTES};
 ghost use Rattle.std.specs.Prelude.{◌≤◌, length};
 ghost use Rattle.se_items.specs.Writing.{Sends};
 ghost use Rattle.se_status.specs.Conclusion.{Concludes};
@@ -22,7 +23,7 @@ pub fn answer_check<S: Sink>(
     bytes: &[u8],
     out: &mut S,
 ) -> Status
-    requires { length bytes.now ≤ 4194304 }
+    requires { length bytes.now ≤ MAX_TEXT_BYTES }
     ensures answers { Concludes (check_answer policy.now bytes.now) (S.state out.old) (S.state out.new) result }
     ensures about { IsOfList result }
 {

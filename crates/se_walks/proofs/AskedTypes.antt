@@ -8,9 +8,9 @@ use Rattle.pol_file.specs.declared.Parts.{Parts}
 use Rattle.pol_symbols.specs.declared.Symbols.{Symbols}
 use Rattle.se_items.specs.Paging.{page}
 use Rattle.se_items.specs.Writing.{Sends}
-use Rattle.se_options.specs.Options.{Named, named_view}
-use Rattle.se_options.specs.States.{State}
-use Rattle.se_options.specs.declared.Named.{Named as NamedWord}
+use Rattle.se_words.specs.Options.{Named, named_view}
+use Rattle.se_words.specs.States.{State}
+use Rattle.se_words.specs.declared.Named.{Named as NamedWord}
 use Rattle.se_items.specs.declared.WriteEnd.{WriteEnd}
 use Rattle.se_outside.specs.Outside.{SinkState}
 use Rattle.se_status.specs.LeastWord.{least, numbers_of}

@@ -4,8 +4,8 @@ use Rattle.std.proofs.lemmas.List.{map-append, take_more}
 use Rattle.std.proofs.lemmas.List.Elements.{filter_map-append}
 use Rattle.pol_symbols.specs.declared.Symbols.{Symbols}
 use Rattle.bool_state.specs.declared.Given.{Given}
-use Rattle.se_options.specs.States.{State, state_view}
-use Rattle.se_options.specs.declared.State.{State as StateCode}
+use Rattle.se_words.specs.States.{State, state_view}
+use Rattle.se_words.specs.declared.State.{State as StateCode}
 use Rattle.se_walks.specs.StatedRules.{given_by, given_states}
 
 given_more : (symbols : Symbols) (states : List StateCode) (i : ℕ) (d : StateCode) → i < length states

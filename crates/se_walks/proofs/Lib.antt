@@ -5,4 +5,5 @@ pub mod Paged
 pub mod NoItems
 pub mod GivenStates
 pub mod AskedTypes
+pub mod AskedRules
 pub mod GraphAnswered

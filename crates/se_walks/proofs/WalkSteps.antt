@@ -17,7 +17,7 @@ front-at (first ∷ others) zero number walk there lt = absurd (omega (arith, lt
 front-at (first ∷ others) (suc most) zero walk there lt = let e : first ≡ walk = cc in ap (λ x. x ∷ take most others) e
 front-at (first ∷ others) (suc most) (suc number) walk there lt = front-at others most number walk there (omega (arith, lt))
 
--- the same with a number more
+-- an item of a front of the list, and what stands behind the next number
 pub front-next : (all : List (List ℕ)) (most number : ℕ) (walk : List ℕ) → slice_get all number ≡ Some walk → number < most → drop number (take most all) ≡ walk ∷ drop (number + 1) (take most all)
 front-next all most number walk there lt = rw add-one (front-at all most number walk there lt)
 

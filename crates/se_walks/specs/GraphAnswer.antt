@@ -5,8 +5,8 @@ use Rattle.std.specs.List.{concat}
 use Rattle.pol_file.specs.declared.Parts.{Parts}
 use Rattle.counted_rules.specs.CountedRules.{Counted}
 use Rattle.se_items.specs.Paging.{page}
-use Rattle.se_options.specs.Options.{Named}
-use Rattle.se_options.specs.States.{State}
+use Rattle.se_words.specs.Options.{Named}
+use Rattle.se_words.specs.States.{State}
 use Rattle.se_status.specs.Conclusion.{Answer, text_unless}
 use Rattle.se_walks.specs.GraphItems.{items_from}
 use Rattle.se_walks.specs.StatedRules.{first_unknown_name, rules_asked}
@@ -42,7 +42,7 @@ abbrev pub graph_items : EdgeWords → (ℕ → ℕ → Bool) → GraphAsks → 
 graph_items words edge asks policy =
     items_from words (is_edge edge (excluded_in asks policy) asks.reverse) policy (excluded_in asks policy) (ends_named policy asks.source asks.target asks.all asks.reverse)
 
--- those that are asked for
+-- the text of the items that are asked for
 unfoldable pub graph_text : EdgeWords → (ℕ → ℕ → Bool) → GraphAsks → Parts → List ℕ
 graph_text words edge asks policy = concat (page asks.from asks.limit (graph_items words edge asks policy))
 

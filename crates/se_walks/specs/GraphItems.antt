@@ -27,11 +27,11 @@ abbrev pub items_to : EdgeWords → (ℕ → ℕ → Bool) → Parts → (ℕ �
 items_to words edge policy excluded all reverse source None = edge_items words edge policy reverse source
 items_to words edge policy excluded all reverse source (Some target) = walk_items words edge policy excluded all source target
 
--- those between two ends
+-- the items between two ends
 abbrev pub items_between : EdgeWords → (ℕ → ℕ → Bool) → Parts → (ℕ → Bool) → Ends → List (List ℕ)
 items_between words edge policy excluded ends = items_to words edge policy excluded ends.all ends.reverse ends.source ends.target
 
--- those between the ends that words name, if each of them names a type
+-- the items between the ends that words name, if each of them names a type
 abbrev pub items_from : EdgeWords → (ℕ → ℕ → Bool) → Parts → (ℕ → Bool) → Option Ends → List (List ℕ)
 items_from words edge policy excluded None = []
 items_from words edge policy excluded (Some ends) = items_between words edge policy excluded ends

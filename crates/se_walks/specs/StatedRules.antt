@@ -8,8 +8,8 @@ use Rattle.pol_symbols.specs.declared.Symbols.{Symbols}
 use Rattle.bool_state.specs.BooleanStates.{true_booleans}
 use Rattle.bool_state.specs.declared.Given.{Given}
 use Rattle.counted_rules.specs.CountedRules.{Counted, all_rules, rules_under}
-use Rattle.se_options.specs.Options.{Named}
-use Rattle.se_options.specs.States.{State}
+use Rattle.se_words.specs.Options.{Named}
+use Rattle.se_words.specs.States.{State}
 use Rattle.se_status.specs.LeastWord.{least, least_number}
 use Rattle.se_walks.specs.TypeNames.{first_unknown, word_unless}
 

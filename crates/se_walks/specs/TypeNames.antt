@@ -7,7 +7,7 @@ use Rattle.pol_symbols.specs.PolicySymbols.{value_in}
 use Rattle.pol_symbols.specs.declared.Symbols.{Symbols}
 use Rattle.pol_expand.specs.PlainTypes.{is_type_value}
 use Rattle.named_values.specs.Named.{is_named}
-use Rattle.se_options.specs.Options.{Named}
+use Rattle.se_words.specs.Options.{Named}
 use Rattle.se_status.specs.LeastWord.{least_number}
 use Rattle.se_walks.specs.declared.graph_items.Ends.{Ends}
 

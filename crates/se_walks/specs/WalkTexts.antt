@@ -25,7 +25,7 @@ edge_text words indent from to = ends_text words.symbols from to ++ words.behind
 unfoldable pub edge_item : EdgeWords → ℕ → ℕ → ℕ → List ℕ
 edge_item words number from to = words.word ++ codes " " ++ decimal number ++ codes ": " ++ edge_text words (codes "   ") from to
 
--- the same of an edge to a node or, in the reverse, from it; it is written forward
+-- `WORD N: ` and the edge from a node to an end or, in the reverse, to the node; it is written forward
 abbrev pub end_item : EdgeWords → ℕ → Bool → ℕ → ℕ → List ℕ
 end_item words node reverse number end = if reverse then edge_item words number end node else edge_item words number node end
 

@@ -1,6 +1,6 @@
 // The rules that count where states of booleans are stated.
 ghost use Rattle.std.specs.Prelude.{◌≡◌, ◌++◌, ◌∷◌, [], IfOk, OnOk, Some, map, option_map};
-ghost use Rattle.se_options.specs.States.{state_view};
+ghost use Rattle.se_words.specs.States.{state_view};
 ghost use Rattle.se_walks.specs.StatedRules.{boolean_named, first_unknown_state, given_states, rules_asked, unknown_state};
 
 use bool_state::{BoolState, Given};
@@ -8,8 +8,8 @@ use counted_rules::CountedRules;
 use pol_fields::TableKind;
 use pol_read::Policy;
 use pol_symbols::Symbols;
-use se_options::State;
 use se_status::least;
+use se_words::State;
 use std::alloc::{AllocError, Global};
 
 /// The rules of a policy that count: all of them or, where states of booleans are stated, those that are enabled then.

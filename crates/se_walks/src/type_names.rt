@@ -2,7 +2,7 @@
 ghost use Rattle.std.specs.Prelude.{◌≡◌, ◌≤◌, ℕ, IfOk, IfSome, Some, map, option_map};
 ghost use Rattle.std.specs.Option.{ForSome, option_to_list};
 ghost use Rattle.pol_bitmap.specs.Nodes.{has_bit};
-ghost use Rattle.se_options.specs.Options.{named_view};
+ghost use Rattle.se_words.specs.Options.{named_view};
 ghost use Rattle.se_walks.specs.GraphItems.{AreWithin};
 ghost use Rattle.se_walks.specs.TypeNames.{ends_named, first_unknown, is_excluded, plain_value, target_named, type_named, type_words, unknown_word};
 
@@ -13,8 +13,8 @@ use pol_expand::is_type;
 use pol_fields::TableKind;
 use pol_read::Policy;
 use pol_symbols::Symbols;
-use se_options::Named;
 use se_status::least;
+use se_words::Named;
 use std::alloc::{AllocError, Global};
 
 /// The ends that are asked for: a source, a target or none, which walks to that, and whether edges are asked for in the reverse. `None`

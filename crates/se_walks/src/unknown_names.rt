@@ -1,15 +1,15 @@
 // The words of a request that name nothing in a policy.
 ghost use Rattle.std.specs.Prelude.{◌≡◌, map, option_map};
-ghost use Rattle.se_options.specs.Options.{named_view};
-ghost use Rattle.se_options.specs.States.{state_view};
+ghost use Rattle.se_words.specs.Options.{named_view};
+ghost use Rattle.se_words.specs.States.{state_view};
 ghost use Rattle.se_walks.specs.StatedRules.{first_unknown_name};
 ghost use Rattle.se_walks.specs.TypeNames.{type_words};
 
 use crate::stated_rules::unknown_state;
 use crate::type_names::unknown_type;
 use pol_read::Policy;
-use se_options::{Named, State};
 use se_status::least;
+use se_words::{Named, State};
 
 /// The least number of a word, of a source, a target and excluded types, that names no type, or of a state that names no boolean. It takes
 /// no memory.

@@ -27,7 +27,7 @@ fn next_from(set: &Set, bit: u32) -> Option<u32>
     }
 }
 
-// The same without a search, where it is among the 64 bits of that bit, and a node has each 64 before these.
+// The least bit from a bit on without a search, where it is among the 64 bits of that bit, and a node has each 64 before these.
 fn next_close(nodes: &[Node], bit: u32) -> Option<u32>
     requires { IsSet nodes.now }
     ensures { IfSome result (IsLeastFrom (bits_of nodes.now) bit) }

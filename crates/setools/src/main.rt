@@ -1,9 +1,9 @@
 //! The program: words of the command line, the system's files and standard streams, and the status as exit code.
 #![tactic(auto)]
 
+use se_options::{Words, words_of_bytes};
 use se_outside::{RealFiles, RealSink, RegexPatterns};
 use se_tools::{Status, run};
-use se_words::{Words, words_of_bytes};
 use std::alloc::{AllocError, Global};
 use std::env::{self, Args};
 use std::fs;

@@ -37,7 +37,7 @@ pub record Row : Type 0 where
   pub number : ℕ
   pub fields : List (List ℕ)
 
--- those of some lines that have fields; the first of the lines has that number
+-- the rows of some lines, where they have fields; the first of the lines has that number
 abbrev pub rows_from : ℕ → List (List ℕ) → List Row
 rows_from number [] = []
 rows_from number (line ∷ lines) =

@@ -12,7 +12,9 @@
 #![tactic(auto)]
 
 mod fields;
+mod limits;
 mod rows;
 
 pub use fields::{first_field, is_word};
+pub use limits::MAX_TEXT_BYTES;
 pub use rows::{Row, Rows};

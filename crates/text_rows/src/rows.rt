@@ -1,6 +1,7 @@
 // The lines of a text, one after the other.
 ghost use Rattle.std.specs.Prelude.{◌≡◌, ◌<◌, ◌≤◌, ◌+◌, [], ◌∷◌, MatchOption, MatchResult, IfSome, length, not, position, ◌==◌};
 ghost use Rattle.std.specs.Str.Lines.{strip_carriage_return};
+ghost use Rattle.text_rows.specs.declared.limits.TheConstants.{MAX_TEXT_BYTES};
 ghost use Rattle.text_rows.specs.RowViews.{row_of};
 ghost use Rattle.text_rows.specs.TextLines.{fields_in, is_empty, lines_of, rows_from};
 
@@ -99,7 +100,7 @@ impl<'a> Rows<'a> {
     /// The lines of some bytes.
     #[tactic(auto, using(crate::proofs::LineLemmas::length_lines))]
     pub fn new(bytes: &'a [u8]) -> Rows<'a>
-        requires { length bytes.now ≤ 4194304 }
+        requires { length bytes.now ≤ MAX_TEXT_BYTES }
         ensures { result ≡ record { rows = rows_from 1 (lines_of bytes.now); past = length (lines_of bytes.now) + 1 } }
     {
         Rows {

@@ -12,7 +12,7 @@ abbrev pub is_branch_of : Bool → Option Bool → Bool
 is_branch_of branch None = false
 is_branch_of branch (Some value) = same_truth value branch
 
--- so is that of a condition, by the values of the nodes, and what stands under none is enabled
+-- the branch of a condition is on, by the values of the nodes; what stands under no condition is enabled
 abbrev pub enables : List Bool → Option Condition → Bool
 enables values None = true
 enables values (Some condition) = is_branch_of condition.branch (slice_get values condition.node)

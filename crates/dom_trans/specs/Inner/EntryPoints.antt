@@ -16,7 +16,7 @@ is_executable_point rules a b entry = grants rules b entry file entrypoint && gr
 unfoldable pub executable_points : Counted → ℕ → ℕ → List ℕ
 executable_points rules a b = filter (is_executable_point rules a b) (range_with_len 1 rules.policy.symbols.types.nprim)
 
--- those from which a process that the one starts has the other as its default domain, rising
+-- the executable points from which a process that the one starts has the other as its default domain, rising
 unfoldable pub default_points : Counted → ℕ → ℕ → List ℕ
 default_points rules a b = filter (λ entry. is_executable_point rules a b entry && is_default rules a b entry) (range_with_len 1 rules.policy.symbols.types.nprim)
 

@@ -32,7 +32,7 @@ wanted_in symbols = record {
 abbrev pub is_asked_class : Wanted → ℕ → Bool
 is_asked_class wanted class = is_value wanted.process class || is_value wanted.file class
 
--- those of the first n rules that count and pass a test
+-- the first n rules, where they count and pass a test
 abbrev pub kept_of : Counted → ℕ → (StoredRule → Bool) → List ℕ
 kept_of rules n test = filter (rule_passes rules.policy (counts_and rules test)) (range_with_len 0 n)
 

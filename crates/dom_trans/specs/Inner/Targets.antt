@@ -38,7 +38,7 @@ abbrev pub part_sets : RulePart → Option ℕ
 part_sets (Default value) = Some value
 part_sets part = None
 
--- that of the rule of a number
+-- the default that the rule of a number sets, if it sets one
 abbrev pub default_set_by : Parts → ℕ → Option ℕ
 default_set_by policy number = option_and_then (λ rule. part_sets rule.part) (slice_get (stored_rules policy) number)
 

@@ -42,7 +42,7 @@ unfoldable pub any_flow : Weights → Counted → ℕ → ℕ → ℕ → Bool
 any_flow weights rules least from to =
     any_joins rules.policy (rules_reaching outwards weights rules least) from to || any_joins rules.policy (rules_reaching inwards weights rules least) to from
 
--- the same from or to a node, as the graph is turned
+-- a flow from or to a node, as the graph is turned
 unfoldable pub any_edge : FlowSearch → ℕ → ℕ → Bool
 any_edge search node other =
     if search.reverse then any_flow (weights_of search.entries) search.rules search.least other node
@@ -56,7 +56,7 @@ pub record AreJoined (policy : Parts) (test : ℕ → Bool) (found : List ℕ) :
 abbrev pub is_open : FlowSearch → ℕ → Bool
 is_open search node = is_type_outside search.rules.policy search.excluded node
 
--- those among some types
+-- the open types among some types
 pub record IsOpenPart (search : FlowSearch) (types part : List ℕ) : Type 0 where
   pub each : (value : ℕ) → Contains part value ↔ (Contains types value × (is_open search value ≡ true))
 

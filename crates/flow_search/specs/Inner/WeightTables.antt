@@ -18,7 +18,7 @@ abbrev pub weighed : Weights → List ℕ → PermissionRec → PermissionWeight
 weighed weights class permission =
     record { place = permission.value - 1; out = permission_weight outwards weights class permission; into = permission_weight inwards weights class permission }
 
--- those of all permissions of a class
+-- the weights of all permissions of a class
 unfoldable pub class_weights : Weights → Symbols → ClassRec → List PermissionWeight
 class_weights weights symbols class = map (weighed weights class.name) (permissions_of symbols class)
 
@@ -48,12 +48,12 @@ pub record AreReachBits (least : ℕ) (permissions : List PermissionWeight) (bit
   pub out : (mask : ℕ) → mask < 2 ^ 32 → shares_bit mask bits.out ≡ nat_le least (greatest_out mask permissions)
   pub into : (mask : ℕ) → mask < 2 ^ 32 → shares_bit mask bits.into ≡ nat_le least (greatest_into mask permissions)
 
--- those of each list of permissions
+-- the bits of each list of permissions
 pub record AreBitsOf (least : ℕ) (lists : List (List PermissionWeight)) (classes : List ReachBits) : Type 0 where
   pub count : length classes ≡ length lists
   pub each : (i : ℕ) (bits : ReachBits) → slice_get classes i ≡ Some bits → AreReachBits least (slice_index_or lists i []) bits
 
--- those of each class, in the order of the file
+-- the bits of each class, in the order of the file
 pub record HaveReachBits (weights : Weights) (symbols : Symbols) (least : ℕ) (classes : List ReachBits) : Type 0 where
   pub some : 1 ≤ least
   pub count : length classes ≡ length symbols.classes.records

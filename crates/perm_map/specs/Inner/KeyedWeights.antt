@@ -7,6 +7,6 @@ use Rattle.perm_map.specs.PermissionMap.{Entry}
 abbrev pub entry_kept : Key × (Direction × ℕ) → Entry
 entry_kept kept = record { class = kept.0.class.now; permission = kept.0.permission.now; direction = kept.1.0; weight = kept.1.1 }
 
--- those of the keys, the last first
+-- the entries of the keys, the last first
 abbrev pub entries_kept : List (Key × (Direction × ℕ)) → List Entry
 entries_kept kept = reverse (map entry_kept kept)

@@ -20,7 +20,7 @@ shown_text mask sorted = set_text (map (λ permission. permission.name) (filter 
 abbrev pub AreByName : List PermissionRec → List PermissionRec → Type 0
 AreByName permissions sorted = (mask : ℕ) → shown_text mask sorted ≡ permissions_text mask permissions
 
--- Those that a rule gives are shown so; a rule of another part gives none.
+-- The permissions that a rule gives are shown as the names of its mask; a rule of another part gives none.
 abbrev pub ShowsPart : List PermissionRec → RulePart → List PermissionRec → Type 0
 ShowsPart permissions (Perms mask) sorted = shown_text mask sorted ≡ permissions_text mask permissions
 ShowsPart permissions other sorted = Unit {0}

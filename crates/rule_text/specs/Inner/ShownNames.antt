@@ -13,6 +13,6 @@ text_left Nothing names = set_text names
 text_left (First name) names = set_text (name.now ∷ names)
 text_left End names = listed names ++ codes " }"
 
--- the same, with the permissions that come
+-- what is still to be written, with the permissions that come and that a mask has
 unfoldable pub shown_left : ℕ → Unwritten → List PermissionRec → List ℕ
 shown_left mask unwritten permissions = text_left unwritten (map (λ permission. permission.name) (filter (has_permission mask) permissions))

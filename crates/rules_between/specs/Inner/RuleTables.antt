@@ -26,7 +26,7 @@ pub record AreEndsOf (policy : Parts) (rules sources targets : List ℕ) : Type 
 abbrev pub HaveEnds : Parts → List ℕ → Type 0
 HaveEnds policy rules = (sources : List ℕ) × (targets : List ℕ) × AreEndsOf policy rules sources targets
 
--- those of some places whose other end is among some values
+-- the places whose other end is among some values
 abbrev pub places_to : List ℕ → List ℕ → List ℕ → List ℕ
 places_to others ends places = filter (λ place. is_among ends (slice_index others place)) places
 

@@ -11,7 +11,7 @@ use Rattle.se_checker.specs.Verdicts.{allow_mask}
 
 -- ---- the class of a rule, by its place in the file
 
--- that of an allow rule; other rules, and classes that the policy lacks, have the place past the last
+-- the place of an allow rule; other rules, and classes that the policy lacks, have the place past the last
 abbrev pub place_given : Option ℕ → Option ℕ → ℕ → ℕ
 place_given None place count = count
 place_given (Some mask) place count = unwrap_or place count
@@ -37,7 +37,7 @@ pub record IsAllowRule (policy : Parts) (place : ℕ) (allowed : AllowRule) : Ty
   pub target : rule.target ≡ allowed.target
   pub class : index_in policy.symbols Classes rule.class ≡ Some place
 
--- those of the class of a place
+-- the rules of the class of a place
 abbrev pub rules_in : List (List AllowRule) → ℕ → List AllowRule
 rules_in classes place = slice_index_or classes place []
 

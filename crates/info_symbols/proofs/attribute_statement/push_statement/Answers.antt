@@ -16,4 +16,4 @@ returns-clause-text c =
     let t = c.type_record-attribute.result in
     let names = ap (map (λ (name : Bor (List ℕ)). name.now)) c.deref.ensures.value ∙ c.in_ok-names.ensures.names ∙ ap (λ (value : ℕ). names_of_values parts.symbols Types (expand parts value)) c.value.ensures in
     let line = ap (λ (name : List ℕ). statement_text name (map (λ (name : Bor (List ℕ)). name.now) c.deref.result.now)) c.name.ensures ∙ ap (statement_text t.value.name) names ∙ sym (statement_at parts c.args.number t c.type_record-attribute.ensures.is) in
-    subst (λ (line : List ℕ). OnOk c.push_text.result (c.push_text.new.buffer.items ≡ c.args.buffer.now.items ++ line)) line c.push_text.ensures
+    subst (λ (line : List ℕ). OnOk c.push_attribute_statement.result (c.push_attribute_statement.new.buffer.items ≡ c.args.buffer.now.items ++ line)) line c.push_attribute_statement.ensures

@@ -1,6 +1,6 @@
 use Rattle.std.proofs.Common.{◌∙◌, sym}
 use Rattle.dom_trans.specs.Transitions.{is_transition}
-use Rattle.se_words.specs.DomRequest.{dom_view}
+use Rattle.se_options.specs.DomRequest.{dom_view}
 use Rattle.se_walks.proofs.AskedTypes.{none-unknown}
 use Rattle.se_walks.proofs.GraphAnswered.{graph_written}
 use Rattle.se_dom.specs.DomAnswer.{dom_answer, dom_graph, dom_rules}

@@ -1,6 +1,6 @@
 use Rattle.std.proofs.Common.{◌∙◌, sym}
 use Rattle.dom_trans.specs.Transitions.{is_transition}
-use Rattle.se_words.specs.DomRequest.{dom_view}
+use Rattle.se_options.specs.DomRequest.{dom_view}
 use Rattle.se_walks.proofs.AskedTypes.{between_sent, no_ends_sent}
 use Rattle.se_dom.specs.DomAnswer.{dom_graph, dom_rules}
 use Rattle.se_dom.specs.DomTexts.{dom_words}

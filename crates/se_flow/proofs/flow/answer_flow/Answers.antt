@@ -1,6 +1,6 @@
 use Rattle.std.proofs.Common.{◌∙◌, sym}
 use Rattle.perm_map.specs.PermissionMap.{weights_of}
-use Rattle.se_words.specs.FlowRequest.{flow_view}
+use Rattle.se_options.specs.FlowRequest.{flow_view}
 use Rattle.se_walks.proofs.AskedTypes.{none-unknown}
 use Rattle.se_walks.proofs.GraphAnswered.{graph_written}
 use Rattle.se_flow.specs.FlowAnswer.{flow_graph, is_flow_of, rules_of}

@@ -1,7 +1,7 @@
 use Rattle.std.proofs.Common.{◌∙◌, ap, sym}
 use Rattle.pol_file.specs.declared.Parts.{Parts}
 use Rattle.perm_map.specs.PermissionMap.{weights_of}
-use Rattle.se_words.specs.FlowRequest.{flow_view}
+use Rattle.se_options.specs.FlowRequest.{flow_view}
 use Rattle.se_walks.proofs.AskedTypes.{between_sent, no_ends_sent}
 use Rattle.se_walks.specs.TypeNames.{ends_named}
 use Rattle.se_flow.specs.FlowAnswer.{flow_graph, is_flow_of}

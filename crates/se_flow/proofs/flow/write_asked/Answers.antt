@@ -1,7 +1,7 @@
 use Rattle.std.proofs.Common.{ℕ, List, subst}
 use Rattle.perm_map.specs.PermissionMap.{weights_of}
 use Rattle.se_items.specs.Writing.{Sends}
-use Rattle.se_words.specs.FlowRequest.{flow_view}
+use Rattle.se_options.specs.FlowRequest.{flow_view}
 use Rattle.se_flow.proofs.Answered.{text-asked}
 use Rattle.se_flow.proofs.flow.write_asked.Goals as goal
 

@@ -3,7 +3,7 @@ use Rattle.std.specs.List.{concat}
 use Rattle.pol_file.specs.declared.Parts.{Parts}
 use Rattle.flow_search.specs.FlowEdges.{FlowSearch, flow_count}
 use Rattle.se_items.specs.Writing.{Sends}
-use Rattle.se_words.specs.FlowRequest.{flow_view}
+use Rattle.se_options.specs.FlowRequest.{flow_view}
 use Rattle.se_walks.proofs.AskedTypes.{excluded-are}
 use Rattle.se_walks.proofs.Paged.{paged}
 use Rattle.se_flow.proofs.Edges.{items-are}

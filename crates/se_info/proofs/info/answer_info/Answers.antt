@@ -1,5 +1,5 @@
 use Rattle.std.proofs.Common.{◌≡◌, ◌∙◌, None, sym}
-use Rattle.se_words.specs.InfoRequest.{info_view}
+use Rattle.se_options.specs.InfoRequest.{info_view}
 use Rattle.se_info.specs.InfoAnswer.{first_unknown, info_answer}
 use Rattle.se_info.proofs.info.answer_info.Goals as goal
 

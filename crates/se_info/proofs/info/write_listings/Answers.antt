@@ -1,7 +1,7 @@
 use Rattle.std.proofs.lemmas.Result.{err_from_is_err_and}
 use Rattle.std.proofs.lemmas.List.Folds.{flat_map-map}
 use Rattle.se_info.specs.InfoAnswer.{wanted_text}
-use Rattle.se_words.specs.InfoRequest.{wanted_view}
+use Rattle.se_options.specs.InfoRequest.{wanted_view}
 use Rattle.se_items.proofs.Wrotes.{sends-all, sends-stop}
 use Rattle.se_info.proofs.info.write_listings.Goals as goal
 

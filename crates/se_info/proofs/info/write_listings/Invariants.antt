@@ -1,6 +1,6 @@
 use Rattle.std.proofs.Common.{take}
 use Rattle.se_info.specs.InfoAnswer.{wanted_text}
-use Rattle.se_words.specs.InfoRequest.{wanted_view}
+use Rattle.se_options.specs.InfoRequest.{wanted_view}
 use Rattle.se_items.proofs.Wrotes.{Texts}
 use Rattle.se_info.proofs.info.write_listings.Given as goal
 

@@ -1,6 +1,6 @@
 use Rattle.std.proofs.Common.{◌≡◌, Bool, drop, map}
 use Rattle.se_status.specs.LeastWord.{least}
-use Rattle.se_words.specs.InfoRequest.{wanted_view}
+use Rattle.se_options.specs.InfoRequest.{wanted_view}
 use Rattle.se_info.specs.InfoAnswer.{first_unknown}
 use Rattle.se_info.proofs.unknown.first_unknown.Given as goal
 

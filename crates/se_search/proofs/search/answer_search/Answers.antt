@@ -1,4 +1,4 @@
-use Rattle.se_words.specs.SearchRequest.{search_view}
+use Rattle.se_options.specs.SearchRequest.{search_view}
 use Rattle.se_search.proofs.Tried.{all-tried, answer-written, ends-about, ends-answer, ends-tried, written-of-search}
 use Rattle.se_search.proofs.search.answer_search.Goals as goal
 

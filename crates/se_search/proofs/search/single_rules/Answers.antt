@@ -1,7 +1,7 @@
 use Rattle.std.proofs.Common.{◌≡◌, ◌∙◌, ℕ, List, map, subst}
 use Rattle.std.specs.Prelude.{IfOk}
 use Rattle.rule_singles.specs.FoundSingles.{ends_of_rule}
-use Rattle.se_words.specs.SearchRequest.{search_view}
+use Rattle.se_options.specs.SearchRequest.{search_view}
 use Rattle.se_search.specs.SearchAnswer.{found_rules}
 use Rattle.se_search.proofs.FoundRules.{few-found, found-are-rules}
 use Rattle.se_search.proofs.search.single_rules.Goals as goal

@@ -1,4 +1,4 @@
-use Rattle.se_words.specs.SearchRequest.{search_view}
+use Rattle.se_options.specs.SearchRequest.{search_view}
 use Rattle.se_search.proofs.Asked.{rules-asked, singles-asked}
 use Rattle.se_search.proofs.search.write_found.Goals as goal
 

@@ -4,7 +4,7 @@ use Rattle.rule_order.specs.ListedOrder.{AreRules}
 use Rattle.se_items.specs.Paging.{end_of, page}
 use Rattle.se_items.specs.Writing.{Sends}
 use Rattle.se_items.specs.declared.Window.{Window}
-use Rattle.se_words.specs.SearchRequest.{search_view}
+use Rattle.se_options.specs.SearchRequest.{search_view}
 use Rattle.se_search.specs.Inner.RuleLines.{lines_left}
 use Rattle.se_search.specs.SearchAnswer.{found_rules, rule_line}
 use Rattle.se_search.proofs.FoundRules.{found-page, page-are-rules, text-found}

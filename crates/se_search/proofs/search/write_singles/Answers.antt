@@ -5,7 +5,7 @@ use Rattle.rule_singles.specs.FoundSingles.{ends_of_rule}
 use Rattle.se_items.specs.Paging.{page}
 use Rattle.se_items.specs.Writing.{Sends}
 use Rattle.se_items.specs.declared.Window.{Window}
-use Rattle.se_words.specs.SearchRequest.{search_view}
+use Rattle.se_options.specs.SearchRequest.{search_view}
 use Rattle.se_search.specs.SearchAnswer.{found_rules, single_line}
 use Rattle.se_search.specs.Inner.SingleLines.{AreOfRules, lines_left}
 use Rattle.se_search.proofs.FoundRules.{found-are-rules}

@@ -1,4 +1,4 @@
-use Rattle.se_words.specs.Request.{request_of}
+use Rattle.se_options.specs.Request.{request_of}
 use Rattle.se_tools.specs.Answers.{outside}
 use Rattle.se_tools.proofs.Answered.{answers-nothing}
 use Rattle.se_tools.proofs.answer.answer.Goals as goal

@@ -1,4 +1,4 @@
-use Rattle.se_words.specs.Request.{question_view}
+use Rattle.se_options.specs.Request.{question_view}
 use Rattle.se_tools.specs.Answers.{outside}
 use Rattle.se_tools.proofs.Answered.{answers-unread, answers-within}
 use Rattle.se_tools.proofs.answer.answer_about.Goals as goal

@@ -1,6 +1,6 @@
 use Rattle.se_flow.specs.FlowAnswer.{flow_answer}
 use Rattle.se_outside.specs.declared.Slot.TheVariants.{Map}
-use Rattle.se_words.specs.FlowRequest.{flow_view}
+use Rattle.se_options.specs.FlowRequest.{flow_view}
 use Rattle.se_tools.proofs.Answered.{other-map}
 use Rattle.se_tools.proofs.Settled.{file-unread, map-read}
 use Rattle.se_tools.proofs.answer.answer_mapped.Goals as goal

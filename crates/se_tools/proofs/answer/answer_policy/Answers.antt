@@ -1,9 +1,9 @@
-use Rattle.se_words.specs.CheckRequest.{check_view}
-use Rattle.se_words.specs.ConvertRequest.{convert_view}
-use Rattle.se_words.specs.DomRequest.{dom_view}
-use Rattle.se_words.specs.FlowRequest.{flow_view}
-use Rattle.se_words.specs.InfoRequest.{info_view}
-use Rattle.se_words.specs.SearchRequest.{search_view}
+use Rattle.se_options.specs.CheckRequest.{check_view}
+use Rattle.se_options.specs.ConvertRequest.{convert_view}
+use Rattle.se_options.specs.DomRequest.{dom_view}
+use Rattle.se_options.specs.FlowRequest.{flow_view}
+use Rattle.se_options.specs.InfoRequest.{info_view}
+use Rattle.se_options.specs.SearchRequest.{search_view}
 use Rattle.se_tools.proofs.Settled.{check-settles, convert-settles, dom-settles, flow-settles, info-settles, search-settles}
 use Rattle.se_tools.proofs.answer.answer_policy.Goals as goal
 

@@ -1,4 +1,4 @@
-use Rattle.se_words.specs.MakeRequest.{make_view}
+use Rattle.se_options.specs.MakeRequest.{make_view}
 use Rattle.se_tools.proofs.Settled.{answers-made}
 use Rattle.se_tools.proofs.answer.answer_request.Goals as goal
 

@@ -1,5 +1,5 @@
 use Rattle.pol_file.specs.Acceptance.{accept}
-use Rattle.se_words.specs.Request.{question_view}
+use Rattle.se_options.specs.Request.{question_view}
 use Rattle.se_tools.specs.Answers.{outside}
 use Rattle.se_tools.proofs.Settled.{memory-settles}
 use Rattle.se_tools.proofs.answer.conclude.Goals as goal

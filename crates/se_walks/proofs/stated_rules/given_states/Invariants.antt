@@ -1,5 +1,5 @@
 use Rattle.std.proofs.Common.{◌≡◌, map, take}
-use Rattle.se_options.specs.States.{state_view}
+use Rattle.se_words.specs.States.{state_view}
 use Rattle.se_walks.specs.StatedRules.{given_states}
 use Rattle.se_walks.proofs.stated_rules.given_states.Given as goal
 

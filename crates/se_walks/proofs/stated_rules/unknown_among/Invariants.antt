@@ -1,6 +1,6 @@
 use Rattle.std.proofs.Common.{◌≡◌, drop, map}
 use Rattle.se_status.specs.LeastWord.{least, least_number}
-use Rattle.se_options.specs.States.{state_view}
+use Rattle.se_words.specs.States.{state_view}
 use Rattle.se_walks.specs.StatedRules.{unknown_state}
 use Rattle.se_walks.proofs.stated_rules.unknown_among.Given as goal
 

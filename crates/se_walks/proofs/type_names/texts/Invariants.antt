@@ -1,5 +1,5 @@
 use Rattle.std.proofs.Common.{◌≡◌, map, take}
-use Rattle.se_options.specs.Options.{named_view}
+use Rattle.se_words.specs.Options.{named_view}
 use Rattle.se_walks.proofs.type_names.texts.Given as goal
 
 abbrev pub invariant-loop-named : goal.invariant-loop-named

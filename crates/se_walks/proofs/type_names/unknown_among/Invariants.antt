@@ -1,5 +1,5 @@
 use Rattle.std.proofs.Common.{◌≡◌, drop, map}
-use Rattle.se_options.specs.Options.{named_view}
+use Rattle.se_words.specs.Options.{named_view}
 use Rattle.se_status.specs.LeastWord.{least}
 use Rattle.se_walks.specs.TypeNames.{first_unknown}
 use Rattle.se_walks.proofs.type_names.unknown_among.Given as goal

@@ -1,6 +1,6 @@
 use Rattle.std.proofs.Common.{map}
 use Rattle.std.specs.Prelude.{option_map}
-use Rattle.se_options.specs.Options.{named_view}
+use Rattle.se_words.specs.Options.{named_view}
 use Rattle.se_walks.proofs.AskedTypes.{all_words}
 use Rattle.se_walks.proofs.type_names.unknown_type.Goals as goal
 

@@ -1,7 +1,0 @@
-use Rattle.se_words.proofs.Parts.{same-criteria}
-use Rattle.se_words.proofs.search_criteria.criteria_in.Goals as goal
-
-pub returns : goal.returns
-returns c =
-    same-criteria c.kinds_in.ensures c.in_ok-end_criterion.ensures c.in_ok-end_criterion-2.ensures c.in_ok-name_criterion.ensures c.in_ok-permission_criterion.ensures
-    c.in_ok-number_criterion.ensures c.in_ok-name_criterion-2.ensures c.in_ok-boolean_criterion.ensures
