@@ -10,7 +10,6 @@ use Rattle.pol_datums.specs.declared.RoleRec.{RoleRec}
 use Rattle.pol_symbols.specs.declared.UserRec.{UserRec}
 use Rattle.pol_symbols.specs.declared.Symbols.{Symbols}
 use Rattle.pol_symbols.specs.PolicySymbols.{record_names, record_values}
-use Rattle.info_lines.specs.Inner.Listings.{line_of}
 use Rattle.info_lines.specs.NameOrder.{primary_numbers}
 use Rattle.info_lines.specs.NameSets.{names_of_bits}
 use Rattle.info_symbols.specs.Aliases.{alias_names, alias_text}
@@ -78,7 +77,7 @@ unfoldable pub symbol_entry : Symbols → TableKind → ℕ → Entry
 symbol_entry symbols table number = record {
   key = name_at symbols table number ∷ [];
   parts = parts_of_number symbols table number;
-  statement = line_of (symbol_statements symbols table) number;
+  statement = get_or (symbol_statements symbols table) number [];
   head = symbol_head symbols table number;
 }
 

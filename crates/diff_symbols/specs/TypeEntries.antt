@@ -1,9 +1,8 @@
 -- The entries of types, attributes and permissive types: each is known by its name, and is stated as the listings state it.
-use Rattle.std.specs.Prelude.{ℕ, true, List, [], ◌∷◌, ◌++◌, codes, map}
+use Rattle.std.specs.Prelude.{ℕ, true, List, [], ◌∷◌, ◌++◌, codes, get_or, map}
 use Rattle.pol_fields.specs.declared.TableKind.TheVariants.{Types}
 use Rattle.pol_file.specs.declared.Parts.{Parts}
 use Rattle.pol_expand.specs.PolicyMap.{expand}
-use Rattle.info_lines.specs.Inner.Listings.{line_of}
 use Rattle.info_lines.specs.NameSets.{names_of_values}
 use Rattle.info_symbols.specs.declared.TypeSet.TheVariants.{PlainTypes, Attributes, PermissiveTypes}
 use Rattle.info_symbols.specs.AttributeStatement.{statement_lines}
@@ -21,7 +20,7 @@ unfoldable pub type_entry : Parts → ℕ → Entry
 type_entry policy number = record {
   key = name_at policy.symbols Types number ∷ [];
   parts = names_part Alias (aliases_at policy.symbols Types number) ∷ names_part AttributesLabel (attribute_names policy (value_at policy.symbols Types number)) ∷ [];
-  statement = line_of (type_lines policy PlainTypes true) number;
+  statement = get_or (type_lines policy PlainTypes true) number [];
   head = codes "type " ++ name_at policy.symbols Types number;
 }
 
@@ -39,7 +38,7 @@ unfoldable pub attribute_entry : Parts → ℕ → Entry
 attribute_entry policy number = record {
   key = name_at policy.symbols Types number ∷ [];
   parts = names_part Unnamed (types_with policy number) ∷ [];
-  statement = line_of (statement_lines policy) number;
+  statement = get_or (statement_lines policy) number [];
   head = codes "attribute " ++ name_at policy.symbols Types number;
 }
 
@@ -53,7 +52,7 @@ unfoldable pub permissive_entry : Parts → ℕ → Entry
 permissive_entry policy number = record {
   key = name_at policy.symbols Types number ∷ [];
   parts = [];
-  statement = line_of (type_lines policy PermissiveTypes true) number;
+  statement = get_or (type_lines policy PermissiveTypes true) number [];
   head = codes "permissive " ++ name_at policy.symbols Types number;
 }
 

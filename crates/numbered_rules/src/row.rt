@@ -27,7 +27,7 @@ pub(crate) struct Row<'p> {
     // the forms of each list that have the source
     first: Vec<RuleForm>,
     second: Vec<RuleForm>,
-    // those of them that have targets of the block of the target before
+    // the forms that have targets of the block of the target before
     block: Option<Block>,
     // the targets to come, from the last to the first
     targets: Vec<u32>,
